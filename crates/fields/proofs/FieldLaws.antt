@@ -1,0 +1,72 @@
+-- Bytes to number and number to bytes, each undoing the other, once over the width; and a field grown by one byte.
+-- All by recursion on the width: the lowest byte, and the rest.
+use Prim.Native.Nat.{ℕ, zero, suc, _+_, _*_, _/_, _%_, _^_, _≤_, _<_}
+use mathlib.Core.Path.{_≡_, refl, ap, ap₂, _∙_}
+use mathlib.Core.Bool.{Bool, true, false, cond}
+use mathlib.Core.List.{List, [], _∷_, _++_}
+use native.Mathlib.Omega.{arith}
+use native.Mathlib.Nat.{pow-suc}
+use lib.ListN.{length, getD, take, drop}
+use lib.Seq.{drop-cons, drop-at, take-at, length-take-le}
+use borrow.Author.Tests.{le-leb}
+use Rattle.fields.specs.declared.Four.the-variants as four
+use Rattle.fields.specs.declared.Eight.the-variants as eight
+use Rattle.fields.specs.Fields.{valueOf, bytesOf, Bytes, inside, fieldAt, filled, fourAt, eightAt, putAt}
+
+-- A number goes to bytes and comes back, if the width can hold it.
+pub value-bytes : (width n : ℕ) → n < 256 ^ width → valueOf (bytesOf width n) ≡ n
+unfolding valueOf bytesOf
+value-bytes zero n h = omega arith
+value-bytes (suc width) n h = omega (arith, value-bytes width (n / 256) (omega (arith, pow-suc 256 width)))
+
+-- Bytes go to a number and come back.
+pub bytes-value : (bs : List ℕ) → Bytes bs → bytesOf (length bs) (valueOf bs) ≡ bs
+unfolding valueOf bytesOf
+bytes-value [] h = refl
+bytes-value (b ∷ bs) h =
+    let small : b < 256 = h 0 in
+    let low : (b + 256 * valueOf bs) % 256 ≡ b = omega arith in
+    let high : (b + 256 * valueOf bs) / 256 ≡ valueOf bs = omega arith in
+    ap₂ _∷_ low (ap (bytesOf (length bs)) high ∙ bytes-value bs (λ i. h (suc i)))
+
+pub length-bytes : (width n : ℕ) → length (bytesOf width n) ≡ width
+unfolding bytesOf
+length-bytes zero n = refl
+length-bytes (suc width) n = ap suc (length-bytes width (n / 256))
+
+-- A field of one byte more: its lowest byte, and 256 times the rest.
+pub field-cons : (s : List ℕ) (at width : ℕ) → at < length s → fieldAt (suc width) s at ≡ getD s at 0 + 256 * fieldAt width s (suc at)
+unfolding valueOf
+field-cons s at width h = rw (drop-cons s at 0)
+
+-- What each reader and writer comes to, inside and outside.
+pub four-inside : (s : List ℕ) (at : ℕ) → inside 4 s at ≡ true → fourAt s at ≡ four.Value (fieldAt 4 s at)
+unfolding fourAt
+four-inside s at e = ap (λ (b : Bool). cond b (four.Value (fieldAt 4 s at)) four.Outside) e
+
+pub four-outside : (s : List ℕ) (at : ℕ) → inside 4 s at ≡ false → fourAt s at ≡ four.Outside
+unfolding fourAt
+four-outside s at e = ap (λ (b : Bool). cond b (four.Value (fieldAt 4 s at)) four.Outside) e
+
+pub eight-inside : (s : List ℕ) (at : ℕ) → inside 8 s at ≡ true → eightAt s at ≡ eight.Value (fieldAt 8 s at)
+unfolding eightAt
+eight-inside s at e = ap (λ (b : Bool). cond b (eight.Value (fieldAt 8 s at)) eight.Outside) e
+
+pub eight-outside : (s : List ℕ) (at : ℕ) → inside 8 s at ≡ false → eightAt s at ≡ eight.Outside
+unfolding eightAt
+eight-outside s at e = ap (λ (b : Bool). cond b (eight.Value (fieldAt 8 s at)) eight.Outside) e
+
+pub put-inside : (width : ℕ) (s : List ℕ) (at n : ℕ) → inside width s at ≡ true → putAt width s at n ≡ filled width s at n
+unfolding putAt
+put-inside width s at n e = ap (λ (b : Bool). cond b (filled width s at n) s) e
+
+pub put-outside : (width : ℕ) (s : List ℕ) (at n : ℕ) → inside width s at ≡ false → putAt width s at n ≡ s
+unfolding putAt
+put-outside width s at n e = ap (λ (b : Bool). cond b (filled width s at n) s) e
+
+-- What is put into a field is read from it, if the width can hold it.
+pub put-read : (width : ℕ) (s : List ℕ) (at n : ℕ) → at + width ≤ length s → n < 256 ^ width → fieldAt width (putAt width s at n) at ≡ n
+put-read width s at n fits small =
+    let front : length (take at s) ≡ at = length-take-le at s (omega arith) in
+    rw (put-inside width s at n (le-leb (at + width) (length s) fits), drop-at (take at s) (bytesOf width n ++ drop (at + width) s) at front, take-at (bytesOf width n) (drop (at + width) s) width (length-bytes width n))
+    (value-bytes width n small)

@@ -1,0 +1,4 @@
+-- What follows from the definition of a field.
+pub mod FieldLaws
+mod Gathering
+mod Scattering

@@ -1,0 +1,47 @@
+-- Numbers in bytes, the lowest byte first (01, The records: "little-endian"), at any width.
+use Prim.Native.Nat.{ℕ, zero, suc, _+_, _*_, _/_, _%_, _<_}
+use mathlib.Core.Bool.{Bool, cond}
+use mathlib.Core.List.{List, [], _∷_, _++_}
+use lib.Dec.{leb}
+use lib.ListN.{length, getD, take, drop}
+use Rattle.fields.specs.declared.Four.{Four}
+use Rattle.fields.specs.declared.Four.the-variants as four
+use Rattle.fields.specs.declared.Eight.{Eight}
+use Rattle.fields.specs.declared.Eight.the-variants as eight
+
+-- The number that some bytes stand for.
+unfoldable pub valueOf : List ℕ → ℕ
+valueOf [] = 0
+valueOf (b ∷ bs) = b + 256 * valueOf bs
+
+-- A number as so many bytes. What they cannot hold of it is left out.
+unfoldable pub bytesOf : ℕ → ℕ → List ℕ
+bytesOf zero n = []
+bytesOf (suc width) n = n % 256 ∷ bytesOf width (n / 256)
+
+-- Every entry is a byte.
+abbrev pub Bytes : List ℕ → Type 0
+Bytes s = (i : ℕ) → getD s i 0 < 256
+
+-- A field of so many bytes, from `at` on, lies inside s.
+abbrev pub inside : ℕ → List ℕ → ℕ → Bool
+inside width s at = leb (at + width) (length s)
+
+-- The number in such a field.
+abbrev pub fieldAt : ℕ → List ℕ → ℕ → ℕ
+fieldAt width s at = valueOf (take width (drop at s))
+
+-- s with a number put into such a field, and nothing else changed.
+abbrev pub filled : ℕ → List ℕ → ℕ → ℕ → List ℕ
+filled width s at n = take at s ++ (bytesOf width n ++ drop (at + width) s)
+
+-- What is left of s after a number is put at `at`: s itself where the field is not inside.
+unfoldable pub putAt : ℕ → List ℕ → ℕ → ℕ → List ℕ
+putAt width s at n = cond (inside width s at) (filled width s at n) s
+
+-- What reading four bytes answers, and eight.
+unfoldable pub fourAt : List ℕ → ℕ → Four
+fourAt s at = cond (inside 4 s at) (four.Value (fieldAt 4 s at)) four.Outside
+
+unfoldable pub eightAt : List ℕ → ℕ → Eight
+eightAt s at = cond (inside 8 s at) (eight.Value (fieldAt 8 s at)) eight.Outside

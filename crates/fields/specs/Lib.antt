@@ -1,0 +1,2 @@
+-- What the bytes of a field stand for.
+pub mod Fields

@@ -1,0 +1,4 @@
+-- What follows from the definition of a root.
+pub mod Squares
+pub mod RootLaws
+mod Newton
