@@ -18,20 +18,20 @@ pub record Held (s : List ℕ) (at width i n : ℕ) : Type 0 where
 pub held-none : (s : List ℕ) (at width : ℕ) → Held s at width width 0
 unfolding valueOf
 held-none s at width =
-    record
-    { within = omega arith
-    ; value = rw sub-self
-    ; small = rw sub-self (omega arith)
+    record {
+      within = omega arith;
+      value = rw sub-self;
+      small = rw sub-self (omega arith);
     }
 
 pub held-more : (s : List ℕ) (at width i n b : ℕ) → at + width ≤ length s → 0 < i → Held s at width i n → b ≡ getD s (at + (i - 1)) 0 → b < 256 → Held s at width (i - 1) (n * 256 + b)
 held-more s at width i n b fits pos h e small =
     let more : width - (i - 1) ≡ suc (width - i) = omega (arith, h .within) in
     let next : suc (at + (i - 1)) ≡ at + i = omega arith in
-    record
-    { within = omega (arith, h .within)
-    ; value = rw more (omega (arith, e, h .value, field-cons s (at + (i - 1)) (width - i) (omega (arith, h .within)), ap (fieldAt (width - i) s) next))
-    ; small = rw more (omega (arith, pow-suc 256 (width - i), h .small))
+    record {
+      within = omega (arith, h .within);
+      value = rw more (omega (arith, e, h .value, field-cons s (at + (i - 1)) (width - i) (omega (arith, h .within)), ap (fieldAt (width - i) s) next));
+      small = rw more (omega (arith, pow-suc 256 (width - i), h .small));
     }
 
 -- Before the last byte there is room for it.

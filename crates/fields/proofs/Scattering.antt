@@ -27,11 +27,11 @@ filling-more s₀ at width n s rest i fits less h =
     let room : at + i < length s = omega (arith, h .same) in
     let next : at + (i + 1) ≡ suc (at + i) = omega arith in
     let left : width - i ≡ suc (width - (i + 1)) = omega arith in
-    record
-    { within = omega arith
-    ; same = length-set s (at + i) (rest % 256) ∙ h .same
-    ; above = drop-set-lt (at + width) s (at + i) (rest % 256) (omega arith) ∙ h .above
-    ; so-far = rw (next, take-suc-set s (at + i) (rest % 256), append-assoc) (rw left at (h .so-far))
+    record {
+      within = omega arith;
+      same = length-set s (at + i) (rest % 256) ∙ h .same;
+      above = drop-set-lt (at + width) s (at + i) (rest % 256) (omega arith) ∙ h .above;
+      so-far = rw (next, take-suc-set s (at + i) (rest % 256), append-assoc) (rw left at (h .so-far));
     }
 
 pub filling-all : (s₀ : List ℕ) (at width n : ℕ) (s : List ℕ) (rest i : ℕ) → width ≤ i → Filling s₀ at width n s rest i → s ≡ filled width s₀ at n

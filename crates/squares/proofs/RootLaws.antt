@@ -45,3 +45,7 @@ root-unique n r h =
 
 pub root-mono : (m n : ℕ) → m ≤ n → root m ≤ root n
 root-mono m n h = below-next (root m) (root n) n (le-trans (root-law m .low) h) (root-law n .high)
+
+-- A number below the next square of b has a root of at most b.
+pub root-at-most : (n b : ℕ) → n < (b + 1) * (b + 1) → root n ≤ b
+root-at-most n b h = below-next (root n) b n (root-law n .low) h

@@ -17,7 +17,7 @@ abbrev μ-loop : tie.MeasureT-loop
 μ-loop n guess r₀ r = r
 
 loop-holds : tie.Need-loop-holds Inv-loop μ-loop
-loop-holds c = 
+loop-holds c =
     ⊎-elim
     (λ w. subst⁻¹ (λ (r : ℕ). (c .before .args .n < (r + 1) * (r + 1)) × (r ≤ 4294967295)) (w .1) (c .before .fits .n .fits, omega arith))
     (λ w. subst⁻¹ (λ (r : ℕ). (c .before .args .n < (r + 1) * (r + 1)) × (r ≤ 4294967295)) (w .1) (c .before .pre, omega arith))

@@ -1,0 +1,6 @@
+-- What follows from the definitions of places, chains and readings.
+pub mod PlaceLaws
+pub mod ChainLaws
+pub mod Moving
+mod Differences
+mod Worked

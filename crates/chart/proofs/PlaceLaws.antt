@@ -1,0 +1,27 @@
+-- What being in range says of a place's numbers.
+use Prim.Native.Nat.{_≤_, _<_}
+use mathlib.Core.Path.{_≡_, refl, ap, ap₂}
+use mathlib.Core.Bool.{Bool, true, false, _&&_, false≢true}
+use lib.Dec.{leb}
+use borrow.Author.Tests.{leb-true, le-leb, lt-leb}
+use Rattle.chart.specs.declared.Place.{Place}
+use Rattle.chart.specs.Places.{mostEasting, mostNorthing, inRange}
+
+pub both : (a b : Bool) → (a && b) ≡ true → (a ≡ true) × (b ≡ true)
+both true b e = (refl, e)
+both false b e = absurd (false≢true e)
+
+pub in-range-says : (p : Place) → inRange p ≡ true → (p .easting ≤ mostEasting) × (p .northing ≤ mostNorthing)
+unfolding inRange
+in-range-says p e =
+    let two = both (leb (p .easting) mostEasting) (leb (p .northing) mostNorthing) e in
+    (leb-true _ _ (two .0), leb-true _ _ (two .1))
+
+-- An easting too large decides; one that is not leaves it to the northing.
+pub too-far-east : (p : Place) → mostEasting < p .easting → inRange p ≡ false
+unfolding inRange
+too-far-east p h = ap (λ (b : Bool). b && leb (p .northing) mostNorthing) (lt-leb _ _ h)
+
+pub by-northing : (p : Place) → p .easting ≤ mostEasting → inRange p ≡ leb (p .northing) mostNorthing
+unfolding inRange
+by-northing p h = ap (λ (b : Bool). b && leb (p .northing) mostNorthing) (le-leb _ _ h)

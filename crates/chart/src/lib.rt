@@ -1,0 +1,156 @@
+// Places, chains and the readings expected at a place, in whole centimetres.
+ghost use mathlib.Core.Path.{_≡_};
+ghost use mathlib.Core.Bool.{true};
+ghost use Prim.Native.Nat.{_<_, _^_};
+ghost use lib.IntN.{subℕ};
+ghost use Rattle.chart.specs.Places.{inRange, samePlace, apart};
+ghost use Rattle.chart.specs.Chains.{stationsOf, allInRange, noTwoEqual, isSound};
+ghost use Rattle.chart.specs.Readings.{rangeOf, expectedAt, refusedAs, figuresOf};
+
+// A cell of the grid, by its easting and northing.
+pub struct Place {
+    pub easting: u32,
+    pub northing: u32,
+}
+
+// The stations of a chain: the master, and the slaves A and B.
+pub struct Chain {
+    pub master: Place,
+    pub a: Place,
+    pub b: Place,
+}
+
+// The readings expected at a place, or why there are none.
+pub enum Expected {
+    Readings { a: i64, b: i64 },
+    OutOfRange,
+    Unsound,
+}
+
+// The readings as figures: the number of the refusal, 0 for none, and both readings.
+pub struct Figures {
+    pub refusal: u32,
+    pub a: i64,
+    pub b: i64,
+}
+
+const MOST_EASTING: u32 = 100_000_000;
+
+const MOST_NORTHING: u32 = 1_000_000_000;
+
+// Whether a place is in range.
+pub fn in_range(p: Place) -> bool
+    ensures { λ r. ⌜ r ≡ inRange p ⌝ }
+{
+    if p.easting > MOST_EASTING {
+        return false;
+    }
+    p.northing <= MOST_NORTHING
+}
+
+// Whether a chain is sound: all its stations in range, and no two of them equal.
+pub fn sound(c: Chain) -> bool
+    ensures { λ r. ⌜ r ≡ isSound c ⌝ }
+{
+    if !all_in_range(c) {
+        return false;
+    }
+    no_two_equal(c)
+}
+
+// The readings expected at a place: what a log would say there.
+pub fn readings(c: Chain, p: Place) -> Expected
+    ensures { λ r. ⌜ r ≡ expectedAt c p ⌝ }
+{
+    if !in_range(p) {
+        return Expected::OutOfRange;
+    }
+    if !sound(c) {
+        return Expected::Unsound;
+    }
+    let m = range(p, c.master);
+    let a = less(range(p, c.a), m);
+    let b = less(range(p, c.b), m);
+    Expected::Readings { a, b }
+}
+
+// An answer as figures.
+pub fn as_figures(e: Expected) -> Figures
+    ensures { λ r. ⌜ r ≡ figuresOf e ⌝ }
+{
+    match e {
+        Expected::Readings { a, b } => Figures { refusal: 0, a, b },
+        Expected::OutOfRange => refused(4),
+        Expected::Unsound => refused(5),
+    }
+}
+
+fn refused(number: u32) -> Figures
+    ensures { λ r. ⌜ r ≡ refusedAs number ⌝ }
+{
+    Figures {
+        refusal: number,
+        a: 0,
+        b: 0,
+    }
+}
+
+fn all_in_range(c: Chain) -> bool
+    ensures { λ r. ⌜ r ≡ allInRange (stationsOf c) ⌝ }
+{
+    if !in_range(c.master) {
+        return false;
+    }
+    if !in_range(c.a) {
+        return false;
+    }
+    in_range(c.b)
+}
+
+fn no_two_equal(c: Chain) -> bool
+    ensures { λ r. ⌜ r ≡ noTwoEqual (stationsOf c) ⌝ }
+{
+    if same(c.master, c.a) {
+        return false;
+    }
+    if same(c.master, c.b) {
+        return false;
+    }
+    !same(c.a, c.b)
+}
+
+fn same(p: Place, q: Place) -> bool
+    ensures { λ r. ⌜ r ≡ samePlace p q ⌝ }
+{
+    if p.easting != q.easting {
+        return false;
+    }
+    p.northing == q.northing
+}
+
+// How far a station counts as being from a place. Both squares fit, since both places are in range.
+fn range(p: Place, station: Place) -> u64
+    requires { ⌜ (inRange p ≡ true) × (inRange station ≡ true) ⌝ }
+    ensures { λ r. ⌜ (r ≡ rangeOf p station) × (r < 2 ^ 30) ⌝ }
+{
+    let e = gap(p.easting, station.easting);
+    let n = gap(p.northing, station.northing);
+    squares::root(e * e + n * n)
+}
+
+fn gap(a: u32, b: u32) -> u64
+    ensures { λ r. ⌜ r ≡ apart a b ⌝ }
+{
+    if a < b {
+        return (b - a) as u64;
+    }
+    (a - b) as u64
+}
+
+// The difference of two ranges, below 0 where the first is the smaller.
+fn less(a: u64, b: u64) -> i64
+    requires { ⌜ (a < 2 ^ 30) × (b < 2 ^ 30) ⌝ }
+    ensures { λ r. ⌜ r ≡ subℕ a b ⌝ }
+{
+    a as i64 - b as i64
+}
