@@ -1,4 +1,4 @@
--- The difference of two numbers below 2 ^ 30 as the machine makes it.
+-- The difference of two numbers below 2 ^ 31 as the machine makes it.
 use Prim.Native.Nat.{ℕ, zero, suc, _-_, _<_, _^_}
 use mathlib.Core.Path.{_≡_, refl, ap, ap₂, _∙_, subst⁻¹}
 use mathlib.Core.Bool.{Bool, true, false, cond}
@@ -22,9 +22,9 @@ size-less a b most ha hb = go (ltb a b)
     go true = omega arith
     go false = omega arith
 
-pub difference : (a b : ℕ) → a < 2 ^ 30 → b < 2 ^ 30 → toZ w64 a -ℤ toZ w64 b ≡ subℕ a b
+pub difference : (a b : ℕ) → a < 2 ^ 31 → b < 2 ^ 31 → toZ w64 a -ℤ toZ w64 b ≡ subℕ a b
 difference a b ha hb = ap₂ _-ℤ_ (toZ-pos w64 a (omega arith)) (toZ-pos w64 b (omega arith)) ∙ pos-less a b
 
-pub difference-fits : (a b : ℕ) → a < 2 ^ 30 → b < 2 ^ 30 → SFits w64 (toZ w64 a -ℤ toZ w64 b)
+pub difference-fits : (a b : ℕ) → a < 2 ^ 31 → b < 2 ^ 31 → SFits w64 (toZ w64 a -ℤ toZ w64 b)
 difference-fits a b ha hb =
     subst⁻¹ (SFits w64) (difference a b ha hb) (record { sfits = size-less a b _ (omega arith) (omega arith) })

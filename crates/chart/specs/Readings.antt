@@ -45,12 +45,8 @@ expectedAt c p =
     (cond (isSound c) (Readings (readingOf (c .master) (c .a) p) (readingOf (c .master) (c .b) p)) Unsound)
     OutOfRange
 
--- A refusal in figures: its number, and both readings 0.
-abbrev pub refusedAs : ℕ → Figures
-refusedAs number = record { refusal = number; a = pos 0; b = pos 0 }
-
--- An answer in 01's figures: the number of the refusal, 0 for none, and the two readings.
+-- An answer in 01's figures: the number of the refusal, 0 for none, and the two readings, which a refusal gives as 0.
 unfoldable pub figuresOf : Expected → Figures
 figuresOf (Readings a b) = record { refusal = 0; a = a; b = b }
-figuresOf OutOfRange = refusedAs 4
-figuresOf Unsound = refusedAs 5
+figuresOf OutOfRange = record { refusal = 4; a = pos 0; b = pos 0 }
+figuresOf Unsound = record { refusal = 5; a = pos 0; b = pos 0 }

@@ -5,7 +5,7 @@ ghost use Prim.Native.Nat.{_<_, _^_};
 ghost use lib.IntN.{subℕ};
 ghost use Rattle.chart.specs.Places.{inRange, samePlace, apart};
 ghost use Rattle.chart.specs.Chains.{stationsOf, allInRange, noTwoEqual, isSound};
-ghost use Rattle.chart.specs.Readings.{rangeOf, expectedAt, refusedAs, figuresOf};
+ghost use Rattle.chart.specs.Readings.{rangeOf, expectedAt, figuresOf};
 
 // A cell of the grid, by its easting and northing.
 pub struct Place {
@@ -62,10 +62,12 @@ pub fn sound(c: Chain) -> bool
 pub fn readings(c: Chain, p: Place) -> Expected
     ensures { λ r. ⌜ r ≡ expectedAt c p ⌝ }
 {
-    if !in_range(p) {
+    let place = in_range(p);
+    let chain = sound(c);
+    if !place {
         return Expected::OutOfRange;
     }
-    if !sound(c) {
+    if !chain {
         return Expected::Unsound;
     }
     let m = range(p, c.master);
@@ -79,20 +81,16 @@ pub fn as_figures(e: Expected) -> Figures
     ensures { λ r. ⌜ r ≡ figuresOf e ⌝ }
 {
     match e {
-        Expected::Readings { a, b } => Figures { refusal: 0, a, b },
-        Expected::OutOfRange => refused(4),
-        Expected::Unsound => refused(5),
+        Expected::Readings { a, b } => told(0, a, b),
+        Expected::OutOfRange => told(4, 0, 0),
+        Expected::Unsound => told(5, 0, 0),
     }
 }
 
-fn refused(number: u32) -> Figures
-    ensures { λ r. ⌜ r ≡ refusedAs number ⌝ }
+fn told(refusal: u32, a: i64, b: i64) -> Figures
+    ensures { λ r. ⌜ r ≡ record { refusal = refusal; a = a; b = b } ⌝ }
 {
-    Figures {
-        refusal: number,
-        a: 0,
-        b: 0,
-    }
+    Figures { refusal, a, b }
 }
 
 fn all_in_range(c: Chain) -> bool
@@ -149,7 +147,7 @@ fn gap(a: u32, b: u32) -> u64
 
 // The difference of two ranges, below 0 where the first is the smaller.
 fn less(a: u64, b: u64) -> i64
-    requires { ⌜ (a < 2 ^ 30) × (b < 2 ^ 30) ⌝ }
+    requires { ⌜ (a < 2 ^ 31) × (b < 2 ^ 31) ⌝ }
     ensures { λ r. ⌜ r ≡ subℕ a b ⌝ }
 {
     a as i64 - b as i64

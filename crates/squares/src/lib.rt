@@ -43,5 +43,5 @@ fn settled(n: u64, guess: u64) -> u64
     while n < r * r {
         r = (r + n / r) / 2;
     }
-    r
+    r // at last, a square that is not too large
 }

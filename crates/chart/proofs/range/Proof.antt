@@ -43,8 +43,7 @@ returns : tie.Need-returns
 unfolding rangeOf distanceOf
 returns c =
     let e = c .before .before .gap .result in
-    let n = c .before .gap2 .result in
-    (
+    let n = c .before .gap2 .result in (
       c .root .ensures ∙ ap₂ (λ (x y : ℕ). root (x * x + y * y)) (c .before .before .gap .ensures) (c .before .gap2 .ensures),
       omega (arith, c .root .ensures, root-at-most (e * e + n * n) 1073741823 (omega (arith, squares (c .before)))),
     )

@@ -1,0 +1,2 @@
+-- What the printing of signed numbers rests on.
+mod Sizes
