@@ -5,7 +5,7 @@ use mathlib.Core.Bool.{Bool, true, false, cond}
 use native.Mathlib.Omega.{arith}
 use lib.Dec.{ltb}
 use lib.Signed.{mag}
-use lib.IntN.{ℤ, pos, negsuc, subℕ, _-ℤ_}
+use lib.IntN.{pos, negsuc, subℕ, _-ℤ_}
 use borrow.Author.Tests.{le-ltb}
 use mir.Syntax.{w64}
 use mir.Val.{SFits, toZ}

@@ -1,6 +1,6 @@
 -- The moving law: where c spans a and b, a place moved by at most a and b has its range to any station changed by at most c.
 -- With r the cut root of x² + y², Cauchy bounds xa + yb by (r + 1)c, so (x + a)² + (y + b)² stays below (r + 1 + c)².
-use Prim.Native.Nat.{ℕ, _+_, _*_, _≤_, _<_}
+use Prim.Native.Nat.{ℕ, _+_, _*_, _≤_}
 use mathlib.Core.Path.{ap}
 use native.Mathlib.Omega.{arith}
 use native.Mathlib.Nat.{mul-le-mul, add-right-comm, le-trans}

@@ -2,11 +2,11 @@
 use Prim.Native.Nat.{ℕ}
 use mathlib.Core.Path.{_≡_, refl}
 use mathlib.Core.Bool.{true, false}
-use lib.IntN.{pos, negsuc}
+use lib.IntN.{negsuc}
 use Rattle.squares.specs.Root.{root}
 use Rattle.chart.specs.declared.Place.{Place}
 use Rattle.chart.specs.declared.Chain.{Chain}
-use Rattle.chart.specs.declared.Expected.the-variants.{Readings, OutOfRange, Unsound}
+use Rattle.chart.specs.declared.Expected.the-variants.{Readings}
 use Rattle.chart.specs.Places.{inRange, samePlace, distanceOf}
 use Rattle.chart.specs.Chains.{isSound}
 use Rattle.chart.specs.Readings.{rangeOf, readingOf, differ, wantedOf, within, expectedAt}

@@ -2,16 +2,14 @@
 -- All by recursion on the width: the lowest byte, and the rest.
 use Prim.Native.Nat.{ℕ, zero, suc, _+_, _*_, _/_, _%_, _^_, _≤_, _<_}
 use mathlib.Core.Path.{_≡_, refl, ap, ap₂, _∙_}
-use mathlib.Core.Bool.{Bool, true, false, cond}
+use mathlib.Core.Bool.{true, false}
 use mathlib.Core.List.{List, [], _∷_, _++_}
 use native.Mathlib.Omega.{arith}
 use native.Mathlib.Nat.{pow-suc}
 use lib.ListN.{length, getD, take, drop}
 use lib.Seq.{drop-cons, drop-at, take-at, length-take-le}
 use borrow.Author.Tests.{le-leb}
-use Rattle.fields.specs.declared.Four.the-variants as four
-use Rattle.fields.specs.declared.Eight.the-variants as eight
-use Rattle.fields.specs.Fields.{valueOf, bytesOf, Bytes, inside, fieldAt, filled, fourAt, eightAt, putAt}
+use Rattle.fields.specs.Fields.{valueOf, bytesOf, Bytes, inside, fieldAt, filled, answerAt, putAt}
 
 -- A number goes to bytes and comes back, if the width can hold it.
 pub value-bytes : (width n : ℕ) → n < 256 ^ width → valueOf (bytesOf width n) ≡ n
@@ -39,30 +37,22 @@ pub field-cons : (s : List ℕ) (at width : ℕ) → at < length s → fieldAt (
 unfolding valueOf
 field-cons s at width h = rw (drop-cons s at 0)
 
--- What each reader and writer comes to, inside and outside.
-pub four-inside : (s : List ℕ) (at : ℕ) → inside 4 s at ≡ true → fourAt s at ≡ four.Value (fieldAt 4 s at)
-unfolding fourAt
-four-inside s at e = ap (λ (b : Bool). cond b (four.Value (fieldAt 4 s at)) four.Outside) e
+-- What reading and putting come to, inside and outside.
+pub answer-inside : {A : Type 0} (width : ℕ) (value : ℕ → A) (outside : A) (s : List ℕ) (at : ℕ) → inside width s at ≡ true → answerAt width value outside s at ≡ value (fieldAt width s at)
+unfolding answerAt
+answer-inside width value outside s at e = rw e
 
-pub four-outside : (s : List ℕ) (at : ℕ) → inside 4 s at ≡ false → fourAt s at ≡ four.Outside
-unfolding fourAt
-four-outside s at e = ap (λ (b : Bool). cond b (four.Value (fieldAt 4 s at)) four.Outside) e
-
-pub eight-inside : (s : List ℕ) (at : ℕ) → inside 8 s at ≡ true → eightAt s at ≡ eight.Value (fieldAt 8 s at)
-unfolding eightAt
-eight-inside s at e = ap (λ (b : Bool). cond b (eight.Value (fieldAt 8 s at)) eight.Outside) e
-
-pub eight-outside : (s : List ℕ) (at : ℕ) → inside 8 s at ≡ false → eightAt s at ≡ eight.Outside
-unfolding eightAt
-eight-outside s at e = ap (λ (b : Bool). cond b (eight.Value (fieldAt 8 s at)) eight.Outside) e
+pub answer-outside : {A : Type 0} (width : ℕ) (value : ℕ → A) (outside : A) (s : List ℕ) (at : ℕ) → inside width s at ≡ false → answerAt width value outside s at ≡ outside
+unfolding answerAt
+answer-outside width value outside s at e = rw e
 
 pub put-inside : (width : ℕ) (s : List ℕ) (at n : ℕ) → inside width s at ≡ true → putAt width s at n ≡ filled width s at n
 unfolding putAt
-put-inside width s at n e = ap (λ (b : Bool). cond b (filled width s at n) s) e
+put-inside width s at n e = rw e
 
 pub put-outside : (width : ℕ) (s : List ℕ) (at n : ℕ) → inside width s at ≡ false → putAt width s at n ≡ s
 unfolding putAt
-put-outside width s at n e = ap (λ (b : Bool). cond b (filled width s at n) s) e
+put-outside width s at n e = rw e
 
 -- What is put into a field is read from it, if the width can hold it.
 pub put-read : (width : ℕ) (s : List ℕ) (at n : ℕ) → at + width ≤ length s → n < 256 ^ width → fieldAt width (putAt width s at n) at ≡ n

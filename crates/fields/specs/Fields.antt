@@ -39,9 +39,12 @@ filled width s at n = take at s ++ (bytesOf width n ++ drop (at + width) s)
 unfoldable pub putAt : ℕ → List ℕ → ℕ → ℕ → List ℕ
 putAt width s at n = cond (inside width s at) (filled width s at n) s
 
--- What reading four bytes answers, and eight.
-unfoldable pub fourAt : List ℕ → ℕ → Four
-fourAt s at = cond (inside 4 s at) (four.Value (fieldAt 4 s at)) four.Outside
+-- What reading a field answers: made of the number where the field is inside, and an answer of its own where it is not.
+unfoldable pub answerAt : {A : Type 0} → ℕ → (ℕ → A) → A → List ℕ → ℕ → A
+answerAt width value outside s at = cond (inside width s at) (value (fieldAt width s at)) outside
 
-unfoldable pub eightAt : List ℕ → ℕ → Eight
-eightAt s at = cond (inside 8 s at) (eight.Value (fieldAt 8 s at)) eight.Outside
+abbrev pub fourAt : List ℕ → ℕ → Four
+fourAt = answerAt 4 four.Value four.Outside
+
+abbrev pub eightAt : List ℕ → ℕ → Eight
+eightAt = answerAt 8 eight.Value eight.Outside

@@ -20,7 +20,7 @@ digit-law n q h = go (leb ((2 * q + 1) * (2 * q + 1)) n) refl
     go false e = record { low = omega (arith, h .low, sq-double q); high = leb-false _ _ e }
 
 -- The law, for a number of at most so many pairs of digits.
-pairs-law : (pairs n : ℕ) → n < 4 ^ pairs → IsRoot n (rootOfPairs pairs n)
+pub pairs-law : (pairs n : ℕ) → n < 4 ^ pairs → IsRoot n (rootOfPairs pairs n)
 unfolding rootOfPairs
 pairs-law zero n h = record { low = omega arith; high = omega arith }
 pairs-law (suc pairs) n h = go (leb 1 n) refl (pairs-law pairs (n / 4) (omega (arith, pow-suc 4 pairs)))

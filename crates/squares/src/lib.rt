@@ -1,10 +1,10 @@
 // The whole part of a square root.
 ghost use mathlib.Core.Path.{_≡_};
-ghost use Prim.Native.Nat.{_+_, _*_, _≤_, _<_, _^_};
+ghost use Prim.Native.Nat.{_+_, _*_, _/_, _≤_, _<_, _^_};
 ghost use Rattle.squares.specs.Root.{root};
 
-// The whole part of the square root of n. Three steps bring the guess to the root or next to it, for any n: taken without
-// a test between them, they cost less than a loop whose turns vary.
+// The whole part of the square root of n. Three steps bring the guess to the root or next to it: taken without a test
+// between them, they cost less than a loop whose turns vary.
 pub fn root(n: u64) -> u64
     ensures { λ r. ⌜ r ≡ root n ⌝ }
 {
@@ -14,10 +14,9 @@ pub fn root(n: u64) -> u64
     settled(n, step(n, step(n, step(n, guess(n)))))
 }
 
-// A guess within a sixteenth of the root: Newton's step from the power of two next to it, where the division is a shift.
+// A guess that is not below the root: Newton's step from the power of two next to it, where the division is a shift.
 fn guess(n: u64) -> u64
-    requires { ⌜ 1 ≤ n ⌝ }
-    ensures { λ r. ⌜ (1 ≤ r) × (n < (r + 1) * (r + 1)) × (r ≤ 2 ^ 33) ⌝ }
+    ensures { λ r. ⌜ (n < (r + 1) * (r + 1)) × (r ≤ 2 ^ 33) ⌝ }
 {
     let s = (64 - u64::leading_zeros(n)) / 2;
     ((1u64 << s) + (n >> s)) / 2
@@ -25,15 +24,15 @@ fn guess(n: u64) -> u64
 
 // Newton's step: from a guess that is not below the root to one that is not below it either.
 fn step(n: u64, r: u64) -> u64
-    requires { ⌜ (1 ≤ n) × (1 ≤ r) × (n < (r + 1) * (r + 1)) × (r < 2 ^ 34) ⌝ }
-    ensures { λ q. ⌜ (1 ≤ q) × (n < (q + 1) * (q + 1)) × (q ≤ r + 1) ⌝ }
+    requires { ⌜ (1 ≤ n) × (n < (r + 1) * (r + 1)) × (r < 2 ^ 34) ⌝ }
+    ensures { λ q. ⌜ (q ≡ (r + n / r) / 2) × (n < (q + 1) * (q + 1)) × (q ≤ r + 1) ⌝ }
 {
     (r + n / r) / 2
 }
 
-// The root, from a guess that is not below it: steps as long as the guess is too large.
+// The root, from a guess that is not below it: steps as long as its square is too large.
 fn settled(n: u64, guess: u64) -> u64
-    requires { ⌜ n < (guess + 1) * (guess + 1) ⌝ }
+    requires { ⌜ (1 ≤ n) × (n < (guess + 1) * (guess + 1)) ⌝ }
     ensures { λ r. ⌜ r ≡ root n ⌝ }
 {
     let mut r = guess;
@@ -41,7 +40,7 @@ fn settled(n: u64, guess: u64) -> u64
         r = 4294967295;
     }
     while n < r * r {
-        r = (r + n / r) / 2;
+        r = step(n, r);
     }
     r // at last, a square that is not too large
 }

@@ -1,14 +1,12 @@
 -- `fields::eight_at` meets its contract: what is outside is told so, and what is inside is gathered.
-use Prim.Native.Nat.{_+_}
 use mathlib.Core.Path.{_≡_, sym, ap, _∙_}
 use mathlib.Core.Bool.{true}
 use native.Mathlib.Omega.{arith}
 use borrow.Author.Needs.{needs}
 use borrow.Author.Tests.{leb-true, not-true, not-false}
-use lib.ListN.{length}
-use Rattle.fields.specs.declared.Eight.the-variants.{Value}
+use Rattle.fields.specs.declared.Eight.the-variants.{Value, Outside}
 use Rattle.fields.specs.Fields.{inside}
-use Rattle.fields.proofs.FieldLaws.{eight-inside, eight-outside}
+use Rattle.fields.proofs.FieldLaws.{answer-inside, answer-outside}
 use Rattle.fields.proofs.eight_at.Statement.{statement}
 use Rattle.fields.proofs.eight_at.Tie as tie
 
@@ -16,7 +14,7 @@ lies-inside-requires : tie.Need-lies-inside-requires
 lies-inside-requires c κs = search needs
 
 returns : tie.Need-returns
-returns c = sym (eight-outside _ _ (sym (c .before .lies-inside .ensures) ∙ not-true _ (c .if1 .taken)))
+returns c = sym (answer-outside 8 Value Outside _ _ (sym (c .before .lies-inside .ensures) ∙ not-true _ (c .if1 .taken)))
 
 is-inside : (c : tie.Else1) → inside 8 (c .before .before .before .args .s .now) (c .before .before .before .args .at) ≡ true
 is-inside c = sym (c .before .lies-inside .ensures) ∙ not-false _ (c .if1 .left)
@@ -25,7 +23,7 @@ gathered-requires : tie.Need-gathered-requires
 gathered-requires c κs = (leb-true _ _ (is-inside c), omega arith)
 
 returns-2 : tie.Need-returns-2
-returns-2 c = ap Value (c .gathered .ensures .0) ∙ sym (eight-inside _ _ (is-inside (c .before)))
+returns-2 c = ap Value (c .gathered .ensures .0) ∙ sym (answer-inside 8 Value Outside _ _ (is-inside (c .before)))
 
 pub eight-at-spec : {M : Type 1} → statement M
 eight-at-spec = tie.close (tie.spec lies-inside-requires returns gathered-requires returns-2)

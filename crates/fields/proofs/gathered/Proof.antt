@@ -1,6 +1,4 @@
 -- `fields::gathered` meets its contract: the bytes from i up to the width are held, and i falls to 0.
-use Prim.Native.Nat.{ℕ, _+_, _-_, _*_, _^_, _≤_, _<_}
-use mathlib.Core.Path.{_≡_, _∙_, ap₂}
 use native.Mathlib.Omega.{arith}
 use borrow.Author.Needs.{needs}
 use Rattle.fields.proofs.Gathering.{Held, held-none, held-more, held-room, held-all}

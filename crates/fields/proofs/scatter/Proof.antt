@@ -1,7 +1,6 @@
 -- `fields::scatter` meets its contract: after i bytes the buffer is filled so far, and i rises to the width.
-use Prim.Native.Nat.{ℕ, _+_, _-_}
+use Prim.Native.Nat.{_-_}
 use native.Mathlib.Omega.{arith}
-use borrow.Author.Needs.{needs}
 use Rattle.fields.proofs.Scattering.{Filling, filling-none, filling-more, filling-all}
 use Rattle.fields.proofs.scatter.Statement.{statement}
 use Rattle.fields.proofs.scatter.Tie as tie
