@@ -17,6 +17,6 @@ pub expected-unsound : (c : Chain) (p : Place) → inRange p ≡ true → isSoun
 unfolding expectedAt
 expected-unsound c p in-range unsound = rw (in-range, unsound)
 
-pub expected-readings : (c : Chain) (p : Place) → inRange p ≡ true → isSound c ≡ true → expectedAt c p ≡ Readings (readingOf (c .master) (c .a) p) (readingOf (c .master) (c .b) p)
+pub expected-readings : (c : Chain) (p : Place) → inRange p ≡ true → isSound c ≡ true → expectedAt c p ≡ Readings (readingOf c (c .a) p) (readingOf c (c .b) p)
 unfolding expectedAt
 expected-readings c p in-range sound = rw (in-range, sound)

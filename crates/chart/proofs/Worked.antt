@@ -30,10 +30,10 @@ unfolding expectedAt readingOf rangeOf distanceOf isSound inRange samePlace root
 p3 = refl
 
 -- P2's place matches the readings of P1's at tolerance 1, and not at 0.
-near : within 1 (at 0 0) (wantedOf chain1 (negsuc 9999) (negsuc 19999)) (at 30001 40000) ≡ true
+near : within 1 chain1 (wantedOf chain1 (negsuc 9999) (negsuc 19999)) (at 30001 40000) ≡ true
 unfolding within differ readingOf rangeOf distanceOf root
 near = refl
 
-not-near : within 0 (at 0 0) (wantedOf chain1 (negsuc 9999) (negsuc 19999)) (at 30001 40000) ≡ false
+not-near : within 0 chain1 (wantedOf chain1 (negsuc 9999) (negsuc 19999)) (at 30001 40000) ≡ false
 unfolding within differ readingOf rangeOf distanceOf root
 not-near = refl

@@ -12,13 +12,13 @@ use Rattle.chart.specs.declared.Figures.{Figures}
 use Rattle.chart.specs.Places.{inRange, distanceOf}
 use Rattle.chart.specs.Chains.{isSound}
 
--- How far a station counts as being from a place: their distance, cut to whole centimetres.
+-- How far a station counts as being from a place: their distance, cut to a whole number first (01, Distance and reading).
 unfoldable pub rangeOf : Place → Place → ℕ
 rangeOf p station = distanceOf p station
 
--- The reading of a place for a slave: the range of the slave less the range of the master, each cut by itself.
-unfoldable pub readingOf : Place → Place → Place → ℤ
-readingOf master slave p = subℕ (rangeOf p slave) (rangeOf p master)
+-- The reading of a place for a slave of a chain: the slave's range less the master's, each cut by itself.
+unfoldable pub readingOf : Chain → Place → Place → ℤ
+readingOf c slave p = subℕ (rangeOf p slave) (rangeOf p (c .master))
 
 -- By how much two readings differ.
 unfoldable pub differ : ℤ → ℤ → ℕ
@@ -33,19 +33,19 @@ pub record Wanted : Type 0 where
 abbrev pub wantedOf : Chain → ℤ → ℤ → List Wanted
 wantedOf c ra rb = record { slave = c .a; reading = ra } ∷ record { slave = c .b; reading = rb } ∷ []
 
--- Every slave's reading at p differs from the wanted one by at most t.
-unfoldable pub within : ℕ → Place → List Wanted → Place → Bool
-within t master [] p = true
-within t master (w ∷ ws) p = leb (differ (readingOf master (w .slave) p) (w .reading)) t && within t master ws p
+-- At p every slave's reading differs from the wanted one by at most t: p matches (01, Distance and reading).
+unfoldable pub within : ℕ → Chain → List Wanted → Place → Bool
+within t c [] p = true
+within t c (w ∷ ws) p = leb (differ (readingOf c (w .slave) p) (w .reading)) t && within t c ws p
 
--- The readings expected at a place: what a log would say there (01, Numbers of refusal: 4 precedes 5).
+-- The readings expected at a place, or why there are none: 4 precedes 5 (01, Numbers of refusal).
 unfoldable pub expectedAt : Chain → Place → Expected
 expectedAt c p =
     cond (inRange p)
-    (cond (isSound c) (Readings (readingOf (c .master) (c .a) p) (readingOf (c .master) (c .b) p)) Unsound)
+    (cond (isSound c) (Readings (readingOf c (c .a) p) (readingOf c (c .b) p)) Unsound)
     OutOfRange
 
--- An answer in 01's figures: the number of the refusal, 0 for none, and the two readings, which a refusal gives as 0.
+-- The same in figures: the number of the refusal, 0 for none, and both readings, 0 on a refusal (01, Numbers of refusal).
 unfoldable pub figuresOf : Expected → Figures
 figuresOf (Readings a b) = record { refusal = 0; a = a; b = b }
 figuresOf OutOfRange = record { refusal = 4; a = pos 0; b = pos 0 }
