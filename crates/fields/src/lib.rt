@@ -42,11 +42,7 @@ pub fn put_four(s: &mut [u8], at: usize, n: u32) -> bool
     ensures answer { λ r. ⌜ r ≡ inside 4 (now (s .entry)) at ⌝ }
     ensures buffer { λ r. ⌜ now (s .exit) ≡ putAt 4 (now (s .entry)) at n ⌝ }
 {
-    if !lies_inside(s.len(), at, 4) {
-        return false;
-    }
-    scatter(s, at, 4, n as u64);
-    true
+    put(s, at, 4, n as u64)
 }
 
 // Puts n into the eight bytes of s from `at` on and answers true, or changes nothing and answers false.
@@ -54,10 +50,18 @@ pub fn put_eight(s: &mut [u8], at: usize, n: u64) -> bool
     ensures answer { λ r. ⌜ r ≡ inside 8 (now (s .entry)) at ⌝ }
     ensures buffer { λ r. ⌜ now (s .exit) ≡ putAt 8 (now (s .entry)) at n ⌝ }
 {
-    if !lies_inside(s.len(), at, 8) {
+    put(s, at, 8, n)
+}
+
+// The same at any width.
+fn put(s: &mut [u8], at: usize, width: usize, n: u64) -> bool
+    ensures answer { λ r. ⌜ r ≡ inside width (now (s .entry)) at ⌝ }
+    ensures buffer { λ r. ⌜ now (s .exit) ≡ putAt width (now (s .entry)) at n ⌝ }
+{
+    if !lies_inside(s.len(), at, width) {
         return false;
     }
-    scatter(s, at, 8, n);
+    scatter(s, at, width, n);
     true
 }
 
