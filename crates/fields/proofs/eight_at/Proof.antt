@@ -1,9 +1,11 @@
 -- `fields::eight_at` meets its contract: what is outside is told so, and what is inside is gathered.
+use Prim.Native.Nat.{_+_}
 use mathlib.Core.Path.{_≡_, sym, ap, _∙_}
 use mathlib.Core.Bool.{true}
 use native.Mathlib.Omega.{arith}
 use borrow.Author.Needs.{needs}
 use borrow.Author.Tests.{leb-true, not-true, not-false}
+use lib.ListN.{length}
 use Rattle.fields.specs.declared.Eight.the-variants.{Value, Outside}
 use Rattle.fields.specs.Fields.{inside}
 use Rattle.fields.proofs.FieldLaws.{answer-inside, answer-outside}
@@ -20,7 +22,9 @@ is-inside : (c : tie.Else1) → inside 8 (c .before .before .before .args .s .no
 is-inside c = sym (c .before .lies-inside .ensures) ∙ not-false _ (c .if1 .left)
 
 gathered-requires : tie.Need-gathered-requires
-gathered-requires c κs = (leb-true _ _ (is-inside c), omega arith)
+gathered-requires c κs =
+    let start = c .before .before .before .args in
+    omega (arith, leb-true (start .at + 8) (length (start .s .now)) (is-inside c))
 
 returns-2 : tie.Need-returns-2
 returns-2 c = ap Value (c .gathered .ensures .0) ∙ sym (answer-inside 8 Value Outside _ _ (is-inside (c .before)))
