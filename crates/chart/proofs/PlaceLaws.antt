@@ -7,10 +7,12 @@ use borrow.Author.Tests.{leb-true, le-leb, lt-leb}
 use Rattle.chart.specs.declared.Place.{Place}
 use Rattle.chart.specs.Places.{mostEasting, mostNorthing, inRange}
 
+-- What holds of two tests together holds of each.
 pub both : (a b : Bool) → (a && b) ≡ true → (a ≡ true) × (b ≡ true)
 both true b e = (refl, e)
 both false b e = absurd (false≢true e)
 
+-- A place in range has an easting and a northing within the grid.
 pub in-range-says : (p : Place) → inRange p ≡ true → (p .easting ≤ mostEasting) × (p .northing ≤ mostNorthing)
 unfolding inRange
 in-range-says p e =

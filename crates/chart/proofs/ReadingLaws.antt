@@ -13,10 +13,12 @@ pub expected-out : (c : Chain) (p : Place) → inRange p ≡ false → expectedA
 unfolding expectedAt
 expected-out c p out = rw out
 
+-- In range, an unsound chain is told.
 pub expected-unsound : (c : Chain) (p : Place) → inRange p ≡ true → isSound c ≡ false → expectedAt c p ≡ Unsound
 unfolding expectedAt
 expected-unsound c p in-range unsound = rw (in-range, unsound)
 
+-- In range and with a sound chain there are readings, one for each slave.
 pub expected-readings : (c : Chain) (p : Place) → inRange p ≡ true → isSound c ≡ true → expectedAt c p ≡ Readings (readingOf c (c .a) p) (readingOf c (c .b) p)
 unfolding expectedAt
 expected-readings c p in-range sound = rw (in-range, sound)

@@ -27,6 +27,7 @@ bytes-value (b ∷ bs) h =
     let high : (b + 256 * valueOf bs) / 256 ≡ valueOf bs = omega arith in
     ap₂ _∷_ low (ap (bytesOf (length bs)) high ∙ bytes-value bs (λ i. h (suc i)))
 
+-- A number takes as many bytes as the width says.
 pub length-bytes : (width n : ℕ) → length (bytesOf width n) ≡ width
 unfolding bytesOf
 length-bytes zero n = refl

@@ -35,7 +35,7 @@ fieldAt width s at = valueOf (take width (drop at s))
 abbrev pub filled : ℕ → List ℕ → ℕ → ℕ → List ℕ
 filled width s at n = take at s ++ (bytesOf width n ++ drop (at + width) s)
 
--- What is left of s after a number is put at `at`: s itself where the field is not inside.
+-- s after a number is put at `at`: filled where the field is inside, and s itself where it is not.
 unfoldable pub putAt : ℕ → List ℕ → ℕ → ℕ → List ℕ
 putAt width s at n = cond (inside width s at) (filled width s at n) s
 
@@ -43,6 +43,7 @@ putAt width s at n = cond (inside width s at) (filled width s at n) s
 unfoldable pub answerAt : {A : Type 0} → ℕ → (ℕ → A) → A → List ℕ → ℕ → A
 answerAt width value outside s at = cond (inside width s at) (value (fieldAt width s at)) outside
 
+-- What reading four bytes answers, and what reading eight.
 abbrev pub fourAt : List ℕ → ℕ → Four
 fourAt = answerAt 4 four.Value four.Outside
 

@@ -10,6 +10,7 @@ use borrow.Author.Tests.{ltb-true, lt-ltb}
 use mir.Syntax.{w64}
 use mir.Val.{Fits, SFits}
 
+-- What turning the sign of a number's neighbour rests on.
 pub record Turned (x : ℤ) : Type 0 where
   pub up : SFits w64 (x +ℤ pos 1)
   pub turned : SFits w64 (pos 0 -ℤ (x +ℤ pos 1))
@@ -31,6 +32,7 @@ turned-below (negsuc (suc n)) f e =
       size = subst⁻¹ (λ (y : ℤ). natAbs (pos 0 -ℤ y) + 1 ≡ suc (suc n)) (up-one n) (omega arith);
     }
 
+-- A number that is not below 0 is its own size.
 pub not-below : (x : ℤ) → SFits w64 x → ltZ x (pos 0) ≡ false → T (nonNeg x) × Fits w64 (natAbs x)
 not-below (pos n) f e = (tt, record { fits = omega (arith, f .sfits) })
 not-below (negsuc n) f e = absurd (true≢false e)
