@@ -1,0 +1,5 @@
+-- Metres and whole centimetres, and the bytes of a number.
+pub mod Metres
+pub mod Nearest
+pub mod Hundredfolds
+pub mod Patterns

@@ -1,0 +1,217 @@
+// Metres and whole centimetres, and binary64 numbers in bytes.
+ghost use mathlib.Core.Path.{_≡_};
+ghost use Prim.Native.Nat.{_<_, _^_};
+ghost use lib.Ieee.Nearest.{closest};
+ghost use Rattle.fields.specs.Fields.{inside};
+ghost use Rattle.metres.specs.Metres.{signed, centimetresOf, metresOf, wholeFigures, lengthFigures, ReadsBack};
+ghost use Rattle.metres.specs.Hundredfolds.{IsHundredfold};
+ghost use Rattle.metres.specs.Patterns.{numberOf, patternOf, isPlusZero, numberAt, putNumberAt, ReadsThere};
+use fields::Eight;
+
+// What a number of metres comes to: whole centimetres, or nothing.
+pub enum Whole {
+    Centimetres(i64),
+    Refused,
+}
+
+// What a whole number of centimetres comes to: a number of metres, or nothing.
+pub enum Length {
+    Metres(f64),
+    Refused,
+}
+
+// Both as figures: the number of the refusal, 0 for none, and what was asked for.
+pub struct WholeFigures {
+    pub refusal: u32,
+    pub centimetres: i64,
+}
+
+pub struct LengthFigures {
+    pub refusal: u32,
+    pub metres: f64,
+}
+
+// What stands in eight bytes: a number, or nothing where they are not all inside the slice.
+pub enum Number {
+    Value(f64),
+    Outside,
+}
+
+// Exactly 100 times a number of metres: parts / 2 ^ halvings, below zero where minus is true.
+enum Hundredfold {
+    Exact {
+        minus: bool,
+        parts: u64,
+        halvings: u64,
+    },
+    Refused,
+}
+
+const MOST_CENTIMETRES: i64 = 1_000_000_000;
+
+// A number of metres in whole centimetres: the nearest to exactly 100 times the number, a tie going to the even one.
+pub fn centimetres(x: f64) -> Whole
+    ensures { λ r. ⌜ r ≡ centimetresOf x ⌝ }
+{
+    match times_hundred(x) {
+        Hundredfold::Exact {
+            minus,
+            parts,
+            halvings,
+        } => Whole::Centimetres(with_sign(minus, rounded(parts, halvings))),
+        Hundredfold::Refused => Whole::Refused,
+    }
+}
+
+// A number of centimetres in metres: divided by 100 and rounded once. Read again, it gives the same centimetres.
+pub fn metres(c: i64) -> Length
+    ensures answer { λ r. ⌜ r ≡ metresOf c ⌝ }
+    ensures back { λ r. ⌜ ReadsBack c r ⌝ }
+{
+    if c < -MOST_CENTIMETRES {
+        return Length::Refused;
+    }
+    if c > MOST_CENTIMETRES {
+        return Length::Refused;
+    }
+    Length::Metres(c as f64 / 100.0)
+}
+
+// An answer in centimetres as figures.
+pub fn whole_figures(w: Whole) -> WholeFigures
+    ensures { λ r. ⌜ r ≡ wholeFigures w ⌝ }
+{
+    match w {
+        Whole::Centimetres(centimetres) => WholeFigures {
+            refusal: 0,
+            centimetres,
+        },
+        Whole::Refused => WholeFigures {
+            refusal: 3,
+            centimetres: 0,
+        },
+    }
+}
+
+// An answer in metres as figures.
+pub fn length_figures(l: Length) -> LengthFigures
+    ensures { λ r. ⌜ r ≡ lengthFigures l ⌝ }
+{
+    match l {
+        Length::Metres(metres) => LengthFigures { refusal: 0, metres },
+        Length::Refused => LengthFigures {
+            refusal: 3,
+            metres: 0.0,
+        },
+    }
+}
+
+// The number of a pattern of 64 bits. `from_bits` is undefined at the patterns of NaN.
+pub fn number_of(pattern: u64) -> f64
+    ensures { λ r. ⌜ r ≡ numberOf pattern ⌝ }
+{
+    if pattern % 0x8000_0000_0000_0000 > 0x7ff0_0000_0000_0000 {
+        return 0.0 / 0.0;
+    }
+    f64::from_bits(pattern)
+}
+
+// The pattern of a number. `to_bits` is undefined at NaN, the one number that differs from itself.
+pub fn pattern_of(x: f64) -> u64
+    ensures { λ r. ⌜ r ≡ patternOf x ⌝ }
+{
+    if x != x {
+        return 0x7ff8_0000_0000_0000;
+    }
+    f64::to_bits(x)
+}
+
+// Whether a number is plus zero, which eight zero bytes stand for, and not minus zero.
+pub fn is_plus_zero(x: f64) -> bool
+    ensures { λ r. ⌜ r ≡ isPlusZero x ⌝ }
+{
+    pattern_of(x) == 0
+}
+
+// The number in the eight bytes of s from `at` on.
+pub fn number_at(s: &[u8], at: usize) -> Number
+    ensures { λ r. ⌜ r ≡ numberAt (now (s .entry)) at ⌝ }
+{
+    match fields::eight_at(s, at) {
+        Eight::Value(pattern) => Number::Value(number_of(pattern)),
+        Eight::Outside => Number::Outside,
+    }
+}
+
+// Puts a number into the eight bytes of s from `at` on and answers true, or changes nothing and answers false. What was put
+// is read there again.
+pub fn put_number(s: &mut [u8], at: usize, x: f64) -> bool
+    ensures answer { λ r. ⌜ r ≡ inside 8 (now (s .entry)) at ⌝ }
+    ensures buffer { λ r. ⌜ now (s .exit) ≡ putNumberAt (now (s .entry)) at x ⌝ }
+    ensures back { λ r. ⌜ ReadsThere (now (s .entry)) (now (s .exit)) at x ⌝ }
+{
+    fields::put_eight(s, at, pattern_of(x))
+}
+
+// Exactly 100 times a number, from the fields of its pattern: the exponent's, and the digits below the leading one. An
+// exponent of 0 has no leading digit and counts as 1.
+fn times_hundred(x: f64) -> Hundredfold
+    ensures { λ r. ⌜ IsHundredfold x r ⌝ }
+{
+    if x != x {
+        return Hundredfold::Refused;
+    }
+    if x > 10_000_000.0 {
+        return Hundredfold::Refused;
+    }
+    if x < -10_000_000.0 {
+        return Hundredfold::Refused;
+    }
+    let pattern = f64::to_bits(x);
+    let minus = pattern >= 0x8000_0000_0000_0000;
+    let exponent = pattern % 0x8000_0000_0000_0000 / 0x10_0000_0000_0000;
+    let digits = pattern % 0x10_0000_0000_0000;
+    if exponent == 0 {
+        return Hundredfold::Exact {
+            minus,
+            parts: digits * 100,
+            halvings: 1074,
+        };
+    }
+    let parts = (0x10_0000_0000_0000 + digits) * 100;
+    Hundredfold::Exact {
+        minus,
+        parts,
+        halvings: 1075 - exponent,
+    }
+}
+
+// parts / 2 ^ halvings to the nearest whole number, a tie going to the even one.
+fn rounded(parts: u64, halvings: u64) -> u64
+    requires { ⌜ parts < 2 ^ 60 ⌝ }
+    ensures { λ r. ⌜ r ≡ closest parts (2 ^ halvings) ⌝ }
+{
+    if halvings >= 62 {
+        return 0;
+    }
+    let one = 1u64 << halvings;
+    let whole = parts / one;
+    let twice = parts % one * 2;
+    if twice < one {
+        return whole;
+    }
+    if twice > one {
+        return whole + 1;
+    }
+    whole + whole % 2
+}
+
+fn with_sign(minus: bool, n: u64) -> i64
+    requires { ⌜ n < 2 ^ 62 ⌝ }
+    ensures { λ r. ⌜ r ≡ signed minus n ⌝ }
+{
+    if minus {
+        return 0 - n as i64;
+    }
+    n as i64
+}
