@@ -194,7 +194,7 @@ fn rounded(parts: u64, halvings: u64) -> u64
     if halvings >= 62 {
         return 0;
     }
-    let one = 1u64 << halvings;
+    let one = power(halvings);
     let whole = parts / one;
     let twice = parts % one * 2;
     if twice < one {
@@ -204,6 +204,13 @@ fn rounded(parts: u64, halvings: u64) -> u64
         return whole + 1;
     }
     whole + whole % 2
+}
+
+fn power(k: u64) -> u64
+    requires { ⌜ k < 62 ⌝ }
+    ensures { λ r. ⌜ r ≡ 2 ^ k ⌝ }
+{
+    1u64 << k
 }
 
 fn with_sign(minus: bool, n: u64) -> i64
