@@ -2,3 +2,4 @@
 pub mod Rounding
 pub mod Answers
 mod Exact
+mod Digits

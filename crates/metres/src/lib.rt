@@ -172,17 +172,19 @@ fn times_hundred(x: f64) -> Hundredfold
     let exponent = pattern % 0x8000_0000_0000_0000 / 0x10_0000_0000_0000;
     let digits = pattern % 0x10_0000_0000_0000;
     if exponent == 0 {
+        let parts = digits * 100;
         return Hundredfold::Exact {
             minus,
-            parts: digits * 100,
+            parts,
             halvings: 1074,
         };
     }
     let parts = (0x10_0000_0000_0000 + digits) * 100;
+    let halvings = 1075 - exponent;
     Hundredfold::Exact {
         minus,
         parts,
-        halvings: 1075 - exponent,
+        halvings,
     }
 }
 

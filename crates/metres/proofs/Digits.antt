@@ -1,0 +1,195 @@
+-- Exactly 100 times a number, from the fields of its pattern. With an exponent of 0 the number is its digits in units of
+-- 2 ^ -1074, and with an exponent of j + 1 it is 2 ^ 52 more than them, times 2 ^ j.
+use Prim.Native.Nat.{ℕ, zero, suc, _+_, _-_, _*_, _/_, _%_, _^_, _≤_, _<_}
+use mathlib.Core.Path.{_≡_, refl, sym, ap, _∙_, subst, subst⁻¹}
+use mathlib.Core.Bool.{Bool, true, false, not, cond, true≢false, false≢true}
+use native.Mathlib.Nat.{le-trans, le-of-eq, lt-of-le-of-lt, lt-of-lt-of-le, lt-of-not-le, lt-irrefl, le-of-suc-le-suc, le-add-right, mul-comm, mul-assoc, mul-right-comm, mul-one, mul-le-mul-left, mul-le-mul-right, le-of-mul-le-mul-right, eq-of-mul-eq-mul-right, mod-lt}
+use native.Mathlib.Omega.{arith}
+use lib.Dec.{T, leb, ltb, eqb, lit<}
+use lib.Pow.{pow-add, pow-pos, pow-mono}
+use lib.IntN.{ℤ, pos}
+use lib.Ieee.{Float, nan, inf, fin, binary64, up, down, odd, fits, isNan, ofFields, ofBits, toBits, neg, lt, ne}
+use lib.Ieee.Fits.{down-pos}
+use lib.Ieee.Bits.{ofBits-toBits}
+use lib.Ieee.Exact.{HasValue, odd-sign}
+use lib.Ieee.Compare.{differs-from-itself}
+use borrow.Author.Tests.{ltb-true, ltb-false}
+use Rattle.metres.specs.declared.Hundredfold.the-variants.{Exact, Refused}
+use Rattle.metres.specs.Metres.{mostMetres, hundredfold}
+use Rattle.metres.specs.Hundredfolds.{IsHundredfold}
+
+-- The limit as a number: by its pattern, which the code has, and by its value.
+abbrev pub limit : Float
+limit = ofBits binary64 0x4163_12d0_0000_0000
+
+limit-is : limit ≡ fin false 78125 (pos 7)
+unfolding ofBits
+limit-is = refl
+
+minus-limit-is : neg limit ≡ fin true 78125 (pos 7)
+unfolding ofBits neg
+minus-limit-is = refl
+
+-- What is refused: NaN, and a number above the limit or below its negative.
+pub refused-nan : (x : Float) → ne x x ≡ true → IsHundredfold x Refused
+refused-nan x h = subst⁻¹ (λ (y : Float). IsHundredfold y Refused) (differs-from-itself x (subst⁻¹ T h tt)) tt
+
+beyond : (m : ℕ) (e : ℤ) → ltb (mostMetres * down e) (m * up e * 1) ≡ true → mostMetres * down e < m * up e
+beyond m e h = subst (λ (y : ℕ). mostMetres * down e < y) (mul-one (m * up e)) (ltb-true (mostMetres * down e) (m * up e * 1) h)
+
+pub refused-above : (x : Float) → lt limit x ≡ true → IsHundredfold x Refused
+unfolding lt
+refused-above x h = go x (subst (λ (y : Float). lt y x ≡ true) limit-is h)
+  where
+    go : (x : Float) → lt (fin false 78125 (pos 7)) x ≡ true → IsHundredfold x Refused
+    go nan h = tt
+    go (inf s) h = tt
+    go (fin false m e) h = beyond m e h
+    go (fin true m e) h = absurd (false≢true h)
+
+pub refused-below : (x : Float) → lt x (neg limit) ≡ true → IsHundredfold x Refused
+unfolding lt
+refused-below x h = go x (subst (λ (y : Float). lt x y ≡ true) minus-limit-is h)
+  where
+    go : (x : Float) → lt x (fin true 78125 (pos 7)) ≡ true → IsHundredfold x Refused
+    go nan h = tt
+    go (inf s) h = tt
+    go (fin false m e) h = absurd (false≢true h)
+    go (fin true m e) h = beyond m e h
+
+-- What is left is a finite number within the limit.
+abbrev pub Readable : Float → Type 0
+Readable nan = ⊥
+Readable (inf s) = ⊥
+Readable (fin s m e) = m * up e ≤ mostMetres * down e
+
+within : (m : ℕ) (e : ℤ) → ltb (mostMetres * down e) (m * up e * 1) ≡ false → m * up e ≤ mostMetres * down e
+within m e h = subst (λ (y : ℕ). y ≤ mostMetres * down e) (mul-one (m * up e)) (ltb-false (mostMetres * down e) (m * up e * 1) h)
+
+pub readable : (x : Float) → ne x x ≡ false → lt limit x ≡ false → lt x (neg limit) ≡ false → Readable x
+unfolding lt ne
+readable x same above below = go x same (subst (λ (y : Float). lt y x ≡ false) limit-is above) (subst (λ (y : Float). lt x y ≡ false) minus-limit-is below)
+  where
+    go : (x : Float) → ne x x ≡ false → lt (fin false 78125 (pos 7)) x ≡ false → lt x (fin true 78125 (pos 7)) ≡ false → Readable x
+    go nan same above below = true≢false same
+    go (inf true) same above below = true≢false below
+    go (inf false) same above below = true≢false above
+    go (fin false m e) same above below = within m e above
+    go (fin true m e) same above below = within m e below
+
+pub not-nan : (x : Float) → ne x x ≡ false → T (not (isNan x))
+unfolding ne isNan
+not-nan nan h = absurd (true≢false h)
+not-nan (inf s) h = tt
+not-nan (fin s m e) h = tt
+
+-- A number by its sign, its exponent and its digits, in units of 2 ^ -1074.
+abbrev units : ℕ → ℕ → ℕ
+units zero digits = digits * 2 ^ 0
+units (suc j) digits = (2 ^ 52 + digits) * 2 ^ j
+
+finite : (top none s : Bool) (x : Float) → Readable (cond top (cond none (inf s) nan) x) → x ≡ cond top (cond none (inf s) nan) x
+finite true true s x h = absurd h
+finite true false s x h = absurd h
+finite false none s x h = refl
+
+fields-value : (s : Bool) (exponent digits : ℕ) → Readable (ofFields binary64 s exponent digits) → HasValue (ofFields binary64 s exponent digits) s (units exponent digits) (2 ^ 1074)
+unfolding ofFields
+fields-value s zero digits h = odd-sign 53 s digits 0 1074
+fields-value s (suc j) digits h =
+    subst (λ (y : Float). HasValue y s ((2 ^ 52 + digits) * 2 ^ j) (2 ^ 1074))
+    (finite (eqb (suc j) 2047) (eqb digits 0) s (odd 53 s (2 ^ 52 + digits) j 1074) h)
+    (odd-sign 53 s (2 ^ 52 + digits) j 1074)
+
+-- Within the limit, the exponent is at most 1075.
+units-limit : (x : Float) (s : Bool) (n : ℕ) → Readable x → HasValue x s n (2 ^ 1074) → n ≤ mostMetres * 2 ^ 1074
+units-limit nan s n h v = absurd h
+units-limit (inf t) s n h v = absurd h
+units-limit (fin t m e) s n h v =
+    le-of-mul-le-mul-right
+    (le-trans (le-of-eq (sym (v .1))) (le-trans (mul-le-mul-right (2 ^ 1074) h) (le-of-eq (mul-right-comm mostMetres (down e) (2 ^ 1074)))))
+    (down-pos e)
+
+exponent-limit : (j digits : ℕ) → (2 ^ 52 + digits) * 2 ^ j ≤ mostMetres * 2 ^ 1074 → j ≤ 1074
+exponent-limit j digits h = le-of-suc-le-suc (lt-of-not-le (λ (many : 1075 ≤ j). lt-irrefl (2 ^ 52 * 2 ^ j) (go many)))
+  where
+    go : 1075 ≤ j → 2 ^ 52 * 2 ^ j < 2 ^ 52 * 2 ^ j
+    go many =
+        let low : 2 ^ 52 * 2 ^ j ≤ (2 ^ 52 + digits) * 2 ^ j = mul-le-mul-right (2 ^ j) (le-add-right (2 ^ 52) digits) in
+        let high : mostMetres * 2 ^ 1074 < 2 ^ 52 * 2 ^ 1075 = lit< tt in
+        let more : 2 ^ 52 * 2 ^ 1075 ≤ 2 ^ 52 * 2 ^ j = mul-le-mul-left (2 ^ 52) (pow-mono many) in
+        lt-of-le-of-lt low (lt-of-le-of-lt h (lt-of-lt-of-le high more))
+
+-- From so many units to an exact hundredfold.
+exact-of : (x : Float) (s : Bool) (n parts halvings : ℕ) → HasValue x s n (2 ^ 1074) → Readable x → parts < 2 ^ 60 → 100 * n * 2 ^ halvings ≡ parts * 2 ^ 1074 → IsHundredfold x (Exact s parts halvings)
+exact-of nan s n parts halvings v h few same = absurd h
+exact-of (inf t) s n parts halvings v h few same = absurd h
+exact-of (fin t m e) s n parts halvings v h few same = record {
+  readable = h;
+  sign = sym (v .0);
+  few = few;
+  exact = eq-of-mul-eq-mul-right (2 ^ 1074) (pow-pos 1074) (hundredfold m e * 2 ^ halvings) (parts * down e)
+      (mul-right-comm (hundredfold m e) (2 ^ halvings) (2 ^ 1074)
+      ∙ ap (λ (y : ℕ). y * 2 ^ halvings) (mul-assoc 100 (m * up e) (2 ^ 1074) ∙ ap (λ (y : ℕ). 100 * y) (v .1) ∙ sym (mul-assoc 100 n (down e)))
+      ∙ mul-right-comm (100 * n) (down e) (2 ^ halvings)
+      ∙ ap (λ (y : ℕ). y * down e) same
+      ∙ mul-right-comm parts (2 ^ 1074) (down e));
+}
+
+rejoin : (j : ℕ) → j ≤ 1074 → 2 ^ j * 2 ^ (1074 - j) ≡ 2 ^ 1074
+rejoin j h =
+    let whole : j + (1074 - j) ≡ 1074 = omega arith in
+    sym (pow-add 2 j (1074 - j)) ∙ ap (λ (k : ℕ). 2 ^ k) whole
+
+halved : (n j : ℕ) → j ≤ 1074 → 100 * (n * 2 ^ j) * 2 ^ (1074 - j) ≡ n * 100 * 2 ^ 1074
+halved n j h =
+    mul-assoc 100 (n * 2 ^ j) (2 ^ (1074 - j))
+    ∙ ap (λ (y : ℕ). 100 * y) (mul-assoc n (2 ^ j) (2 ^ (1074 - j)) ∙ ap (λ (y : ℕ). n * y) (rejoin j h))
+    ∙ sym (mul-assoc 100 n (2 ^ 1074))
+    ∙ ap (λ (y : ℕ). y * 2 ^ 1074) (mul-comm 100 n)
+
+-- What the code reads off the pattern of a number within the limit.
+module _ (x : Float) (held : T (fits binary64 x)) (h : Readable x) where
+  abbrev pattern : ℕ
+  pattern = toBits binary64 x
+
+  abbrev minus : Bool
+  minus = leb (2 ^ 63) pattern
+
+  abbrev exponent : ℕ
+  exponent = pattern % 2 ^ 63 / 2 ^ 52
+
+  abbrev digits : ℕ
+  digits = pattern % 2 ^ 52
+
+  is : x ≡ ofFields binary64 minus exponent digits
+  unfolding ofBits
+  is = sym (ofBits-toBits binary64 x held)
+
+  value : (k : ℕ) → exponent ≡ k → HasValue x minus (units k digits) (2 ^ 1074)
+  value k e =
+      subst (λ (y : ℕ). HasValue x minus (units y digits) (2 ^ 1074)) e
+      (subst⁻¹ (λ (y : Float). HasValue y minus (units exponent digits) (2 ^ 1074)) is (fields-value minus exponent digits (subst Readable is h)))
+
+  digits-few : digits < 2 ^ 52
+  digits-few = mod-lt pattern (pow-pos 52)
+
+  pub without-lead : exponent ≡ 0 → IsHundredfold x (Exact minus (digits * 100) 1074)
+  without-lead e =
+      exact-of x minus (digits * 2 ^ 0) (digits * 100) 1074 (value 0 e) h (omega (arith, digits-few))
+      (ap (λ (y : ℕ). y * 2 ^ 1074) (ap (λ (y : ℕ). 100 * y) (mul-one digits) ∙ mul-comm 100 digits))
+
+  past-zero : (exponent ≡ 0 → ⊥) → exponent ≡ suc (exponent - 1)
+  past-zero e = omega (arith, e)
+
+  low : (exponent ≡ 0 → ⊥) → exponent - 1 ≤ 1074
+  low e = exponent-limit (exponent - 1) digits (units-limit x minus ((2 ^ 52 + digits) * 2 ^ (exponent - 1)) h (value (suc (exponent - 1)) (past-zero e)))
+
+  pub exponent-few : (exponent ≡ 0 → ⊥) → exponent ≤ 1075
+  exponent-few e = omega (arith, low e)
+
+  pub with-lead : (exponent ≡ 0 → ⊥) → IsHundredfold x (Exact minus ((2 ^ 52 + digits) * 100) (1075 - exponent))
+  with-lead e =
+      let halvings : 1074 - (exponent - 1) ≡ 1075 - exponent = omega (arith, low e, e) in
+      subst (λ (k : ℕ). IsHundredfold x (Exact minus ((2 ^ 52 + digits) * 100) k)) halvings
+      (exact-of x minus ((2 ^ 52 + digits) * 2 ^ (exponent - 1)) ((2 ^ 52 + digits) * 100) (1074 - (exponent - 1)) (value (suc (exponent - 1)) (past-zero e)) h (omega (arith, digits-few)) (halved (2 ^ 52 + digits) (exponent - 1) (low e)))
