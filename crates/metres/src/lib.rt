@@ -58,7 +58,10 @@ pub fn centimetres(x: f64) -> Whole
             minus,
             parts,
             halvings,
-        } => Whole::Centimetres(with_sign(minus, rounded(parts, halvings))),
+        } => {
+            let n = with_sign(minus, rounded(parts, halvings));
+            Whole::Centimetres(n)
+        }
         Hundredfold::Refused => Whole::Refused,
     }
 }
@@ -74,7 +77,8 @@ pub fn metres(c: i64) -> Length
     if c > MOST_CENTIMETRES {
         return Length::Refused;
     }
-    Length::Metres(c as f64 / 100.0)
+    let quotient = c as f64 / 100.0;
+    Length::Metres(quotient)
 }
 
 // An answer in centimetres as figures.
