@@ -2,13 +2,14 @@
 -- All by recursion on the width: the lowest byte, and the rest.
 use Prim.Native.Nat.{ℕ, zero, suc, _+_, _*_, _/_, _%_, _^_, _≤_, _<_}
 use mathlib.Core.Path.{_≡_, refl, ap, ap₂, _∙_}
-use mathlib.Core.Bool.{true, false}
+use mathlib.Core.Bool.{Bool, true, false}
 use mathlib.Core.List.{List, [], _∷_, _++_}
 use native.Mathlib.Omega.{arith}
 use native.Mathlib.Nat.{pow-suc}
-use lib.ListN.{length, getD, take, drop}
+use lib.Dec.{leb}
+use lib.ListN.{length, getD, take, drop, length-append, length-drop}
 use lib.Seq.{drop-cons, drop-at, take-at, length-take-le}
-use borrow.Author.Tests.{le-leb}
+use borrow.Author.Tests.{leb-true, le-leb}
 use Rattle.fields.specs.Fields.{valueOf, bytesOf, Bytes, inside, fieldAt, filled, answerAt, putAt}
 
 -- A number goes to bytes and comes back, if the width can hold it.
@@ -61,3 +62,21 @@ put-read width s at n fits small =
     let front : length (take at s) ≡ at = length-take-le at s (omega arith) in
     rw (put-inside width s at n (le-leb (at + width) (length s) fits), drop-at (take at s) (bytesOf width n ++ drop (at + width) s) at front, take-at (bytesOf width n) (drop (at + width) s) width (length-bytes width n))
     (value-bytes width n small)
+
+-- Putting changes no length.
+pub put-length : (width : ℕ) (s : List ℕ) (at n : ℕ) → length (putAt width s at n) ≡ length s
+put-length width s at n = go (inside width s at) refl
+  where
+    go : (t : Bool) → inside width s at ≡ t → length (putAt width s at n) ≡ length s
+    go true e =
+        let fits : at + width ≤ length s = leb-true (at + width) (length s) e in
+        let rest = bytesOf width n ++ drop (at + width) s in
+        rw (put-inside width s at n e)
+        (omega (arith, length-append (take at s) rest, length-take-le at s (omega arith), length-append (bytesOf width n) (drop (at + width) s), length-bytes width n, length-drop (at + width) s))
+    go false e = ap length (put-outside width s at n e)
+
+-- What reading answers where a number was put.
+pub put-answer : {A : Type 0} (width : ℕ) (value : ℕ → A) (outside : A) (s : List ℕ) (at n : ℕ) → inside width s at ≡ true → n < 256 ^ width → answerAt width value outside (putAt width s at n) at ≡ value n
+put-answer width value outside s at n e small =
+    answer-inside width value outside (putAt width s at n) at (ap (leb (at + width)) (put-length width s at n) ∙ e)
+    ∙ ap value (put-read width s at n (leb-true (at + width) (length s) e) small)

@@ -1,6 +1,6 @@
 -- What follows from exactly 100 times a number of metres: its centimetres, or the refusal.
 use Prim.Native.Nat.{ℕ, _*_, _/_, _%_, _^_, _<_, compare}
-use mathlib.Core.Path.{_≡_, refl, sym, ap, ap₂, _∙_}
+use mathlib.Core.Path.{_≡_, refl, sym, ap₂, _∙_}
 use mathlib.Core.Bool.{Bool}
 use native.Mathlib.Nat.{div-le-self}
 use native.Mathlib.Omega.{arith}

@@ -2,5 +2,7 @@
 pub mod Rounding
 pub mod Answers
 pub mod Back
+pub mod PatternLaws
 mod Exact
 mod Digits
+mod Worked

@@ -1,8 +1,8 @@
 -- The whole number nearest to a fraction a / b, a tie going to the even one: `closest a b` is, and no other number is.
 use Prim.Native.Nat.{ℕ, suc, _+_, _-_, _*_, _/_, _%_, _≤_, _<_, compare, Ordering, Ordering·lt, Ordering·eq, Ordering·gt}
-use mathlib.Core.Path.{_≡_, sym, subst}
+use mathlib.Core.Path.{_≡_, subst}
 use mathlib.Core.Bool.{not}
-use native.Mathlib.Nat.{add-mul, one-mul, suc-mul, div-add-mod', mod-lt, mul-le-mul-right, eq-of-mul-eq-mul-right, le-antisymm, lt-of-not-le, le-of-suc-le-suc}
+use native.Mathlib.Nat.{add-mul, suc-mul, div-add-mod', mod-lt, mul-le-mul-right, eq-of-mul-eq-mul-right, le-antisymm, lt-of-not-le, le-of-suc-le-suc}
 use native.Mathlib.Numerals.{add-one}
 use native.Mathlib.Omega.{arith}
 use lib.Dec.{T, isLe, isEq, eqb, leb→le, nleb→lt, eqb→eq, eqb-refl}

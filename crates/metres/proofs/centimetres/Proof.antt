@@ -1,12 +1,11 @@
 -- `metres::centimetres`: the hundredfold is exact, so its rounding is that of the number.
 use Prim.Native.Nat.{ℕ, _<_, _^_}
-use mathlib.Core.Path.{_≡_, ap, _∙_, subst, subst⁻¹}
+use mathlib.Core.Path.{ap, _∙_, subst, subst⁻¹}
 use mathlib.Core.Bool.{Bool}
 use lib.Ieee.{Float}
 use mir.Syntax.{w64}
 use mir.ValLaws.{toZ-ofZ}
 use borrow.Author.Needs.{needs}
-use Rattle.metres.specs.declared.Hundredfold.{Hundredfold}
 use Rattle.metres.specs.declared.Hundredfold.the-variants.{Exact}
 use Rattle.metres.specs.declared.Whole.the-variants.{Centimetres}
 use Rattle.metres.specs.Metres.{signed}

@@ -1,10 +1,10 @@
 -- `metres::metres`: the cast is exact, the one division is the definition's, and the way back is its law.
-use Prim.Native.Nat.{ℕ, _^_, _≤_, _<_, suc-le-suc}
+use Prim.Native.Nat.{_^_, _≤_, _<_}
 use mathlib.Core.Path.{_≡_, refl, sym, ap, ap₂, _∙_, subst, subst⁻¹}
-use mathlib.Core.Bool.{Bool, true, false, false≢true}
+use mathlib.Core.Bool.{true, false, false≢true}
 use native.Mathlib.Nat.{le-trans}
 use native.Mathlib.Omega.{arith}
-use lib.Dec.{T, leb, ltb, le→leb, lt→ltb, lit≤}
+use lib.Dec.{T, le→leb, lt→ltb, lit≤}
 use lib.IntN.{ℤ, pos, negsuc, natAbs}
 use lib.Signed.{ltZ}
 use lib.Ieee.{Float, binary64, inFloat, ofBits, ofInt, div}

@@ -1,11 +1,10 @@
 -- `metres::rounded`: the quotient, moved up where the remainder says so, is near, and only one number is.
 use Prim.Native.Nat.{ℕ, _+_, _/_, _%_, _*_, _^_, _<_, _≤_}
-use mathlib.Core.Path.{_≡_, sym, ap, _∙_, subst⁻¹}
+use mathlib.Core.Path.{_≡_, ap, _∙_, subst⁻¹}
 use native.Mathlib.Nat.{le-antisymm, mod-lt, div-add-mod', div-le-self, zero-mul}
 use native.Mathlib.Omega.{arith}
 use lib.Pow.{pow-pos, pow-lt, pow-mono}
 use lib.Ieee.Nearest.{closest}
-use borrow.Author.Needs.{needs}
 use Rattle.metres.proofs.Rounding.{Near, less-than-half, rest-less, rest-more, rest-half, near-only}
 use Rattle.metres.proofs.rounded.Statement.{statement}
 use Rattle.metres.proofs.rounded.Tie as tie

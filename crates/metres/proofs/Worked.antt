@@ -1,0 +1,74 @@
+-- 01's examples of rounding, P10, and numbers at the limits, computed from the definitions.
+use mathlib.Core.Path.{_≡_, refl}
+use mathlib.Core.Bool.{true, false}
+use lib.IntN.{pos, negsuc}
+use lib.Ieee.{nan, inf, ofBits, toBits}
+use Rattle.metres.specs.declared.Whole.the-variants as whole
+use Rattle.metres.specs.declared.Length.the-variants as length
+use Rattle.metres.specs.Metres.{centimetresOf, metresOf, wholeFigures, lengthFigures, plusZero}
+use Rattle.metres.specs.Patterns.{numberOf, isPlusZero}
+
+-- P10: 0.125 gives 12, 0.375 gives 38, -0.125 gives -12, 0.625 gives 62.
+p10-a : centimetresOf (numberOf 0x3fc0_0000_0000_0000) ≡ whole.Centimetres (pos 12)
+unfolding centimetresOf ofBits
+p10-a = refl
+
+p10-b : centimetresOf (numberOf 0x3fd8_0000_0000_0000) ≡ whole.Centimetres (pos 38)
+unfolding centimetresOf ofBits
+p10-b = refl
+
+p10-c : centimetresOf (numberOf 0xbfc0_0000_0000_0000) ≡ whole.Centimetres (negsuc 11)
+unfolding centimetresOf ofBits
+p10-c = refl
+
+p10-d : centimetresOf (numberOf 0x3fe4_0000_0000_0000) ≡ whole.Centimetres (pos 62)
+unfolding centimetresOf ofBits
+p10-d = refl
+
+-- The binary64 numbers next to 0.005 lie on both sides of it: the upper gives 1, the lower 0.
+above-half : centimetresOf (numberOf 0x3f74_7ae1_47ae_147b) ≡ whole.Centimetres (pos 1)
+unfolding centimetresOf ofBits
+above-half = refl
+
+below-half : centimetresOf (numberOf 0x3f74_7ae1_47ae_147a) ≡ whole.Centimetres (pos 0)
+unfolding centimetresOf ofBits
+below-half = refl
+
+-- 10,000,000 is read, the next number is refused, with 3 and 0, and so are NaN and the infinities.
+largest : centimetresOf (numberOf 0x4163_12d0_0000_0000) ≡ whole.Centimetres (pos 1_000_000_000)
+unfolding centimetresOf ofBits
+largest = refl
+
+too-large : wholeFigures (centimetresOf (numberOf 0x4163_12d0_0000_0001)) ≡ record { refusal = 3; centimetres = pos 0 }
+unfolding wholeFigures centimetresOf ofBits
+too-large = refl
+
+no-number : wholeFigures (centimetresOf nan) ≡ record { refusal = 3; centimetres = pos 0 }
+unfolding wholeFigures centimetresOf
+no-number = refl
+
+no-end : wholeFigures (centimetresOf (inf true)) ≡ record { refusal = 3; centimetres = pos 0 }
+unfolding wholeFigures centimetresOf
+no-end = refl
+
+-- Minus zero gives 0, and it is not plus zero.
+minus-zero : centimetresOf (numberOf 0x8000_0000_0000_0000) ≡ whole.Centimetres (pos 0)
+unfolding centimetresOf ofBits
+minus-zero = refl
+
+minus-zero-told : isPlusZero (numberOf 0x8000_0000_0000_0000) ≡ false
+unfolding isPlusZero ofBits toBits
+minus-zero-told = refl
+
+plus-zero-told : isPlusZero plusZero ≡ true
+unfolding isPlusZero toBits
+plus-zero-told = refl
+
+-- One centimetre in metres, and the first number that is not written, with 3 and plus zero.
+one-hundredth : metresOf (pos 1) ≡ length.Metres (numberOf 0x3f84_7ae1_47ae_147b)
+unfolding metresOf ofBits
+one-hundredth = refl
+
+too-many : lengthFigures (metresOf (negsuc 1_000_000_000)) ≡ record { refusal = 3; metres = plusZero }
+unfolding lengthFigures metresOf
+too-many = refl

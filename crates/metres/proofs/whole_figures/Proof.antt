@@ -1,0 +1,28 @@
+-- `metres::whole_figures`: the definition, case by case.
+use mathlib.Core.Path.{sym, ap, _∙_}
+use lib.IntN.{ℤ}
+use mir.Syntax.{w64}
+use mir.ValLaws.{toZ-ofZ}
+use borrow.Author.Needs.{needs}
+use Rattle.metres.specs.Metres.{wholeFigures}
+use Rattle.metres.proofs.whole_figures.Statement.{statement}
+use Rattle.metres.proofs.whole_figures.Tie as tie
+
+enum-known-w : tie.Need-enum-known-w
+enum-known-w c = search needs
+
+enum-told : tie.Need-enum-told
+enum-told c = search needs
+
+returns : tie.Need-returns
+unfolding wholeFigures
+returns c =
+    ap (λ (z : ℤ). record { refusal = 0; centimetres = z }) (toZ-ofZ w64 (c .before .w .given .0 .0) (record { sfits = c .known-told .given .0 .1 }))
+    ∙ ap wholeFigures (sym (c .before .w .given .1))
+
+returns-2 : tie.Need-returns-2
+unfolding wholeFigures
+returns-2 c = ap wholeFigures (sym (c .enum-told .given .1))
+
+pub whole-figures-spec : {M : Type 1} → statement M
+whole-figures-spec = tie.close (tie.spec enum-known-w enum-told returns returns-2)
