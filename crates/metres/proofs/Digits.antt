@@ -3,12 +3,12 @@
 use Prim.Native.Nat.{ℕ, zero, suc, _+_, _-_, _*_, _/_, _%_, _^_, _≤_, _<_}
 use mathlib.Core.Path.{_≡_, refl, sym, ap, _∙_, subst, subst⁻¹}
 use mathlib.Core.Bool.{Bool, true, false, not, cond, true≢false, false≢true}
-use native.Mathlib.Nat.{le-trans, le-of-eq, lt-of-le-of-lt, lt-of-lt-of-le, lt-of-not-le, lt-irrefl, le-of-suc-le-suc, le-add-right, mul-comm, mul-assoc, mul-right-comm, mul-one, mul-le-mul-left, mul-le-mul-right, le-of-mul-le-mul-right, eq-of-mul-eq-mul-right, mod-lt}
+use native.Mathlib.Nat.{le-trans, le-of-eq, lt-of-le-of-lt, lt-of-lt-of-le, lt-of-mul-lt-mul-right, lt-of-not-le, lt-irrefl, le-of-suc-le-suc, le-add-right, mul-comm, mul-assoc, mul-right-comm, mul-one, mul-le-mul-left, mul-le-mul-right, le-of-mul-le-mul-right, eq-of-mul-eq-mul-right, mod-lt}
 use native.Mathlib.Omega.{arith}
 use lib.Dec.{T, leb, ltb, eqb, lit<}
 use lib.Pow.{pow-add, pow-pos, pow-mono}
-use lib.IntN.{ℤ, pos}
-use lib.Ieee.{Float, nan, inf, fin, binary64, up, down, odd, fits, isNan, ofFields, ofBits, toBits, neg, lt, ne}
+use lib.IntN.{ℤ}
+use lib.Ieee.{Float, nan, inf, fin, binary64, up, down, odd, fits, isNan, ofFields, ofBits, toBits, lt, ne}
 use lib.Ieee.Fits.{down-pos}
 use lib.Ieee.Bits.{ofBits-toBits}
 use lib.Ieee.Exact.{HasValue, odd-sign}
@@ -18,64 +18,50 @@ use Rattle.metres.specs.declared.Hundredfold.the-variants.{Exact, Refuse
 use Rattle.metres.specs.Metres.{mostMetres, hundredfold}
 use Rattle.metres.specs.Hundredfolds.{IsHundredfold}
 
--- The limit as a number: by its pattern, which the code has, and by its value.
-abbrev pub limit : Float
-limit = ofBits binary64 0x4163_12d0_0000_0000
-
-limit-is : limit ≡ fin false 78125 (pos 7)
-unfolding ofBits
-limit-is = refl
-
-minus-limit-is : neg limit ≡ fin true 78125 (pos 7)
-unfolding ofBits neg
-minus-limit-is = refl
-
--- What is refused: NaN, and a number above the limit or below its negative.
+-- What is refused: NaN, and a number beyond one that has at least the size of the limit.
 pub refused-nan : (x : Float) → ne x x ≡ true → IsHundredfold x Refused
 refused-nan x h = subst⁻¹ (λ (y : Float). IsHundredfold y Refused) (differs-from-itself x (subst⁻¹ T h tt)) tt
 
-beyond : (m : ℕ) (e : ℤ) → ltb (mostMetres * down e) (m * up e * 1) ≡ true → mostMetres * down e < m * up e
-beyond m e h = subst (λ (y : ℕ). mostMetres * down e < y) (mul-one (m * up e)) (ltb-true (mostMetres * down e) (m * up e * 1) h)
+beyond : (a m : ℕ) (f e : ℤ) → mostMetres * down f ≤ a * up f → ltb (a * up f * down e) (m * up e * down f) ≡ true → mostMetres * down e < m * up e
+beyond a m f e least h =
+    lt-of-mul-lt-mul-right (down f)
+    (lt-of-le-of-lt (le-of-eq (mul-right-comm mostMetres (down e) (down f)))
+    (lt-of-le-of-lt (mul-le-mul-right (down e) least) (ltb-true (a * up f * down e) (m * up e * down f) h)))
 
-pub refused-above : (x : Float) → lt limit x ≡ true → IsHundredfold x Refused
+pub refused-above : (a : ℕ) (f : ℤ) (x : Float) → mostMetres * down f ≤ a * up f → lt (fin false a f) x ≡ true → IsHundredfold x Refused
 unfolding lt
-refused-above x h = go x (subst (λ (y : Float). lt y x ≡ true) limit-is h)
-  where
-    go : (x : Float) → lt (fin false 78125 (pos 7)) x ≡ true → IsHundredfold x Refused
-    go nan h = tt
-    go (inf s) h = tt
-    go (fin false m e) h = beyond m e h
-    go (fin true m e) h = absurd (false≢true h)
+refused-above a f nan least h = tt
+refused-above a f (inf s) least h = tt
+refused-above a f (fin false m e) least h = beyond a m f e least h
+refused-above a f (fin true m e) least h = absurd (false≢true h)
 
-pub refused-below : (x : Float) → lt x (neg limit) ≡ true → IsHundredfold x Refused
+pub refused-below : (a : ℕ) (f : ℤ) (x : Float) → mostMetres * down f ≤ a * up f → lt x (fin true a f) ≡ true → IsHundredfold x Refused
 unfolding lt
-refused-below x h = go x (subst (λ (y : Float). lt x y ≡ true) minus-limit-is h)
-  where
-    go : (x : Float) → lt x (fin true 78125 (pos 7)) ≡ true → IsHundredfold x Refused
-    go nan h = tt
-    go (inf s) h = tt
-    go (fin false m e) h = absurd (false≢true h)
-    go (fin true m e) h = beyond m e h
+refused-below a f nan least h = tt
+refused-below a f (inf s) least h = tt
+refused-below a f (fin false m e) least h = absurd (false≢true h)
+refused-below a f (fin true m e) least h = beyond a m f e least h
 
--- What is left is a finite number within the limit.
+-- What is left is a finite number within the limit, if the number it was compared with has at most the limit's size.
 abbrev pub Readable : Float → Type 0
 Readable nan = ⊥
 Readable (inf s) = ⊥
 Readable (fin s m e) = m * up e ≤ mostMetres * down e
 
-within : (m : ℕ) (e : ℤ) → ltb (mostMetres * down e) (m * up e * 1) ≡ false → m * up e ≤ mostMetres * down e
-within m e h = subst (λ (y : ℕ). y ≤ mostMetres * down e) (mul-one (m * up e)) (ltb-false (mostMetres * down e) (m * up e * 1) h)
+within : (a m : ℕ) (f e : ℤ) → a * up f ≤ mostMetres * down f → ltb (a * up f * down e) (m * up e * down f) ≡ false → m * up e ≤ mostMetres * down e
+within a m f e most h =
+    le-of-mul-le-mul-right
+    (le-trans (ltb-false (a * up f * down e) (m * up e * down f) h)
+    (le-trans (mul-le-mul-right (down e) most) (le-of-eq (mul-right-comm mostMetres (down f) (down e)))))
+    (down-pos f)
 
-pub readable : (x : Float) → ne x x ≡ false → lt limit x ≡ false → lt x (neg limit) ≡ false → Readable x
+pub readable : (a b : ℕ) (f g : ℤ) (x : Float) → a * up f ≤ mostMetres * down f → b * up g ≤ mostMetres * down g → ne x x ≡ false → lt (fin false a f) x ≡ false → lt x (fin true b g) ≡ false → Readable x
 unfolding lt ne
-readable x same above below = go x same (subst (λ (y : Float). lt y x ≡ false) limit-is above) (subst (λ (y : Float). lt x y ≡ false) minus-limit-is below)
-  where
-    go : (x : Float) → ne x x ≡ false → lt (fin false 78125 (pos 7)) x ≡ false → lt x (fin true 78125 (pos 7)) ≡ false → Readable x
-    go nan same above below = true≢false same
-    go (inf true) same above below = true≢false below
-    go (inf false) same above below = true≢false above
-    go (fin false m e) same above below = within m e above
-    go (fin true m e) same above below = within m e below
+readable a b f g nan high low same above below = true≢false same
+readable a b f g (inf true) high low same above below = true≢false below
+readable a b f g (inf false) high low same above below = true≢false above
+readable a b f g (fin false m e) high low same above below = within a m f e high above
+readable a b f g (fin true m e) high low same above below = within b m g e low below
 
 pub not-nan : (x : Float) → ne x x ≡ false → T (not (isNan x))
 unfolding ne isNan

@@ -3,6 +3,7 @@ pub mod Rounding
 pub mod Answers
 pub mod Back
 pub mod PatternLaws
+mod Sizes
 mod Exact
 mod Digits
 mod Worked

@@ -1,6 +1,7 @@
 // Metres and whole centimetres, and binary64 numbers in bytes.
 ghost use mathlib.Core.Path.{_≡_};
 ghost use Prim.Native.Nat.{_<_, _^_};
+ghost use lib.IntN.{natAbs};
 ghost use lib.Ieee.Nearest.{closest};
 ghost use Rattle.fields.specs.Fields.{inside};
 ghost use Rattle.metres.specs.Metres.{signed, centimetresOf, metresOf, wholeFigures, lengthFigures, ReadsBack};
@@ -47,7 +48,7 @@ enum Hundredfold {
     Refused,
 }
 
-const MOST_CENTIMETRES: i64 = 1_000_000_000;
+const MOST_CENTIMETRES: u64 = 1_000_000_000;
 
 // A number of metres in whole centimetres: the nearest to exactly 100 times the number, a tie going to the even one.
 pub fn centimetres(x: f64) -> Whole
@@ -71,14 +72,21 @@ pub fn metres(c: i64) -> Length
     ensures answer { λ r. ⌜ r ≡ metresOf c ⌝ }
     ensures back { λ r. ⌜ ReadsBack c r ⌝ }
 {
-    if c < -MOST_CENTIMETRES {
-        return Length::Refused;
-    }
-    if c > MOST_CENTIMETRES {
+    if size(c) > MOST_CENTIMETRES {
         return Length::Refused;
     }
     let quotient = c as f64 / 100.0;
     Length::Metres(quotient)
+}
+
+// The size of a number. The least number has no negative, so it goes by its neighbour.
+pub fn size(c: i64) -> u64
+    ensures { λ r. ⌜ r ≡ natAbs c ⌝ }
+{
+    if c < 0 {
+        return (0 - (c + 1)) as u64 + 1;
+    }
+    c as u64
 }
 
 // An answer in centimetres as figures.
@@ -86,14 +94,8 @@ pub fn whole_figures(w: Whole) -> WholeFigures
     ensures { λ r. ⌜ r ≡ wholeFigures w ⌝ }
 {
     match w {
-        Whole::Centimetres(centimetres) => WholeFigures {
-            refusal: 0,
-            centimetres,
-        },
-        Whole::Refused => WholeFigures {
-            refusal: 3,
-            centimetres: 0,
-        },
+        Whole::Centimetres(centimetres) => whole_told(0, centimetres),
+        Whole::Refused => whole_told(3, 0),
     }
 }
 
@@ -102,11 +104,8 @@ pub fn length_figures(l: Length) -> LengthFigures
     ensures { λ r. ⌜ r ≡ lengthFigures l ⌝ }
 {
     match l {
-        Length::Metres(metres) => LengthFigures { refusal: 0, metres },
-        Length::Refused => LengthFigures {
-            refusal: 3,
-            metres: 0.0,
-        },
+        Length::Metres(metres) => length_told(0, metres),
+        Length::Refused => length_told(3, 0.0),
     }
 }
 
@@ -155,6 +154,21 @@ pub fn put_number(s: &mut [u8], at: usize, x: f64) -> bool
     ensures back { λ r. ⌜ ReadsThere (now (s .entry)) (now (s .exit)) at x ⌝ }
 {
     fields::put_eight(s, at, pattern_of(x))
+}
+
+fn whole_told(refusal: u32, centimetres: i64) -> WholeFigures
+    ensures { λ r. ⌜ r ≡ record { refusal = refusal; centimetres = centimetres } ⌝ }
+{
+    WholeFigures {
+        refusal,
+        centimetres,
+    }
+}
+
+fn length_told(refusal: u32, metres: f64) -> LengthFigures
+    ensures { λ r. ⌜ r ≡ record { refusal = refusal; metres = metres } ⌝ }
+{
+    LengthFigures { refusal, metres }
 }
 
 // Exactly 100 times a number, from the fields of its pattern: the exponent's, and the digits below the leading one. An

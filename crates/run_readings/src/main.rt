@@ -1,7 +1,5 @@
 // Prints the readings expected at places of several chains: a line `chain` with the stations' eastings and northings, then
 // for each place a line of its easting and northing, the refusal and the two readings.
-ghost use mathlib.Core.Path.{_≡_};
-ghost use lib.IntN.{natAbs};
 use chart::Chain;
 use chart::Place;
 
@@ -139,15 +137,5 @@ fn signed(x: i64) {
     } else {
         io::write_all(1, b" ");
     }
-    io::print_decimal(1, size(x));
-}
-
-// The size of a number. The least number has no negative, so it goes by its neighbour.
-fn size(x: i64) -> u64
-    ensures { λ r. ⌜ r ≡ natAbs x ⌝ }
-{
-    if x < 0 {
-        return (0 - (x + 1)) as u64 + 1;
-    }
-    x as u64
+    io::print_decimal(1, metres::size(x));
 }

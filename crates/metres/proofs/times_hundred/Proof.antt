@@ -1,7 +1,7 @@
 -- `metres::times_hundred`: what is refused by its comparisons, and what the fields of the pattern say of the rest.
 use mathlib.Core.Path.{subst⁻¹}
-use lib.Dec.{T}
-use lib.Ieee.{Float, binary64, fits}
+use lib.Dec.{T, lit≤}
+use lib.Ieee.{Float, binary64, fits, ofBits, neg}
 use borrow.Author.Needs.{needs}
 use Rattle.metres.proofs.Digits.{Readable, refused-nan, refused-above, refused-below, readable, not-nan, without-lead, exponent-few, with-lead}
 use Rattle.metres.proofs.times_hundred.Statement.{statement}
@@ -11,10 +11,12 @@ returns : tie.Need-returns
 returns c = refused-nan (c .before .args .x) (c .if1 .taken)
 
 returns-2 : tie.Need-returns-2
-returns-2 c = refused-above (c .before .before .args .x) (c .if2 .taken)
+unfolding ofBits
+returns-2 c = refused-above _ _ (c .before .before .args .x) (lit≤ tt) (c .if2 .taken)
 
 returns-3 : tie.Need-returns-3
-returns-3 c = refused-below (c .before .before .before .args .x) (c .if3 .taken)
+unfolding ofBits neg
+returns-3 c = refused-below _ _ (c .before .before .before .args .x) (lit≤ tt) (c .if3 .taken)
 
 -- What is left when all three tests are passed.
 module _ (c : tie.Else3) where
@@ -25,7 +27,8 @@ module _ (c : tie.Else3) where
   held = subst⁻¹ T (c .before .before .before .good .0 .1) tt
 
   inside : Readable x
-  inside = readable x (c .before .before .if1 .left) (c .before .if2 .left) (c .if3 .left)
+  unfolding ofBits neg
+  inside = readable _ _ _ _ x (lit≤ tt) (lit≤ tt) (c .before .before .if1 .left) (c .before .if2 .left) (c .if3 .left)
 
 float-to-bits-pattern : tie.Need-float-to-bits-pattern
 float-to-bits-pattern c = not-nan (x c) (c .before .before .if1 .left)

@@ -1,4 +1,4 @@
--- `run_readings::size` meets its contract: a number below 0 goes by its neighbour, and any other is its own size.
+-- `metres::size` meets its contract: a number below 0 goes by its neighbour, and any other is its own size.
 use Prim.Native.Nat.{_+_, _^_, _≤_}
 use mathlib.Core.Path.{_≡_, sym, ap, _∙_, subst⁻¹}
 use native.Mathlib.Omega.{arith}
@@ -9,34 +9,34 @@ use lib.Signed.{ltZ, nonNeg, natAbs-le}
 use mir.Syntax.{w64}
 use mir.Val.{Fits, SFits, toZ, ofZ}
 use mir.ValLaws.{toZ-ofZ}
-use Rattle.run_readings.proofs.Sizes.{Turned, turned-below, not-below}
-use Rattle.run_readings.proofs.size.Statement.{statement}
-use Rattle.run_readings.proofs.size.Tie as tie
+use Rattle.metres.proofs.Sizes.{Turned, turned-below, not-below}
+use Rattle.metres.proofs.size.Statement.{statement}
+use Rattle.metres.proofs.size.Tie as tie
 
 -- The argument, as the machine reads it back from its bits.
-same : (c : tie.Start) → toZ w64 (ofZ w64 (c .args .x)) ≡ c .args .x
-same c = toZ-ofZ w64 (c .args .x) (c .fits .x)
+same : (c : tie.Start) → toZ w64 (ofZ w64 (c .args .c)) ≡ c .args .c
+same c = toZ-ofZ w64 (c .args .c) (c .fits .c)
 
-below : (c : tie.Then1) → Turned (c .before .args .x)
+below : (c : tie.Then1) → Turned (c .before .args .c)
 below c =
-    turned-below (c .before .args .x) (c .before .fits .x)
+    turned-below (c .before .args .c) (c .before .fits .c)
     (ap (λ (z : ℤ). ltZ z (pos 0)) (sym (same (c .before))) ∙ c .if1 .taken)
 
 add-result : tie.Need-add-result
 add-result c = subst⁻¹ (λ (z : ℤ). SFits w64 (z +ℤ pos 1)) (same (c .before)) (below c .up)
 
-neighbour : (c : tie.Then1) → toZ w64 (ofZ w64 (toZ w64 (ofZ w64 (c .before .args .x)) +ℤ pos 1)) ≡ c .before .args .x +ℤ pos 1
+neighbour : (c : tie.Then1) → toZ w64 (ofZ w64 (toZ w64 (ofZ w64 (c .before .args .c)) +ℤ pos 1)) ≡ c .before .args .c +ℤ pos 1
 neighbour c = toZ-ofZ w64 _ (add-result c) ∙ ap (λ (z : ℤ). z +ℤ pos 1) (same (c .before))
 
 sub-result : tie.Need-sub-result
 sub-result c = subst⁻¹ (λ (z : ℤ). SFits w64 (pos 0 -ℤ z)) (neighbour c) (below c .turned)
 
-turned : (c : tie.Then1) → toZ w64 (ofZ w64 (pos 0 -ℤ toZ w64 (ofZ w64 (toZ w64 (ofZ w64 (c .before .args .x)) +ℤ pos 1)))) ≡ pos 0 -ℤ (c .before .args .x +ℤ pos 1)
+turned : (c : tie.Then1) → toZ w64 (ofZ w64 (pos 0 -ℤ toZ w64 (ofZ w64 (toZ w64 (ofZ w64 (c .before .args .c)) +ℤ pos 1)))) ≡ pos 0 -ℤ (c .before .args .c +ℤ pos 1)
 turned c = toZ-ofZ w64 _ (sub-result c) ∙ ap (λ (z : ℤ). pos 0 -ℤ z) (neighbour c)
 
 -- One more than the turned number's size is the size, and at most 2 ^ 63.
-small : (c : tie.Then1) → natAbs (c .before .args .x) ≤ 2 ^ 63
-small c = natAbs-le (c .before .args .x) (c .before .fits .x .sfits)
+small : (c : tie.Then1) → natAbs (c .before .args .c) ≤ 2 ^ 63
+small c = natAbs-le (c .before .args .c) (c .before .fits .c .sfits)
 
 cast-result : tie.Need-cast-result
 cast-result c =
@@ -53,7 +53,7 @@ returns c = ap (λ (z : ℤ). natAbs z + 1) (turned c) ∙ below c .size
 cast-result-2 : tie.Need-cast-result-2
 cast-result-2 c =
     subst⁻¹ (λ (z : ℤ). T (nonNeg z) × Fits w64 (natAbs z)) (same (c .before))
-    (not-below (c .before .args .x) (c .before .fits .x) (ap (λ (z : ℤ). ltZ z (pos 0)) (sym (same (c .before))) ∙ c .if1 .left))
+    (not-below (c .before .args .c) (c .before .fits .c) (ap (λ (z : ℤ). ltZ z (pos 0)) (sym (same (c .before))) ∙ c .if1 .left))
 
 returns-2 : tie.Need-returns-2
 returns-2 c = search needs

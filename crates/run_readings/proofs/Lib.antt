@@ -1,2 +1,0 @@
--- What the printing of signed numbers rests on.
-mod Sizes
