@@ -87,7 +87,7 @@ fields-value s (suc j) digits h =
     (finite (eqb (suc j) 2047) (eqb digits 0) s (odd 53 s (2 ^ 52 + digits) j 1074) h)
     (odd-sign 53 s (2 ^ 52 + digits) j 1074)
 
--- Within the limit, the exponent is at most 1075.
+-- Within the limit, which is below 2 ^ 24, the exponent is at most 1046.
 units-limit : (x : Float) (s : Bool) (n : ℕ) → Readable x → HasValue x s n (2 ^ 1074) → n ≤ mostMetres * 2 ^ 1074
 units-limit nan s n h v = absurd h
 units-limit (inf t) s n h v = absurd h
@@ -96,14 +96,14 @@ units-limit (fin t m e) s n h v =
     (le-trans (le-of-eq (sym (v .1))) (le-trans (mul-le-mul-right (2 ^ 1074) h) (le-of-eq (mul-right-comm mostMetres (down e) (2 ^ 1074)))))
     (down-pos e)
 
-exponent-limit : (j digits : ℕ) → (2 ^ 52 + digits) * 2 ^ j ≤ mostMetres * 2 ^ 1074 → j ≤ 1074
-exponent-limit j digits h = le-of-suc-le-suc (lt-of-not-le (λ (many : 1075 ≤ j). lt-irrefl (2 ^ 52 * 2 ^ j) (go many)))
+exponent-limit : (j digits : ℕ) → (2 ^ 52 + digits) * 2 ^ j ≤ mostMetres * 2 ^ 1074 → j ≤ 1045
+exponent-limit j digits h = le-of-suc-le-suc (lt-of-not-le (λ (many : 1046 ≤ j). lt-irrefl (2 ^ 52 * 2 ^ j) (go many)))
   where
-    go : 1075 ≤ j → 2 ^ 52 * 2 ^ j < 2 ^ 52 * 2 ^ j
+    go : 1046 ≤ j → 2 ^ 52 * 2 ^ j < 2 ^ 52 * 2 ^ j
     go many =
         let low : 2 ^ 52 * 2 ^ j ≤ (2 ^ 52 + digits) * 2 ^ j = mul-le-mul-right (2 ^ j) (le-add-right (2 ^ 52) digits) in
-        let high : mostMetres * 2 ^ 1074 < 2 ^ 52 * 2 ^ 1075 = lit< tt in
-        let more : 2 ^ 52 * 2 ^ 1075 ≤ 2 ^ 52 * 2 ^ j = mul-le-mul-left (2 ^ 52) (pow-mono many) in
+        let high : mostMetres * 2 ^ 1074 < 2 ^ 52 * 2 ^ 1046 = lit< tt in
+        let more : 2 ^ 52 * 2 ^ 1046 ≤ 2 ^ 52 * 2 ^ j = mul-le-mul-left (2 ^ 52) (pow-mono many) in
         lt-of-le-of-lt low (lt-of-le-of-lt h (lt-of-lt-of-le high more))
 
 -- From so many units to an exact hundredfold.
@@ -168,14 +168,14 @@ module _ (x : Float) (held : T (fits binary64 x)) (h : Readable x) where
   past-zero : (exponent ≡ 0 → ⊥) → exponent ≡ suc (exponent - 1)
   past-zero e = omega (arith, e)
 
-  low : (exponent ≡ 0 → ⊥) → exponent - 1 ≤ 1074
+  low : (exponent ≡ 0 → ⊥) → exponent - 1 ≤ 1045
   low e = exponent-limit (exponent - 1) digits (units-limit x minus ((2 ^ 52 + digits) * 2 ^ (exponent - 1)) h (value (suc (exponent - 1)) (past-zero e)))
 
-  pub exponent-few : (exponent ≡ 0 → ⊥) → exponent ≤ 1075
+  pub exponent-few : (exponent ≡ 0 → ⊥) → exponent ≤ 1046
   exponent-few e = omega (arith, low e)
 
   pub with-lead : (exponent ≡ 0 → ⊥) → IsHundredfold x (Exact minus ((2 ^ 52 + digits) * 100) (1075 - exponent))
   with-lead e =
       let halvings : 1074 - (exponent - 1) ≡ 1075 - exponent = omega (arith, low e, e) in
       subst (λ (k : ℕ). IsHundredfold x (Exact minus ((2 ^ 52 + digits) * 100) k)) halvings
-      (exact-of x minus ((2 ^ 52 + digits) * 2 ^ (exponent - 1)) ((2 ^ 52 + digits) * 100) (1074 - (exponent - 1)) (value (suc (exponent - 1)) (past-zero e)) h (omega (arith, digits-few)) (halved (2 ^ 52 + digits) (exponent - 1) (low e)))
+      (exact-of x minus ((2 ^ 52 + digits) * 2 ^ (exponent - 1)) ((2 ^ 52 + digits) * 100) (1074 - (exponent - 1)) (value (suc (exponent - 1)) (past-zero e)) h (omega (arith, digits-few)) (halved (2 ^ 52 + digits) (exponent - 1) (omega (arith, low e))))

@@ -2,6 +2,7 @@
 use Prim.Native.Nat.{_%_, _^_}
 use mathlib.Core.Path.{_≡_, refl, sym, _∙_, subst⁻¹}
 use mathlib.Core.Bool.{Bool, not}
+use native.Mathlib.Omega.{arith}
 use lib.Dec.{T}
 use lib.Ieee.{nan, binary64, div, ofBits}
 use lib.Ieee.Bits.{nanBits-above}
@@ -19,12 +20,12 @@ nothing = refl
 returns : tie.Need-returns
 returns c =
     let p = c .before .args .pattern in
-    nothing ∙ sym (only-nan (numberOf p) (nan-above p ∙ lt-ltb 0x7ff0_0000_0000_0000 (p % 2 ^ 63) (c .if1 .taken)))
+    nothing ∙ sym (only-nan (numberOf p) (nan-above p ∙ lt-ltb 0x7ff0_0000_0000_0000 (p % 2 ^ 63) (omega (arith, c .if1 .taken))))
 
 float-from-bits-result : tie.Need-float-from-bits-result
 float-from-bits-result c =
     let p = c .before .args .pattern in
-    subst⁻¹ (λ (t : Bool). T (not t)) (nanBits-above binary64 p ∙ le-ltb 0x7ff0_0000_0000_0000 (p % 2 ^ 63) (c .if1 .left)) tt
+    subst⁻¹ (λ (t : Bool). T (not t)) (nanBits-above binary64 p ∙ le-ltb 0x7ff0_0000_0000_0000 (p % 2 ^ 63) (omega (arith, c .if1 .left))) tt
 
 returns-2 : tie.Need-returns-2
 returns-2 c = search needs

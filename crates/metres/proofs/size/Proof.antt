@@ -45,7 +45,7 @@ cast-result c =
 
 add-result-2 : tie.Need-add-result-2
 add-result-2 c =
-    subst⁻¹ (λ (z : ℤ). Fits w64 (natAbs z + 1)) (turned c) (record { fits = omega (arith, small c, below c .size) })
+    record { fits = omega (arith, small c, below c .size, ap natAbs (turned c)) }
 
 returns : tie.Need-returns
 returns c = ap (λ (z : ℤ). natAbs z + 1) (turned c) ∙ below c .size

@@ -1,5 +1,6 @@
 -- `metres::times_hundred`: what is refused by its comparisons, and what the fields of the pattern say of the rest.
 use mathlib.Core.Path.{subst⁻¹}
+use native.Mathlib.Omega.{arith}
 use lib.Dec.{T, lit≤}
 use lib.Ieee.{Float, binary64, fits, ofBits, neg}
 use borrow.Author.Needs.{needs}
@@ -50,7 +51,7 @@ mul-parts-2 c = search needs
 sub-halvings : tie.Need-sub-halvings
 sub-halvings c =
     let t = c .before in
-    exponent-few (x t) (held t) (inside t) (c .if4 .left)
+    omega (arith, exponent-few (x t) (held t) (inside t) (c .if4 .left))
 
 returns-5 : tie.Need-returns-5
 returns-5 c =
