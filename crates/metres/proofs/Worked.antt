@@ -64,6 +64,11 @@ plus-zero-told : isPlusZero plusZero ≡ true
 unfolding isPlusZero toBits
 plus-zero-told = refl
 
+-- No centimetres in metres are plus zero.
+none-in-metres : metresOf (pos 0) ≡ length.Metres plusZero
+unfolding metresOf
+none-in-metres = refl
+
 -- One centimetre in metres, and the first number that is not written, with 3 and plus zero.
 one-hundredth : metresOf (pos 1) ≡ length.Metres (numberOf 0x3f84_7ae1_47ae_147b)
 unfolding metresOf ofBits
