@@ -23,8 +23,10 @@ use Rattle.metres.specs.declared.Length.the-variants.{Metres, Refused}
 use Rattle.metres.specs.Metres.{mostMetres, mostCentimetres, signed, hundredfold, centimetresOf, hundredthOf, metresOf, lengthFigures, ReadsBack}
 use Rattle.metres.proofs.Rounding.{Near, less-than-half, closest-near, near-only}
 use Rattle.metres.proofs.Answers.{given}
+use Rattle.metres.proofs.Exact.{hundredfold-value}
 
--- In whole numbers: q is nearest to n / 100 in units of one / fine, of which more than 100 make a whole one.
+-- In whole numbers: if q units are nearest to n / 100, and 100 units are less than 1, then n is nearest to 100 times the q
+-- units. A unit is unit / fine.
 comes-back : (n q unit fine : ℕ) → 100 * unit < fine → Near (n * fine) (100 * unit) q → Near (100 * (q * unit)) fine n
 comes-back n q unit fine few near =
     let turned : q * (100 * unit) ≡ 100 * (q * unit) = mul-left-comm q 100 unit in
@@ -34,7 +36,7 @@ comes-back n q unit fine few near =
 whole-closest : (c : ℕ) → closest c 1 ≡ c
 whole-closest c = sym (near-only c 1 c (lit< tt) (less-than-half c 1 c (omega (arith, mul-one c))))
 
--- And it is within the limit, which is a whole number c of those units.
+-- The q units are within the limit, which is a whole number c of them.
 no-more : (n unit fine c : ℕ) → 0 < unit → c * unit ≡ mostMetres * fine → n ≤ mostCentimetres → closest (n * fine) (100 * unit) * unit ≤ mostMetres * fine
 no-more n unit fine c some is h =
     let larger : n * fine * 1 ≤ c * (100 * unit) =
@@ -87,8 +89,7 @@ of-value (fin t m e) s units n v h is =
     let within : m * up e ≤ mostMetres * down e =
     le-of-mul-le-mul-right (le-trans (le-of-eq (v .1)) (le-trans (mul-le-mul-right (down e) h) (le-of-eq (mul-right-comm mostMetres (2 ^ 1074) (down e))))) (pow-pos 1074) in
     let same : closest (hundredfold m e) (down e) ≡ closest (100 * units) (2 ^ 1074) =
-    closest-same (hundredfold m e) (down e) (100 * units) (2 ^ 1074) (down-pos e) (pow-pos 1074)
-    (mul-assoc 100 (m * up e) (2 ^ 1074) ∙ ap (λ (y : ℕ). 100 * y) (v .1) ∙ sym (mul-assoc 100 units (down e))) in
+    closest-same (hundredfold m e) (down e) (100 * units) (2 ^ 1074) (down-pos e) (pow-pos 1074) (hundredfold-value t s m units (2 ^ 1074) e v) in
     given t m e within ∙ ap₂ (λ (u : Bool) (c : ℕ). Centimetres (signed u c)) (v .0) (same ∙ sym is)
 
 -- Divided by 100, a whole number is `round` of the fraction.

@@ -17,6 +17,7 @@ use borrow.Author.Tests.{ltb-true, ltb-false}
 use Rattle.metres.specs.declared.Hundredfold.the-variants.{Exact, Refused}
 use Rattle.metres.specs.Metres.{mostMetres, hundredfold}
 use Rattle.metres.specs.Hundredfolds.{IsHundredfold}
+use Rattle.metres.proofs.Exact.{hundredfold-value}
 
 -- What is refused: NaN, and a number beyond one that has at least the size of the limit.
 pub refused-nan : (x : Float) → ne x x ≡ true → IsHundredfold x Refused
@@ -63,6 +64,7 @@ readable a b f g (inf false) high low same above below = true≢false above
 readable a b f g (fin false m e) high low same above below = within a m f e high above
 readable a b f g (fin true m e) high low same above below = within b m g e low below
 
+-- A number that equals itself is not NaN.
 pub not-nan : (x : Float) → ne x x ≡ false → T (not (isNan x))
 unfolding ne isNan
 not-nan nan h = absurd (true≢false h)
@@ -116,7 +118,7 @@ exact-of (fin t m e) s n parts halvings v h few same = record {
   few = few;
   exact = eq-of-mul-eq-mul-right (2 ^ 1074) (pow-pos 1074) (hundredfold m e * 2 ^ halvings) (parts * down e)
       (mul-right-comm (hundredfold m e) (2 ^ halvings) (2 ^ 1074)
-      ∙ ap (λ (y : ℕ). y * 2 ^ halvings) (mul-assoc 100 (m * up e) (2 ^ 1074) ∙ ap (λ (y : ℕ). 100 * y) (v .1) ∙ sym (mul-assoc 100 n (down e)))
+      ∙ ap (λ (y : ℕ). y * 2 ^ halvings) (hundredfold-value t s m n (2 ^ 1074) e v)
       ∙ mul-right-comm (100 * n) (down e) (2 ^ halvings)
       ∙ ap (λ (y : ℕ). y * down e) same
       ∙ mul-right-comm parts (2 ^ 1074) (down e));
@@ -160,6 +162,7 @@ module _ (x : Float) (held : T (fits binary64 x)) (h : Readable x) where
   digits-few : digits < 2 ^ 52
   digits-few = mod-lt pattern (pow-pos 52)
 
+  -- With an exponent of 0: the digits.
   pub without-lead : exponent ≡ 0 → IsHundredfold x (Exact minus (digits * 100) 1074)
   without-lead e =
       exact-of x minus (digits * 2 ^ 0) (digits * 100) 1074 (value 0 e) h (omega (arith, digits-few))
@@ -171,9 +174,11 @@ module _ (x : Float) (held : T (fits binary64 x)) (h : Readable x) where
   low : (exponent ≡ 0 → ⊥) → exponent - 1 ≤ 1045
   low e = exponent-limit (exponent - 1) digits (units-limit x minus ((2 ^ 52 + digits) * 2 ^ (exponent - 1)) h (value (suc (exponent - 1)) (past-zero e)))
 
+  -- Within the limit the exponent is below 1075, so there are halvings from 0 up.
   pub exponent-few : (exponent ≡ 0 → ⊥) → exponent ≤ 1046
   exponent-few e = omega (arith, low e)
 
+  -- With any other: the digits after a leading one.
   pub with-lead : (exponent ≡ 0 → ⊥) → IsHundredfold x (Exact minus ((2 ^ 52 + digits) * 100) (1075 - exponent))
   with-lead e =
       let halvings : 1074 - (exponent - 1) ≡ 1075 - exponent = omega (arith, low e, e) in

@@ -20,6 +20,7 @@ use Rattle.metres.specs.Patterns.{numberOf, patternOf, isPlusZero, numbe
 pub nan-above : (pattern : ℕ) → isNan (numberOf pattern) ≡ ltb 0x7ff0_0000_0000_0000 (pattern % 2 ^ 63)
 nan-above pattern = sym (nanBits-is binary64 pattern) ∙ nanBits-above binary64 pattern
 
+-- NaN is one number.
 pub only-nan : (x : Float) → isNan x ≡ true → x ≡ nan
 unfolding isNan
 only-nan nan h = refl
@@ -54,11 +55,12 @@ plus-zero-bytes pattern small = go (isNan (numberOf pattern)) refl
         ∙ nan-pattern
         ∙ sym (ne-eqb pattern 0 (λ z. false≢true (sym zero-no-nan ∙ ap (λ (p : ℕ). isNan (numberOf p)) (sym z) ∙ h)))
 
--- What reading a number answers, by what reading eight bytes does.
+-- The answer about a number, made of the answer about its eight bytes.
 abbrev pub numberIn : Eight → Number
 numberIn (eight.Value pattern) = Value (numberOf pattern)
 numberIn eight.Outside = Outside
 
+-- The number at a place is that of the eight bytes there.
 pub number-of-eight : (s : List ℕ) (at : ℕ) → numberIn (eightAt s at) ≡ numberAt s at
 unfolding numberAt
 number-of-eight s at = go (inside 8 s at) refl

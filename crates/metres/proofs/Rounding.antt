@@ -20,14 +20,17 @@ less-than-half a b c h = record { near = omega arith; tie = λ t. absurd (omega 
 
 -- A quotient and its remainder say which number is near.
 module _ (a b q r : ℕ) (whole : q * b + r ≡ a) where
+  -- Where the rest is less than a half, the quotient.
   pub rest-less : r * 2 < b → Near a b q
   rest-less h = less-than-half a b q (omega arith)
 
+  -- Where it is more, the next number.
   pub rest-more : r < b → b < r * 2 → Near a b (q + 1)
   rest-more l h =
       let up : (q + 1) * b ≡ q * b + 1 * b = add-mul q 1 b in
       less-than-half a b (q + 1) (omega arith)
 
+  -- Where it is a half, the even one of the two.
   pub rest-half : r * 2 ≡ b → Near a b (q + q % 2)
   rest-half h =
       let up : (q + q % 2) * b ≡ q * b + q % 2 * b = add-mul q (q % 2) b in
@@ -42,6 +45,7 @@ near-of a b q r Ordering·lt whole l le more half not-half =
 near-of a b q r Ordering·eq whole l le more half not-half = rest-half a b q r whole (half tt)
 near-of a b q r Ordering·gt whole l le more half not-half = subst (Near a b) (add-one q) (rest-more a b q r whole l (more tt))
 
+-- `closest a b` is near.
 pub closest-near : (a b : ℕ) → 0 < b → Near a b (closest a b)
 closest-near a b pos =
     near-of a b (a / b) (a % b) (compare (a % b * 2) b) (div-add-mod' a b) (mod-lt a pos)
@@ -60,6 +64,7 @@ not-less a b c d pos m n l =
     let even-d : d % 2 ≡ 0 = n .tie (omega arith) in
     omega arith
 
+-- And nothing else is.
 pub near-only : (a b c : ℕ) → 0 < b → Near a b c → c ≡ closest a b
 near-only a b c pos n =
     let d = closest a b in

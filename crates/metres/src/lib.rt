@@ -211,6 +211,7 @@ fn rounded(parts: u64, halvings: u64) -> u64
     requires { ⌜ parts < 2 ^ 60 ⌝ }
     ensures { λ r. ⌜ r ≡ closest parts (2 ^ halvings) ⌝ }
 {
+    // One would be 2 ^ 62 parts or more, and there are fewer than 2 ^ 60.
     if halvings >= 62 {
         return 0;
     }
