@@ -61,13 +61,17 @@ def metres(number):
     return 0, pattern_of(Fraction(abs(number), 100)) + (MINUS if number < 0 else 0)
 
 
+def in_hex(eight):
+    return f"{int.from_bytes(eight, 'little'):016x}"
+
+
 def buffer_after(at, pattern):
     """Ten bytes of 170 after eight are put at a place: the numbers in the first eight and in the last."""
     held = bytearray([170] * 10)
-    if at + 8 > 10:
-        return f"outside {int.from_bytes(held[:8], 'little'):016x} {int.from_bytes(held[2:], 'little'):016x}"
-    held[at : at + 8] = pattern.to_bytes(8, "little")
-    return f"{int.from_bytes(held[:8], 'little'):016x} {int.from_bytes(held[2:], 'little'):016x}"
+    inside = at + 8 <= 10
+    if inside:
+        held[at : at + 8] = pattern.to_bytes(8, "little")
+    return ("" if inside else "outside ") + in_hex(held[:8]) + " " + in_hex(held[2:])
 
 
 def expected_of(line):
@@ -90,7 +94,7 @@ def opening():
     largest = 2**64 - 1
     for length, at in (12, 0), (12, 1), (12, 4), (12, 5), (12, 12), (12, largest), (8, 0), (8, 1), (7, 0), (0, 0):
         inside = at + 8 <= length
-        yield f"at {length} {at} " + (f"{int.from_bytes(held[at:at + 8], 'little'):016x}" if inside else "outside")
+        yield f"at {length} {at} " + (in_hex(held[at : at + 8]) if inside else "outside")
     for at in 0, 2, 3, largest:
         yield f"put {at} {buffer_after(at, 0x3FF8000000000000)}"
 

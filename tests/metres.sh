@@ -7,7 +7,7 @@ seed=${1:-20261115}
 vectors=$(mktemp) printed=$(mktemp) wanted=$(mktemp)
 trap 'rm -f "$vectors" "$printed" "$wanted"' EXIT
 
-# The vectors that have a reason, which the crate keeps as its input, then as many at random.
+# The vectors that have a reason, which the crate keeps as its input, then 1,000 of each of six kinds at random.
 python3 tests/metres.py named >"$vectors"
 pass_if 'the input of run_metres has the vectors that have a reason' cmp -s "$vectors" crates/run_metres/stdin
 python3 tests/metres.py random "$seed" 1000 >>"$vectors"

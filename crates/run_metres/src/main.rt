@@ -1,7 +1,7 @@
 // Reads lines of a letter, a space and 16 hexadecimal digits, and prints each with what it comes to. After `m` stands the
 // pattern of a number of metres: the refusal and the centimetres follow, the pattern of the number, what ten bytes of 170
-// hold after the number is put at 1, and 1 for plus zero, else 0. After `c` stands a number of centimetres, below zero by its complement: the
-// refusal and the pattern of the metres follow, and the refusal and the centimetres that the metres give again.
+// hold after the number is put at 1, and 1 for plus zero, else 0. After `c` stands a number of centimetres, below zero by its
+// complement: the refusal and the pattern of the metres follow, and the refusal and the centimetres that the metres give again.
 ghost use Prim.Native.Nat.{_+_, _≤_, _<_};
 ghost use lib.ListN.{length};
 use fields::Eight;
@@ -81,10 +81,16 @@ fn hex(n: u64) {
     io::print_hex(1, n, 16);
 }
 
+// Nothing says that standard input ends, and a loop must: so many lines and no more.
+const MOST_LINES: u64 = 1_000_000_000;
+
 fn each_line() {
-    let mut left = u64::MAX;
-    while left > 0 && one_line() {
-        left -= 1;
+    let mut told: u64 = 0;
+    while told < MOST_LINES {
+        if !one_line() {
+            return;
+        }
+        told += 1;
     }
 }
 
