@@ -136,7 +136,8 @@ fn range(p: Place, station: Place) -> u64
     squares::root(e * e + n * n)
 }
 
-fn gap(a: u32, b: u32) -> u64
+// How far two numbers lie apart.
+pub fn gap(a: u32, b: u32) -> u64
     ensures { λ r. ⌜ r ≡ apart a b ⌝ }
 {
     if a < b {

@@ -14,6 +14,23 @@ pub fn root(n: u64) -> u64
     settled(n, step(n, step(n, step(n, guess(n)))))
 }
 
+// The same, from a number that is thought to be near the root: one of Newton's steps, and more of them as long as they are
+// needed. Any number will do; a near one saves the divisions.
+pub fn root_near(n: u64, near: u64) -> u64
+    ensures { λ r. ⌜ r ≡ root n ⌝ }
+{
+    if n == 0 {
+        return 0;
+    }
+    if near < 2 {
+        return root(n);
+    }
+    if near > 4294967295 {
+        return root(n);
+    }
+    settled(n, (near + n / near) / 2)
+}
+
 // A guess that is not below the root: Newton's step from the power of two next to it, where the division is a shift.
 fn guess(n: u64) -> u64
     ensures { λ r. ⌜ (n < (r + 1) * (r + 1)) × (r ≤ 2 ^ 33) ⌝ }

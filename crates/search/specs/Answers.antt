@@ -1,0 +1,70 @@
+-- What a search answers: the refusals in 01's order, then how the walk ended; and what the list then holds
+-- (01, Numbers of refusal).
+use Prim.Native.Nat.{ℕ, _-_, _*_}
+use mathlib.Core.Bool.{Bool, true, false, cond}
+use mathlib.Core.List.{List, [], _∷_, _++_}
+use lib.Dec.{leb, eqb}
+use lib.ListN.{length, replicate}
+use Rattle.chart.specs.declared.Place.{Place}
+use Rattle.chart.specs.Chains.{isSound}
+use Rattle.search.specs.declared.Window.{Window}
+use Rattle.search.specs.declared.Answer.{Answer}
+use Rattle.search.specs.declared.Answer.the-variants.{Places, ReadingTooLarge, Unsound, BadWindow, BadTolerance, NoMatch, NoRoom, AllowanceUsed}
+use Rattle.search.specs.declared.SearchFigures.{SearchFigures}
+use Rattle.search.specs.Windows.{isWindow}
+use Rattle.search.specs.Questions.{Question, mostTolerance, noneTooLarge}
+use Rattle.search.specs.Walk.{Standing, start, visit}
+
+-- An answer, and the places it lists.
+pub record Outcome : Type 0 where
+  pub answer : Answer
+  pub places : List Place
+
+-- A refusal lists no place.
+abbrev pub refused : Answer → Outcome
+refused a = record { answer = a; places = [] }
+
+-- A walk that was not stopped: no matching cell is a refusal.
+abbrev pub gone : List Place → ℕ → Outcome
+gone [] visits = refused (NoMatch visits)
+gone (p ∷ ps) visits = record { answer = Places (length (p ∷ ps)) visits; places = p ∷ ps }
+
+-- How a walk ended: stopped by the allowance or for want of room, or gone to its end.
+unfoldable pub ended : Standing → Outcome
+ended s =
+    cond (eqb (s .stop) 10) (refused (AllowanceUsed (s .visits)))
+    (cond (eqb (s .stop) 9) (refused (NoRoom (s .visits))) (gone (s .places) (s .visits)))
+
+-- A test that fails is answered with its refusal; only else is the rest worked out.
+abbrev pub unless : Bool → Answer → (Unit {0} → Outcome) → Outcome
+unless true a rest = rest tt
+unless false a rest = refused a
+
+-- The search: 3, 5, 6, 7, then the walk.
+unfoldable pub searchOf : Question → Window → Outcome
+searchOf q w =
+    unless (noneTooLarge (q .wanted)) ReadingTooLarge (λ _.
+    unless (isSound (q .chain)) Unsound (λ _.
+    unless (isWindow w) BadWindow (λ _.
+    unless (leb (q .tolerance) mostTolerance) BadTolerance (λ _.
+    ended (visit q (w .k) (w .corner) start)))))
+
+-- Easting and northing of each place in turn.
+unfoldable pub entriesOf : List Place → List ℕ
+entriesOf [] = []
+entriesOf (p ∷ ps) = p .easting ∷ p .northing ∷ entriesOf ps
+
+-- A list of so many entries with these places: theirs first, all others zero.
+unfoldable pub listOf : ℕ → List Place → List ℕ
+listOf entries ps = entriesOf ps ++ replicate (entries - 2 * length ps) 0
+
+-- An answer in figures: the number of the refusal, 0 for none, the count of places and the visits.
+unfoldable pub searchFigures : Answer → SearchFigures
+searchFigures (Places count visits) = record { refusal = 0; count = count; visits = visits }
+searchFigures ReadingTooLarge = record { refusal = 3; count = 0; visits = 0 }
+searchFigures Unsound = record { refusal = 5; count = 0; visits = 0 }
+searchFigures BadWindow = record { refusal = 6; count = 0; visits = 0 }
+searchFigures BadTolerance = record { refusal = 7; count = 0; visits = 0 }
+searchFigures (NoMatch visits) = record { refusal = 8; count = 0; visits = visits }
+searchFigures (NoRoom visits) = record { refusal = 9; count = 0; visits = visits }
+searchFigures (AllowanceUsed visits) = record { refusal = 10; count = 0; visits = visits }

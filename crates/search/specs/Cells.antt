@@ -1,0 +1,60 @@
+-- What a search is to find, said without a walk: the matching cells in chart order, and how many visits they take
+-- (01, The search and its count).
+use Prim.Native.Nat.{ℕ, zero, suc, _+_, _-_, _*_, _/_, _%_, _^_, _<_}
+use mathlib.Core.Bool.{Bool, true, false}
+use mathlib.Core.List.{List, [], _∷_, _++_}
+use Rattle.chart.specs.declared.Place.{Place}
+use Rattle.chart.specs.Readings.{within}
+use Rattle.search.specs.declared.Window.{Window}
+use Rattle.search.specs.Windows.{east, north, northEast}
+use Rattle.search.specs.Questions.{Question, matches, isKept}
+
+-- The lowest k bits of two numbers interleaved, the northing bit above the easting bit at each place.
+unfoldable pub interleave : ℕ → ℕ → ℕ → ℕ
+interleave zero e n = 0
+interleave (suc k) e n = 4 * interleave k (e / 2) (n / 2) + 2 * (n % 2) + e % 2
+
+-- A cell's number in the order of a window: its offsets from the corner, interleaved.
+abbrev pub chartNumber : Window → Place → ℕ
+chartNumber w p = interleave (w .k) (p .easting - w .corner .easting) (p .northing - w .corner .northing)
+
+-- Each place of a list has a larger number than the one before it.
+unfoldable pub Rises : (Place → ℕ) → List Place → Type 0
+Rises number [] = Unit {0}
+Rises number (p ∷ []) = Unit {0}
+Rises number (p ∷ q ∷ ps) = (number p < number q) × Rises number (q ∷ ps)
+
+-- The cells of the square of side 2^k at p, quarter by quarter.
+unfoldable pub cells : ℕ → Place → List Place
+cells zero p = p ∷ []
+cells (suc k) p = cells k p ++ (cells k (east (2 ^ k) p) ++ (cells k (north (2 ^ k) p) ++ cells k (northEast (2 ^ k) p)))
+
+-- p before the others, if it passes.
+abbrev pub ifSo : Bool → Place → List Place → List Place
+ifSo true p ps = p ∷ ps
+ifSo false p ps = ps
+
+-- The places of a list that pass a test.
+unfoldable pub those : (Place → Bool) → List Place → List Place
+those test [] = []
+those test (p ∷ ps) = ifSo (test p) p (those test ps)
+
+-- The matching cells of a square.
+unfoldable pub matching : Question → ℕ → Place → List Place
+matching q k p = those (matches q) (cells k p)
+
+-- n, worked out only if so; else 0.
+abbrev pub whereSo : Bool → (Unit {0} → ℕ) → ℕ
+whereSo true n = n tt
+whereSo false n = 0
+
+-- The visits that a square takes: one, and those of its quarters where it is not dropped.
+unfoldable pub visitsOf : Question → ℕ → Place → ℕ
+visitsOf q zero p = 1
+visitsOf q (suc k) p =
+    1 + whereSo (isKept q k p)
+    (λ _. visitsOf q k p + (visitsOf q k (east (2 ^ k) p) + (visitsOf q k (north (2 ^ k) p) + visitsOf q k (northEast (2 ^ k) p))))
+
+-- The most that any square of side 2^k takes.
+abbrev pub mostVisits : ℕ → ℕ
+mostVisits k = (4 ^ (k + 1) - 1) / 3

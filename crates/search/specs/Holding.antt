@@ -1,0 +1,66 @@
+-- How the code holds a search: what its private functions promise each other. No public promise rests on it.
+use Prim.Native.Nat.{ℕ, _+_, _*_, _≤_, _^_}
+use mathlib.Core.Path.{_≡_}
+use mathlib.Core.Bool.{true}
+use mathlib.Core.List.{List, [], _∷_}
+use lib.IntN.{ℤ, pos, negsuc, subℕ}
+use lib.ListN.{length, take}
+use Rattle.chart.specs.declared.Place.{Place}
+use Rattle.chart.specs.Places.{mostEasting, mostNorthing, inRange}
+use Rattle.chart.specs.Readings.{Wanted}
+use Rattle.search.specs.declared.Wish.{Wish}
+use Rattle.search.specs.declared.Hunt.{Hunt}
+use Rattle.search.specs.declared.Tally.{Tally}
+use Rattle.search.specs.Questions.{Question, mostReading, mostTolerance}
+use Rattle.search.specs.Walk.{Standing}
+use Rattle.search.specs.Answers.{entriesOf}
+
+-- How far a number lies above 0, and how far below.
+abbrev pub above : ℤ → ℕ
+above (pos n) = n
+above (negsuc n) = 0
+
+abbrev pub below : ℤ → ℕ
+below (pos n) = 0
+below (negsuc n) = 1 + n
+
+-- A wish: the slave, and the reading that is wanted.
+abbrev pub wantedBy : Wish → Wanted
+wantedBy w = record { slave = w .slave; reading = subℕ (w .above) (w .below) }
+
+-- The question that a hunt goes after.
+abbrev pub questionBy : Hunt → Question
+questionBy h =
+    record {
+      chain = record { master = h .master; a = h .a .slave; b = h .b .slave };
+      wanted = wantedBy (h .a) ∷ wantedBy (h .b) ∷ [];
+      tolerance = h .tolerance;
+      allowance = h .allowance;
+      room = h .room;
+    }
+
+-- A wish whose sums fit the machine.
+pub record Fair (w : Wish) : Type 0 where
+  pub slave : inRange (w .slave) ≡ true
+  pub above : w .above ≤ mostReading
+  pub below : w .below ≤ mostReading
+
+-- A hunt that the tests of a search have passed.
+pub record Ready (h : Hunt) : Type 0 where
+  pub master : inRange (h .master) ≡ true
+  pub a : Fair (h .a)
+  pub b : Fair (h .b)
+  pub tolerance : h .tolerance ≤ mostTolerance
+
+-- The square of side 2^k at p lies on the chart.
+pub record OnChart (k side : ℕ) (p : Place) : Type 0 where
+  pub side-is : side ≡ 2 ^ k
+  pub east : p .easting + side ≤ mostEasting + 1
+  pub north : p .northing + side ≤ mostNorthing + 1
+
+-- A tally and a list hold where a walk stands: the list begins with its places.
+pub record Holds (s : Standing) (t : Tally) (l : List ℕ) : Type 0 where
+  pub stop : t .stop ≡ s .stop
+  pub visits : t .visits ≡ s .visits
+  pub count : t .count ≡ length (s .places)
+  pub entries : take (2 * t .count) l ≡ entriesOf (s .places)

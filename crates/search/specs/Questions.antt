@@ -1,0 +1,47 @@
+-- What a search is asked, and the two tests at a cell: matching and dropping, each over the list of slaves.
+use Prim.Native.Nat.{ℕ, suc, _+_, _*_, _/_, _^_}
+use mathlib.Core.Bool.{Bool, true, _&&_}
+use mathlib.Core.List.{List, [], _∷_}
+use lib.Dec.{leb}
+use lib.IntN.{ℤ, natAbs}
+use Rattle.chart.specs.declared.Place.{Place}
+use Rattle.chart.specs.declared.Chain.{Chain}
+use Rattle.chart.specs.Readings.{Wanted, wantedOf, within}
+use Rattle.search.specs.Windows.{northEast}
+
+-- A chain, the reading wanted for each of its slaves, the tolerance in centimetres, how many visits are allowed, and how
+-- many places the list has room for.
+pub record Question : Type 0 where
+  pub chain : Chain
+  pub wanted : List Wanted
+  pub tolerance : ℕ
+  pub allowance : ℕ
+  pub room : ℕ
+
+-- The question of two readings and a list of so many entries. Two entries are a place; half a place is no room
+-- (01, Numbers of refusal).
+abbrev pub questionOf : Chain → ℤ → ℤ → ℕ → ℕ → ℕ → Question
+questionOf c ra rb tolerance allowance entries =
+    record
+    { chain = c; wanted = wantedOf c ra rb; tolerance = tolerance; allowance = allowance; room = entries / 2 }
+
+-- How large a wanted reading may be in size, and a tolerance (01, Numbers of refusal; The records).
+abbrev pub mostReading : ℕ
+mostReading = 1_000_000_000
+
+abbrev pub mostTolerance : ℕ
+mostTolerance = 100_000
+
+-- No wanted reading is too large in size (01, Numbers of refusal).
+unfoldable pub noneTooLarge : List Wanted → Bool
+noneTooLarge [] = true
+noneTooLarge (w ∷ ws) = leb (natAbs (w .reading)) mostReading && noneTooLarge ws
+
+-- The cell p matches: each of its readings differs from the wanted one by at most t (01, Distance and reading).
+abbrev pub matches : Question → Place → Bool
+matches q p = within (q .tolerance) (q .chain) (q .wanted) p
+
+-- The square of side s = 2^(k + 1) at p is not dropped: at the cell s/2 east and s/2 north of p no reading differs from the
+-- wanted one by more than t + 2s + 2 (01, The search and its count).
+abbrev pub isKept : Question → ℕ → Place → Bool
+isKept q k p = within (q .tolerance + 2 * 2 ^ suc k + 2) (q .chain) (q .wanted) (northEast (2 ^ k) p)

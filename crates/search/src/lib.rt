@@ -1,0 +1,397 @@
+// The search of a window: every cell that matches, each once, in chart order.
+ghost use mathlib.Core.Path.{_≡_};
+ghost use mathlib.Core.Bool.{true};
+ghost use mathlib.Core.List.{_++_};
+ghost use Prim.Native.Nat.{_+_, _-_, _*_, _≤_, _<_, _^_};
+ghost use lib.Dec.{leb};
+ghost use lib.IntN.{natAbs, subℕ};
+ghost use lib.ListN.{length, take, replicate};
+ghost use Rattle.chart.specs.Places.{inRange, squaredDistance};
+ghost use Rattle.chart.specs.Readings.{rangeOf, differ, wantedOf, within};
+ghost use Rattle.search.specs.Windows.{isWindow};
+ghost use Rattle.search.specs.Questions.{questionOf, mostReading, noneTooLarge};
+ghost use Rattle.search.specs.Walk.{Standing, start};
+ghost use Rattle.search.specs.Walk as walk;
+ghost use Rattle.search.specs.Answers.{ended, searchOf, listOf, searchFigures};
+ghost use Rattle.search.specs.Holding.{above, below, questionBy, Fair, Ready, OnChart, Holds};
+use chart::Chain;
+use chart::Place;
+
+// The square of 2^k by 2^k cells whose south-west cell is the corner.
+pub struct Window {
+    pub corner: Place,
+    pub k: u32,
+}
+
+// How a search ended: with places, or with one of 01's refusals, here in the order of their numbers.
+pub enum Answer {
+    Places { count: usize, visits: u64 },
+    ReadingTooLarge,
+    Unsound,
+    BadWindow,
+    BadTolerance,
+    NoMatch { visits: u64 },
+    NoRoom { visits: u64 },
+    AllowanceUsed { visits: u64 },
+}
+
+// An answer as figures: the number of the refusal, 0 for none, the count of places and the visits.
+pub struct SearchFigures {
+    pub refusal: u32,
+    pub count: usize,
+    pub visits: u64,
+}
+
+// A slave and the reading that is wanted for it: how far that lies above 0, and how far below.
+struct Wish {
+    slave: Place,
+    above: u64,
+    below: u64,
+}
+
+// What a walk goes by, the same at every visit.
+struct Hunt {
+    master: Place,
+    a: Wish,
+    b: Wish,
+    tolerance: u64,
+    allowance: u64,
+    room: usize,
+}
+
+// Where a walk stands: the refusal that stopped it, 0 while it goes on; the places listed; the visits made.
+struct Tally {
+    stop: u32,
+    count: usize,
+    visits: u64,
+}
+
+const MOST_EXPONENT: u32 = 24;
+
+const MOST_READING: u64 = 1_000_000_000;
+
+const MOST_TOLERANCE: u32 = 100_000;
+
+// Whether k is at most 24 and every cell of the window in range.
+pub fn is_window(w: Window) -> bool
+    ensures { λ r. ⌜ r ≡ isWindow w ⌝ }
+{
+    if w.k > MOST_EXPONENT {
+        return false;
+    }
+    let last = side_of(w.k) - 1;
+    if w.corner.easting > u32::MAX - last {
+        return false;
+    }
+    if w.corner.northing > u32::MAX - last {
+        return false;
+    }
+    chart::in_range(north_east(w.corner, last))
+}
+
+// The places of the window that match the readings, easting and northing in turn, in chart order; zeros behind them, and
+// nothing but zeros on a refusal.
+pub fn search(
+    list: &mut [u32],
+    c: Chain,
+    ra: i64,
+    rb: i64,
+    w: Window,
+    tolerance: u32,
+    allowance: u64,
+) -> Answer
+    ensures answer { λ r. ⌜ r ≡ searchOf (questionOf c ra rb tolerance allowance (length (now (list .entry)))) w .answer ⌝ }
+    ensures list { λ _. ⌜ now (list .exit) ≡ listOf (length (now (list .entry))) (searchOf (questionOf c ra rb tolerance allowance (length (now (list .entry)))) w .places) ⌝ }
+{
+    let readings = none_too_large(ra, rb);
+    let chain = chart::sound(c);
+    let window = is_window(w);
+    if !readings {
+        clear(list, 0);
+        return Answer::ReadingTooLarge;
+    }
+    if !chain {
+        clear(list, 0);
+        return Answer::Unsound;
+    }
+    if !window {
+        clear(list, 0);
+        return Answer::BadWindow;
+    }
+    if tolerance > MOST_TOLERANCE {
+        clear(list, 0);
+        return Answer::BadTolerance;
+    }
+    let a = wished(c.a, ra);
+    let b = wished(c.b, rb);
+    let room = list.len() / 2;
+    walked(
+        list,
+        Hunt {
+            master: c.master,
+            a,
+            b,
+            tolerance: tolerance as u64,
+            allowance,
+            room,
+        },
+        w,
+    )
+}
+
+// An answer as figures.
+pub fn as_figures(a: Answer) -> SearchFigures
+    ensures { λ r. ⌜ r ≡ searchFigures a ⌝ }
+{
+    match a {
+        Answer::Places { count, visits } => told(0, count, visits),
+        Answer::ReadingTooLarge => told(3, 0, 0),
+        Answer::Unsound => told(5, 0, 0),
+        Answer::BadWindow => told(6, 0, 0),
+        Answer::BadTolerance => told(7, 0, 0),
+        Answer::NoMatch { visits } => told(8, 0, visits),
+        Answer::NoRoom { visits } => told(9, 0, visits),
+        Answer::AllowanceUsed { visits } => told(10, 0, visits),
+    }
+}
+
+fn told(refusal: u32, count: usize, visits: u64) -> SearchFigures
+    ensures { λ r. ⌜ r ≡ record { refusal = refusal; count = count; visits = visits } ⌝ }
+{
+    SearchFigures {
+        refusal,
+        count,
+        visits,
+    }
+}
+
+// Whether both readings are at most 1,000,000,000 in size.
+fn none_too_large(ra: i64, rb: i64) -> bool
+    ensures { λ r. ⌜ ((c : Chain) → r ≡ noneTooLarge (wantedOf c ra rb)) ⌝ }
+{
+    if metres::size(ra) > MOST_READING {
+        return false;
+    }
+    metres::size(rb) <= MOST_READING
+}
+
+fn wished(slave: Place, reading: i64) -> Wish
+    ensures { λ r. ⌜ r ≡ record { slave = slave; above = above reading; below = below reading } ⌝ }
+{
+    let size = metres::size(reading);
+    if reading < 0 {
+        return Wish {
+            slave,
+            above: 0,
+            below: size,
+        };
+    }
+    Wish {
+        slave,
+        above: size,
+        below: 0,
+    }
+}
+
+// 2^k.
+fn side_of(k: u32) -> u32
+    requires { ⌜ k ≤ 24 ⌝ }
+    ensures { λ r. ⌜ r ≡ 2 ^ k ⌝ }
+{
+    1u32 << k
+}
+
+// The place d farther north and d farther east.
+fn north_east(p: Place, d: u32) -> Place
+    requires { ⌜ (p .easting + d < 2 ^ 32) × (p .northing + d < 2 ^ 32) ⌝ }
+    ensures { λ r. ⌜ r ≡ record { easting = p .easting + d; northing = p .northing + d } ⌝ }
+{
+    Place {
+        easting: p.easting + d,
+        northing: p.northing + d,
+    }
+}
+
+// Every entry from a place on becomes zero.
+fn clear(list: &mut [u32], from: usize)
+    ensures { λ _. ⌜ now (list .exit) ≡ take from (now (list .entry)) ++ replicate (length (now (list .entry)) - from) 0 ⌝ }
+{
+    let mut i = from;
+    while i < list.len() {
+        list[i] = 0;
+        i += 1;
+    }
+}
+
+// The walk from its start to its end. What the list held where no place was put is cleared at the end.
+fn walked(list: &mut [u32], h: Hunt, w: Window) -> Answer
+    requires { ⌜ Ready h × (isWindow w ≡ true) × (2 * h .room ≤ length (now list)) ⌝ }
+    ensures answer { λ r. ⌜ r ≡ ended (walk.visit (questionBy h) (w .k) (w .corner) start) .answer ⌝ }
+    ensures list { λ _. ⌜ now (list .exit) ≡ listOf (length (now (list .entry))) (ended (walk.visit (questionBy h) (w .k) (w .corner) start) .places) ⌝ }
+{
+    let t = visit(
+        list,
+        h,
+        w.k,
+        side_of(w.k),
+        w.corner,
+        0,
+        Tally {
+            stop: 0,
+            count: 0,
+            visits: 0,
+        },
+    );
+    let visits = t.visits;
+    if t.stop == 10 {
+        clear(list, 0);
+        return Answer::AllowanceUsed { visits };
+    }
+    if t.stop == 9 {
+        clear(list, 0);
+        return Answer::NoRoom { visits };
+    }
+    let count = t.count;
+    if count == 0 {
+        clear(list, 0);
+        return Answer::NoMatch { visits };
+    }
+    clear(list, 2 * count);
+    Answer::Places { count, visits }
+}
+
+// The square of side 2^k at p. The guess is the master's range at the middle of the square around it: near enough that one
+// step of Newton's mostly finds this one's.
+fn visit(list: &mut [u32], h: Hunt, k: u32, side: u32, p: Place, guess: u64, t: Tally) -> Tally
+    requires { ⌜ Ready h × OnChart k side p × (2 * h .room ≤ length (now list)) ⌝ }
+    ensures { λ r. ⌜ ((s : Standing) → Holds s t (now (list .entry)) → Holds (walk.visit (questionBy h) k p s) r (now (list .exit))) ⌝ }
+{
+    if t.stop != 0 {
+        return t;
+    }
+    if h.allowance <= t.visits {
+        return Tally {
+            stop: 10,
+            count: t.count,
+            visits: t.visits,
+        };
+    }
+    let begun = Tally {
+        stop: 0,
+        count: t.count,
+        visits: t.visits + 1,
+    };
+    if k == 0 {
+        return cell(list, h, p, guess, begun);
+    }
+    let half = side / 2;
+    let middle = north_east(p, half);
+    let m = range(middle, h.master, guess);
+    if !near(h, middle, m, h.tolerance + 2 * (side as u64) + 2) {
+        return begun;
+    }
+    let sw = visit(list, h, k - 1, half, p, m, begun);
+    let se = visit(
+        list,
+        h,
+        k - 1,
+        half,
+        Place {
+            easting: p.easting + half,
+            northing: p.northing,
+        },
+        m,
+        sw,
+    );
+    let nw = visit(
+        list,
+        h,
+        k - 1,
+        half,
+        Place {
+            easting: p.easting,
+            northing: p.northing + half,
+        },
+        m,
+        se,
+    );
+    visit(list, h, k - 1, half, middle, m, nw)
+}
+
+// A cell that matches goes to the list.
+fn cell(list: &mut [u32], h: Hunt, p: Place, guess: u64, t: Tally) -> Tally
+    requires { ⌜ Ready h × (inRange p ≡ true) × (2 * h .room ≤ length (now list)) ⌝ }
+    ensures { λ r. ⌜ ((s : Standing) → Holds s t (now (list .entry)) → Holds (walk.cell (questionBy h) p s) r (now (list .exit))) ⌝ }
+{
+    let m = range(p, h.master, guess);
+    if !near(h, p, m, h.tolerance) {
+        return t;
+    }
+    let n = t.count;
+    if h.room <= n {
+        return Tally {
+            stop: 9,
+            count: n,
+            visits: t.visits,
+        };
+    }
+    let i = 2 * n;
+    list[i] = p.easting;
+    let j = i + 1;
+    list[j] = p.northing;
+    Tally {
+        stop: t.stop,
+        count: n + 1,
+        visits: t.visits,
+    }
+}
+
+// Whether every slave's reading at p is as wanted, give or take slack, where m is the master's range.
+fn near(h: Hunt, p: Place, m: u64, slack: u64) -> bool
+    requires { ⌜ Ready h × (inRange p ≡ true) × (m ≡ rangeOf p (h .master)) × (m < 2 ^ 30) × (slack < 2 ^ 26) ⌝ }
+    ensures { λ r. ⌜ r ≡ within slack (questionBy h .chain) (questionBy h .wanted) p ⌝ }
+{
+    if !agrees(h.a, p, m, slack) {
+        return false;
+    }
+    agrees(h.b, p, m, slack)
+}
+
+// The same of one slave. Its range is the root of y, and a root lies from low to high exactly if the number lies from low²
+// to below (high + 1)²: so no root is taken.
+fn agrees(w: Wish, p: Place, m: u64, slack: u64) -> bool
+    requires { ⌜ Fair w × (inRange p ≡ true) × (m < 2 ^ 30) × (slack < 2 ^ 26) ⌝ }
+    ensures { λ r. ⌜ r ≡ leb (differ (subℕ (rangeOf p (w .slave)) m) (subℕ (w .above) (w .below))) slack ⌝ }
+{
+    let y = squared(p, w.slave);
+    let far = m + w.above;
+    if far + slack < w.below {
+        return false;
+    }
+    let high = far + slack - w.below;
+    if (high + 1) * (high + 1) <= y {
+        return false;
+    }
+    if far <= w.below + slack {
+        return true;
+    }
+    let low = far - (w.below + slack);
+    low * low <= y
+}
+
+// How far p lies from a station, by a guess of it.
+fn range(p: Place, station: Place, guess: u64) -> u64
+    requires { ⌜ (inRange p ≡ true) × (inRange station ≡ true) ⌝ }
+    ensures { λ r. ⌜ (r ≡ rangeOf p station) × (r < 2 ^ 30) ⌝ }
+{
+    squares::root_near(squared(p, station), guess)
+}
+
+fn squared(p: Place, q: Place) -> u64
+    requires { ⌜ (inRange p ≡ true) × (inRange q ≡ true) ⌝ }
+    ensures { λ r. ⌜ (r ≡ squaredDistance p q) × (r < 2 ^ 60) ⌝ }
+{
+    let e = chart::gap(p.easting, q.easting);
+    let n = chart::gap(p.northing, q.northing);
+    e * e + n * n
+}
