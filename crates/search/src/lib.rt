@@ -122,13 +122,14 @@ pub fn search(
         clear(list, 0);
         return Answer::BadTolerance;
     }
+    let master = c.master;
     let a = wished(c.a, ra);
     let b = wished(c.b, rb);
     let room = list.len() / 2;
     walked(
         list,
         Hunt {
-            master: c.master,
+            master,
             a,
             b,
             tolerance: tolerance as u64,
