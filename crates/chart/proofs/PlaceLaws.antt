@@ -1,7 +1,7 @@
 -- What being in range says of a place's numbers.
 use Prim.Native.Nat.{_≤_, _<_}
-use mathlib.Core.Path.{_≡_, refl, ap}
-use mathlib.Core.Bool.{Bool, true, false, _&&_, false≢true}
+use mathlib.Core.Path.{_≡_, refl, ap, _∙_}
+use mathlib.Core.Bool.{Bool, true, false, _&&_, and-false, false≢true}
 use lib.Dec.{leb}
 use borrow.Author.Tests.{leb-true, le-leb, lt-leb}
 use Rattle.chart.specs.declared.Place.{Place}
@@ -11,6 +11,10 @@ use Rattle.chart.specs.Places.{mostEasting, mostNorthing, inRange}
 pub both : (a b : Bool) → (a && b) ≡ true → (a ≡ true) × (b ≡ true)
 both true b e = (refl, e)
 both false b e = absurd (false≢true e)
+
+-- And the other way.
+pub and-both : {a b : Bool} → a ≡ true → b ≡ true → (a && b) ≡ true
+and-both {a} {b} e f = rw (e, f)
 
 -- A place in range has an easting and a northing within the grid.
 pub in-range-says : (p : Place) → inRange p ≡ true → (p .easting ≤ mostEasting) × (p .northing ≤ mostNorthing)
@@ -27,3 +31,13 @@ too-far-east p h = ap (λ (b : Bool). b && leb (p .northing) mostNorthing) (lt-l
 pub by-northing : (p : Place) → p .easting ≤ mostEasting → inRange p ≡ leb (p .northing) mostNorthing
 unfolding inRange
 by-northing p h = ap (λ (b : Bool). b && leb (p .northing) mostNorthing) (le-leb _ _ h)
+
+-- A northing too large decides as well.
+pub too-far-north : (p : Place) → mostNorthing < p .northing → inRange p ≡ false
+unfolding inRange
+too-far-north p h = ap (λ (b : Bool). leb (p .easting) mostEasting && b) (lt-leb _ _ h) ∙ and-false (leb (p .easting) mostEasting)
+
+-- Numbers within the grid make a place in range.
+pub says-in-range : (p : Place) → p .easting ≤ mostEasting → p .northing ≤ mostNorthing → inRange p ≡ true
+unfolding inRange
+says-in-range p east north = and-both (le-leb _ _ east) (le-leb _ _ north)

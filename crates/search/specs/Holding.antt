@@ -1,5 +1,5 @@
 -- How the code holds a search: what its private functions promise each other. No public promise rests on it.
-use Prim.Native.Nat.{ℕ, _+_, _*_, _≤_, _^_}
+use Prim.Native.Nat.{ℕ, suc, _+_, _*_, _≤_, _^_}
 use mathlib.Core.Path.{_≡_}
 use mathlib.Core.Bool.{true}
 use mathlib.Core.List.{List, [], _∷_}
@@ -22,7 +22,7 @@ above (negsuc n) = 0
 
 abbrev pub below : ℤ → ℕ
 below (pos n) = 0
-below (negsuc n) = 1 + n
+below (negsuc n) = suc n
 
 -- A wish: the slave, and the reading that is wanted.
 abbrev pub wantedBy : Wish → Wanted

@@ -1,0 +1,107 @@
+-- How a tally and a list go on holding where a walk stands, visit by visit.
+use Prim.Native.Nat.{ℕ, suc, _+_, _-_, _*_, _/_, _^_, _≤_, _<_}
+use mathlib.Core.Path.{_≡_, refl, sym, ap, ap₂, _∙_, subst⁻¹}
+use mathlib.Core.Bool.{Bool, true, false}
+use mathlib.Core.List.{List, [], _∷_, _++_}
+use native.Mathlib.Omega.{arith}
+use native.Mathlib.Nat.{pow-succ'}
+use lib.ListN.{length, take, set, length-set, length-append}
+use lib.Pow.{pow-pos}
+use lib.Seq.{take-suc-set}
+use Rattle.chart.specs.declared.Place.{Place}
+use Rattle.chart.specs.Places.{inRange}
+use Rattle.chart.specs.Readings.{within}
+use Rattle.chart.proofs.PlaceLaws.{says-in-range}
+use Rattle.search.specs.declared.Tally.{Tally}
+use Rattle.search.specs.Windows.{east, north, northEast}
+use Rattle.search.specs.Questions.{Question, matches, isKept}
+use Rattle.search.specs.Walk.{Standing, either, unchanged, stopped, counted, listed, cell, visit}
+use Rattle.search.specs.Answers.{entriesOf}
+use Rattle.search.specs.Holding.{OnChart, Holds}
+use Rattle.search.proofs.WalkLaws.{visit-after, visit-out, visit-cell, visit-square, quarters, cell-missed, cell-full, cell-listed}
+
+-- The entries of one place more.
+entries-more : (ps : List Place) (p : Place) → entriesOf (ps ++ (p ∷ [])) ≡ (entriesOf ps ++ (p .easting ∷ [])) ++ (p .northing ∷ [])
+unfolding entriesOf
+entries-more [] p = refl
+entries-more (o ∷ ps) p = ap (λ (l : List ℕ). o .easting ∷ o .northing ∷ l) (entries-more ps p)
+
+-- Two entries set, one after the other.
+set-two : (l : List ℕ) (i e n : ℕ) → i + 1 < length l → take (i + 2) (set (set l i e) (i + 1) n) ≡ (take i l ++ (e ∷ [])) ++ (n ∷ [])
+set-two l i e n h =
+    ap (λ (j : ℕ). take j (set (set l i e) (i + 1) n)) (let g : i + 2 ≡ suc (i + 1) = omega arith in g)
+    ∙ take-suc-set (set l i e) (i + 1) n (omega (arith, length-set l i e))
+    ∙ ap (λ (j : ℕ). take j (set l i e) ++ (n ∷ [])) (let g : i + 1 ≡ suc i = omega arith in g)
+    ∙ ap (λ (x : List ℕ). x ++ (n ∷ [])) (take-suc-set l i e (omega arith))
+
+-- The tally of a walk that stops, and of one more visit.
+abbrev pub stopTally : ℕ → Tally → Tally
+stopTally why t = record { stop = why; count = t .count; visits = t .visits }
+
+abbrev pub begunTally : Tally → Tally
+begunTally t = record { stop = 0; count = t .count; visits = t .visits + 1 }
+
+module _ (s : Standing) (t : Tally) (l : List ℕ) (h : Holds s t l) where
+  pub stop-holds : (why : ℕ) → Holds (stopped why s) (stopTally why t) l
+  stop-holds why = record { stop = refl; visits = h .visits; count = h .count; entries = h .entries }
+
+  pub count-holds : t .stop ≡ 0 → Holds (counted s) (begunTally t) l
+  count-holds z =
+      record { stop = sym z ∙ h .stop; visits = ap (λ (v : ℕ). v + 1) (h .visits); count = h .count; entries = h .entries }
+
+  -- One place more goes behind the others.
+  pub list-holds : (p : Place) → 2 * t .count + 2 ≤ length l → Holds (listed p s) (record { stop = t .stop; count = t .count + 1; visits = t .visits }) (set (set l (2 * t .count) (p .easting)) (2 * t .count + 1) (p .northing))
+  list-holds p room =
+      let i : ℕ = 2 * t .count in
+      record {
+        stop = h .stop;
+        visits = h .visits;
+        count = omega (arith, h .count, length-append (s .places) (p ∷ []));
+        entries =
+            ap (λ (j : ℕ). take j (set (set l i (p .easting)) (i + 1) (p .northing))) (let g : 2 * (t .count + 1) ≡ i + 2 = omega arith in g)
+            ∙ set-two l i (p .easting) (p .northing) (omega arith)
+            ∙ ap (λ (x : List ℕ). (x ++ (p .easting ∷ [])) ++ (p .northing ∷ [])) (h .entries)
+            ∙ sym (entries-more (s .places) p);
+      }
+
+  module _ (q : Question) (p : Place) where
+    pub missed-holds : matches q p ≡ false → Holds (cell q p s) t l
+    missed-holds e = subst⁻¹ (λ (x : Standing). Holds x t l) (cell-missed q p s e) h
+
+    pub full-holds : matches q p ≡ true → q .room ≤ t .count → Holds (cell q p s) (stopTally 9 t) l
+    full-holds e full = subst⁻¹ (λ (x : Standing). Holds x (stopTally 9 t) l) (cell-full q p s e (omega (arith, h .count))) (stop-holds 9)
+
+    pub listed-holds : matches q p ≡ true → t .count < q .room → 2 * q .room ≤ length l → Holds (cell q p s) (record { stop = t .stop; count = t .count + 1; visits = t .visits }) (set (set l (2 * t .count) (p .easting)) (2 * t .count + 1) (p .northing))
+    listed-holds e room fits =
+        subst⁻¹ (λ (x : Standing). Holds x (record { stop = t .stop; count = t .count + 1; visits = t .visits }) (set (set l (2 * t .count) (p .easting)) (2 * t .count + 1) (p .northing)))
+        (cell-listed q p s e (omega (arith, h .count)))
+        (list-holds p (omega arith))
+
+    pub after-holds : (k : ℕ) → (t .stop ≡ 0 → ⊥) → Holds (visit q k p s) t l
+    after-holds k f = subst⁻¹ (λ (x : Standing). Holds x t l) (visit-after q k p s (λ e. f (h .stop ∙ e))) h
+
+    pub out-holds : (k : ℕ) → t .stop ≡ 0 → q .allowance ≤ t .visits → Holds (visit q k p s) (stopTally 10 t) l
+    out-holds k z a =
+        subst⁻¹ (λ (x : Standing). Holds x (stopTally 10 t) l)
+        (visit-out q k p s (sym (h .stop) ∙ z) (omega (arith, h .visits)))
+        (stop-holds 10)
+
+    -- A visit that begins: what holds the cell's walk, the dropped square's or the quarters' holds the visit's.
+    module _ (z : t .stop ≡ 0) (a : t .visits < q .allowance) where
+      pub cell-holds : (k : ℕ) (r : Tally) (l' : List ℕ) → k ≡ 0 → Holds (cell q p (counted s)) r l' → Holds (visit q k p s) r l'
+      cell-holds k r l' e g =
+          subst⁻¹ (λ (x : Standing). Holds x r l')
+          (ap (λ (x : ℕ). visit q x p s) e ∙ visit-cell q p s (sym (h .stop) ∙ z) (omega (arith, h .visits)))
+          g
+
+      square : (k j : ℕ) (b : Bool) → k ≡ suc j → isKept q j p ≡ b → visit q k p s ≡ either b (quarters q j p) unchanged (counted s)
+      square k j b ek e =
+          ap (λ (x : ℕ). visit q x p s) ek
+          ∙ visit-square q j p s (sym (h .stop) ∙ z) (omega (arith, h .visits))
+          ∙ ap (λ (x : Bool). either x (quarters q j p) unchanged (counted s)) e
+
+      pub dropped-holds : (k j : ℕ) → k ≡ suc j → isKept q j p ≡ false → Holds (visit q k p s) (begunTally t) l
+      dropped-holds k j ek e = subst⁻¹ (λ (x : Standing). Holds x (begunTally t) l) (square k j false ek e) (count-holds z)
+
+      pub quarters-hold : (k j : ℕ) (r : Tally) (l' : List ℕ) → k ≡ suc j → isKept q j p ≡ true → Holds (quarters q j p (counted s)) r l' → Holds (visit q k p s) r l'
+      quarters-hold k j r l' ek e g = subst⁻¹ (λ (x : Standing). Holds x r l') (square k j true ek e) g

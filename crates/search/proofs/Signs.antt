@@ -1,0 +1,31 @@
+-- A reading taken apart: how far it lies above 0 and how far below.
+use Prim.Native.Nat.{ℕ, suc, _≤_}
+use mathlib.Core.Path.{_≡_, refl, ap}
+use mathlib.Core.Bool.{true, false, true≢false}
+use native.Mathlib.Omega.{arith}
+use borrow.Author.Tests.{ltb-true, le-ltb, lt-ltb}
+use lib.IntN.{ℤ, pos, negsuc, natAbs, subℕ}
+use lib.Signed.{ltZ}
+use Rattle.search.specs.Holding.{above, below}
+
+-- A number below 0 has all its size there; any other has it above.
+pub below-zero : (z : ℤ) → ltZ z (pos 0) ≡ true → (above z ≡ 0) × (below z ≡ natAbs z)
+below-zero (pos n) e = absurd (omega (arith, ltb-true n 0 e))
+below-zero (negsuc n) e = (refl, refl)
+
+pub not-below-zero : (z : ℤ) → ltZ z (pos 0) ≡ false → (above z ≡ natAbs z) × (below z ≡ 0)
+not-below-zero (pos n) e = (refl, refl)
+not-below-zero (negsuc n) e = absurd (true≢false e)
+
+-- The two make the number again, and neither is larger than its size.
+pub made-again : (z : ℤ) → subℕ (above z) (below z) ≡ z
+made-again (pos n) = simp (le-ltb n 0 (omega arith)) (ap pos (omega arith))
+made-again (negsuc n) = simp (lt-ltb 0 (suc n) (omega arith)) (ap negsuc (omega arith))
+
+pub above-small : (z : ℤ) → above z ≤ natAbs z
+above-small (pos n) = omega arith
+above-small (negsuc n) = omega arith
+
+pub below-small : (z : ℤ) → below z ≤ natAbs z
+below-small (pos n) = omega arith
+below-small (negsuc n) = omega arith

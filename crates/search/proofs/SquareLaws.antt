@@ -1,0 +1,50 @@
+-- Squares on the chart: the corner, the middle and the quarters of one.
+use Prim.Native.Nat.{ℕ, suc, _+_, _-_, _*_, _/_, _^_, _≤_, _<_}
+use mathlib.Core.Path.{_≡_, ap, _∙_}
+use mathlib.Core.Bool.{true}
+use native.Mathlib.Omega.{arith}
+use native.Mathlib.Nat.{pow-succ'}
+use lib.Pow.{pow-pos}
+use Rattle.chart.specs.declared.Place.{Place}
+use Rattle.chart.specs.Places.{inRange}
+use Rattle.chart.proofs.PlaceLaws.{says-in-range}
+use Rattle.search.specs.Windows.{east, north, northEast}
+use Rattle.search.specs.Holding.{OnChart}
+
+module _ (k side : ℕ) (p : Place) (w : OnChart k side p) where
+  pub corner-in-range : inRange p ≡ true
+  corner-in-range =
+      let some : 0 < 2 ^ k = pow-pos k in
+      says-in-range p (omega (arith, w .side-is, w .east)) (omega (arith, w .side-is, w .north))
+
+  module _ (larger : k ≡ 0 → ⊥) where
+    -- The exponent is one more than the quarters'.
+    pub k-is : k ≡ suc (k - 1)
+    k-is = omega (arith, larger)
+
+    doubled : 2 ^ k ≡ 2 * 2 ^ (k - 1)
+    doubled = ap (λ (x : ℕ). 2 ^ x) k-is ∙ pow-succ' 2 (k - 1)
+
+    pub half-is : side / 2 ≡ 2 ^ (k - 1)
+    half-is = omega (arith, doubled, w .side-is)
+
+    some : 0 < 2 ^ (k - 1)
+    some = pow-pos (k - 1)
+
+    pub middle-in-range : inRange (northEast (side / 2) p) ≡ true
+    middle-in-range =
+        says-in-range (northEast (side / 2) p)
+        (omega (arith, half-is, doubled, some, w .side-is, w .east))
+        (omega (arith, half-is, doubled, some, w .side-is, w .north))
+
+    pub south-west : OnChart (k - 1) (side / 2) p
+    south-west = record { side-is = half-is; east = omega (arith, w .east); north = omega (arith, w .north) }
+
+    pub south-east : OnChart (k - 1) (side / 2) (east (side / 2) p)
+    south-east = record { side-is = half-is; east = omega (arith, w .east); north = omega (arith, w .north) }
+
+    pub north-west : OnChart (k - 1) (side / 2) (north (side / 2) p)
+    north-west = record { side-is = half-is; east = omega (arith, w .east); north = omega (arith, w .north) }
+
+    pub north-east : OnChart (k - 1) (side / 2) (northEast (side / 2) p)
+    north-east = record { side-is = half-is; east = omega (arith, w .east); north = omega (arith, w .north) }

@@ -1,0 +1,41 @@
+-- What being a window says: its exponent, and that its squares lie on the chart.
+use Prim.Native.Nat.{ℕ, _+_, _-_, _≤_, _<_, _^_}
+use mathlib.Core.Path.{_≡_, refl, ap}
+use mathlib.Core.Bool.{Bool, true, false, _&&_}
+use native.Mathlib.Omega.{arith}
+use lib.Dec.{leb}
+use lib.Pow.{pow-pos}
+use borrow.Author.Tests.{leb-true, le-leb, lt-leb}
+use Rattle.chart.specs.declared.Place.{Place}
+use Rattle.chart.specs.Places.{inRange}
+use Rattle.chart.proofs.PlaceLaws.{both, in-range-says, says-in-range}
+use Rattle.search.specs.declared.Window.{Window}
+use Rattle.search.specs.Windows.{northEast, mostExponent, isWindow, IsCellOf}
+use Rattle.search.specs.Holding.{OnChart}
+
+-- An exponent too large decides; one that is not leaves it to the cell farthest north-east.
+pub too-large-k : (w : Window) → mostExponent < w .k → isWindow w ≡ false
+unfolding isWindow
+too-large-k w h = ap (λ (b : Bool). b && inRange (northEast (2 ^ w .k - 1) (w .corner))) (lt-leb _ _ h)
+
+pub by-last-cell : (w : Window) → w .k ≤ mostExponent → isWindow w ≡ inRange (northEast (2 ^ w .k - 1) (w .corner))
+unfolding isWindow
+by-last-cell w h = ap (λ (b : Bool). b && inRange (northEast (2 ^ w .k - 1) (w .corner))) (le-leb _ _ h)
+
+-- A window's exponent is at most 24, and its square lies on the chart.
+pub window-says : (w : Window) → isWindow w ≡ true → (w .k ≤ mostExponent) × OnChart (w .k) (2 ^ w .k) (w .corner)
+unfolding isWindow
+window-says w e =
+    let two = both (leb (w .k) mostExponent) (inRange (northEast (2 ^ w .k - 1) (w .corner))) e in
+    let far = in-range-says (northEast (2 ^ w .k - 1) (w .corner)) (two .1) in
+    let some : 0 < 2 ^ w .k = pow-pos (w .k) in (
+      leb-true _ _ (two .0),
+      record { side-is = refl; east = omega (arith, far .0); north = omega (arith, far .1) },
+    )
+
+-- Every cell of a square on the chart is in range.
+pub cell-in-range : (k side : ℕ) (p o : Place) → OnChart k side p → IsCellOf k p o → inRange o ≡ true
+cell-in-range k side p o w i =
+    says-in-range o
+    (omega (arith, w .side-is, w .east, i .to-east))
+    (omega (arith, w .side-is, w .north, i .to-north))
