@@ -103,5 +103,10 @@ module _ (s : Standing) (t : Tally) (l : List ℕ) (h : Holds s t l) where
       pub dropped-holds : (k j : ℕ) → k ≡ suc j → isKept q j p ≡ false → Holds (visit q k p s) (begunTally t) l
       dropped-holds k j ek e = subst⁻¹ (λ (x : Standing). Holds x (begunTally t) l) (square k j false ek e) (count-holds z)
 
-      pub quarters-hold : (k j : ℕ) (r : Tally) (l' : List ℕ) → k ≡ suc j → isKept q j p ≡ true → Holds (quarters q j p (counted s)) r l' → Holds (visit q k p s) r l'
-      quarters-hold k j r l' ek e g = subst⁻¹ (λ (x : Standing). Holds x r l') (square k j true ek e) g
+      pub quarters-hold : (k j : ℕ) (se nw ne : Place) (r : Tally) (l' : List ℕ) → k ≡ suc j → isKept q j p ≡ true → se ≡ east (2 ^ j) p → nw ≡ north (2 ^ j) p → ne ≡ northEast (2 ^ j) p → Holds (visit q j ne (visit q j nw (visit q j se (visit q j p (counted s))))) r l' → Holds (visit q k p s) r l'
+      quarters-hold k j se nw ne r l' ek e ese enw ene g =
+          subst⁻¹ (λ (x : Standing). Holds x r l')
+          (square k j true ek e
+          ∙ ap (λ (o : Place). visit q j (northEast (2 ^ j) p) (visit q j (north (2 ^ j) p) (visit q j o (visit q j p (counted s))))) (sym ese)
+          ∙ ap₂ (λ (o o' : Place). visit q j o' (visit q j o (visit q j se (visit q j p (counted s))))) (sym enw) (sym ene))
+          g

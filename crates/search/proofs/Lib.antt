@@ -1,6 +1,8 @@
 -- What follows from the definitions of the search.
 pub mod WindowLaws
 pub mod WalkLaws
+pub mod CellLaws
+pub mod Order
 mod Agreeing
 mod Clearing
 mod Signs

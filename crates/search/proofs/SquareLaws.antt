@@ -1,14 +1,16 @@
 -- Squares on the chart: the corner, the middle and the quarters of one.
 use Prim.Native.Nat.{ℕ, suc, _+_, _-_, _*_, _/_, _^_, _≤_, _<_}
-use mathlib.Core.Path.{_≡_, ap, _∙_}
+use mathlib.Core.Path.{_≡_, ap, ap₂, _∙_}
 use mathlib.Core.Bool.{true}
 use native.Mathlib.Omega.{arith}
 use native.Mathlib.Nat.{pow-succ'}
 use lib.Pow.{pow-pos}
 use Rattle.chart.specs.declared.Place.{Place}
 use Rattle.chart.specs.Places.{inRange}
+use Rattle.chart.specs.Readings.{within}
 use Rattle.chart.proofs.PlaceLaws.{says-in-range}
 use Rattle.search.specs.Windows.{east, north, northEast}
+use Rattle.search.specs.Questions.{Question, isKept}
 use Rattle.search.specs.Holding.{OnChart}
 
 module _ (k side : ℕ) (p : Place) (w : OnChart k side p) where
@@ -36,6 +38,13 @@ module _ (k side : ℕ) (p : Place) (w : OnChart k side p) where
         says-in-range (northEast (side / 2) p)
         (omega (arith, half-is, doubled, some, w .side-is, w .east))
         (omega (arith, half-is, doubled, some, w .side-is, w .north))
+
+    -- The test of the code, at the middle of the square, is the definition's.
+    pub kept-is : (q : Question) (middle : Place) → middle ≡ northEast (side / 2) p → within (q .tolerance + 2 * side + 2) (q .chain) (q .wanted) middle ≡ isKept q (k - 1) p
+    kept-is q middle e =
+        ap₂ (λ (d : ℕ) (o : Place). within (q .tolerance + 2 * d + 2) (q .chain) (q .wanted) o)
+        (w .side-is ∙ ap (λ (x : ℕ). 2 ^ x) k-is)
+        (e ∙ ap (λ (d : ℕ). northEast d p) half-is)
 
     pub south-west : OnChart (k - 1) (side / 2) p
     south-west = record { side-is = half-is; east = omega (arith, w .east); north = omega (arith, w .north) }

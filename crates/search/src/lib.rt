@@ -9,6 +9,7 @@ ghost use lib.ListN.{length, take, replicate};
 ghost use Rattle.chart.specs.Places.{inRange, squaredDistance};
 ghost use Rattle.chart.specs.Readings.{rangeOf, differ, wantedOf, within};
 ghost use Rattle.search.specs.Windows.{isWindow};
+ghost use Rattle.search.specs.Windows as windows;
 ghost use Rattle.search.specs.Questions.{questionOf, mostReading, noneTooLarge};
 ghost use Rattle.search.specs.Walk.{Standing, start};
 ghost use Rattle.search.specs.Walk as walk;
@@ -202,10 +203,30 @@ fn side_of(k: u32) -> u32
     1u32 << k
 }
 
-// The place d farther north and d farther east.
+// The place d farther east; d farther north; d farther both ways.
+fn east(p: Place, d: u32) -> Place
+    requires { ⌜ p .easting + d < 2 ^ 32 ⌝ }
+    ensures { λ r. ⌜ r ≡ windows.east d p ⌝ }
+{
+    Place {
+        easting: p.easting + d,
+        northing: p.northing,
+    }
+}
+
+fn north(p: Place, d: u32) -> Place
+    requires { ⌜ p .northing + d < 2 ^ 32 ⌝ }
+    ensures { λ r. ⌜ r ≡ windows.north d p ⌝ }
+{
+    Place {
+        easting: p.easting,
+        northing: p.northing + d,
+    }
+}
+
 fn north_east(p: Place, d: u32) -> Place
     requires { ⌜ (p .easting + d < 2 ^ 32) × (p .northing + d < 2 ^ 32) ⌝ }
-    ensures { λ r. ⌜ r ≡ record { easting = p .easting + d; northing = p .northing + d } ⌝ }
+    ensures { λ r. ⌜ r ≡ windows.northEast d p ⌝ }
 {
     Place {
         easting: p.easting + d,
@@ -292,30 +313,8 @@ fn visit(list: &mut [u32], h: Hunt, k: u32, side: u32, p: Place, guess: u64, t: 
         return begun;
     }
     let sw = visit(list, h, k - 1, half, p, m, begun);
-    let se = visit(
-        list,
-        h,
-        k - 1,
-        half,
-        Place {
-            easting: p.easting + half,
-            northing: p.northing,
-        },
-        m,
-        sw,
-    );
-    let nw = visit(
-        list,
-        h,
-        k - 1,
-        half,
-        Place {
-            easting: p.easting,
-            northing: p.northing + half,
-        },
-        m,
-        se,
-    );
+    let se = visit(list, h, k - 1, half, east(p, half), m, sw);
+    let nw = visit(list, h, k - 1, half, north(p, half), m, se);
     visit(list, h, k - 1, half, middle, m, nw)
 }
 
@@ -349,7 +348,7 @@ fn cell(list: &mut [u32], h: Hunt, p: Place, guess: u64, t: Tally) -> Tally
 
 // Whether every slave's reading at p is as wanted, give or take slack, where m is the master's range.
 fn near(h: Hunt, p: Place, m: u64, slack: u64) -> bool
-    requires { ⌜ Ready h × (inRange p ≡ true) × (m ≡ rangeOf p (h .master)) × (m < 2 ^ 30) × (slack < 2 ^ 26) ⌝ }
+    requires { ⌜ Ready h × (inRange p ≡ true) × (m ≡ rangeOf p (h .master)) × (m < 2 ^ 30) × (slack < 2 ^ 28) ⌝ }
     ensures { λ r. ⌜ r ≡ within slack (questionBy h .chain) (questionBy h .wanted) p ⌝ }
 {
     if !agrees(h.a, p, m, slack) {
@@ -361,7 +360,7 @@ fn near(h: Hunt, p: Place, m: u64, slack: u64) -> bool
 // The same of one slave. Its range is the root of y, and a root lies from low to high exactly if the number lies from low²
 // to below (high + 1)²: so no root is taken.
 fn agrees(w: Wish, p: Place, m: u64, slack: u64) -> bool
-    requires { ⌜ Fair w × (inRange p ≡ true) × (m < 2 ^ 30) × (slack < 2 ^ 26) ⌝ }
+    requires { ⌜ Fair w × (inRange p ≡ true) × (m < 2 ^ 30) × (slack < 2 ^ 28) ⌝ }
     ensures { λ r. ⌜ r ≡ leb (differ (subℕ (rangeOf p (w .slave)) m) (subℕ (w .above) (w .below))) slack ⌝ }
 {
     let y = squared(p, w.slave);

@@ -1,10 +1,13 @@
+-- `search::cell` meets its contract: the cell misses, finds the list full, or goes behind the others.
+use mathlib.Core.Path.{sym, _∙_}
+use native.Mathlib.Omega.{arith}
 use borrow.Author.Needs.{needs}
+use borrow.Author.Tests.{not-true, not-false}
+use lib.ListN.{length-set}
+use Rattle.search.specs.Holding.{questionBy}
+use Rattle.search.proofs.HoldLaws.{missed-holds, full-holds, listed-holds}
 use Rattle.search.proofs.cell.Statement.{statement}
 use Rattle.search.proofs.cell.Tie as tie
-use Rattle.search.proofs.cell.Reads as reads
-use Rattle.search.proofs.cell.Lts as lts
-use Rattle.search.proofs.near.Reads as near-reads
-use Rattle.search.proofs.range.Reads as range-reads
 
 range-requires : tie.Need-range-requires
 range-requires c κs = search needs
@@ -13,10 +16,16 @@ near-requires : tie.Need-near-requires
 near-requires c κs = search needs
 
 returns : tie.Need-returns
-returns c = ?
+returns c s h =
+    let a = c .before .before .before .before .args in
+    missed-holds s (a .t) (a .list .now) h (questionBy (a .h)) (a .p) (sym (c .before .near .ensures) ∙ not-true _ (c .if1 .taken))
 
 returns-2 : tie.Need-returns-2
-returns-2 c = ?
+returns-2 c s h =
+    let a = c .before .before .before .before .before .before .args in
+    full-holds s (a .t) (a .list .now) h (questionBy (a .h)) (a .p)
+    (sym (c .before .before .before .near .ensures) ∙ not-false _ (c .before .before .if1 .left))
+    (c .if2 .taken)
 
 mul-i : tie.Need-mul-i
 mul-i c = search needs
@@ -34,7 +43,7 @@ mul-list-2 : tie.Need-mul-list-2
 mul-list-2 c = search needs
 
 slice-write-list-2 : tie.Need-slice-write-list-2
-slice-write-list-2 c = ?
+slice-write-list-2 c = simp length-set (omega arith)
 
 add-t12 : tie.Need-add-t12
 add-t12 c = search needs
@@ -43,7 +52,13 @@ same-length : tie.Need-same-length
 same-length c = search needs
 
 returns-3 : tie.Need-returns-3
-returns-3 c = ?
+returns-3 c s h =
+    let start = c .before .before .before .before .before .before in
+    let a = start .args in
+    listed-holds s (a .t) (a .list .now) h (questionBy (a .h)) (a .p)
+    (sym (c .before .before .before .near .ensures) ∙ not-false _ (c .before .before .if1 .left))
+    (c .if2 .left)
+    (start .pre .2)
 
 pub cell-spec : {M : Type 1} → statement M
 cell-spec =
