@@ -5,7 +5,7 @@ use mathlib.Core.Bool.{Bool, true, false}
 use mathlib.Core.List.{List, [], _∷_, _++_}
 use native.Mathlib.Omega.{arith}
 use native.Mathlib.Nat.{pow-succ'}
-use lib.ListN.{length, take, set, length-set, length-append}
+use lib.ListN.{length, take, set, length-set, length-append, length-take}
 use lib.Pow.{pow-pos}
 use lib.Seq.{take-suc-set}
 use Rattle.chart.specs.declared.Place.{Place}
@@ -26,6 +26,11 @@ unfolding entriesOf
 entries-more [] p = refl
 entries-more (o ∷ ps) p = ap (λ (l : List ℕ). o .easting ∷ o .northing ∷ l) (entries-more ps p)
 
+length-entries : (ps : List Place) → length (entriesOf ps) ≡ 2 * length ps
+unfolding entriesOf
+length-entries [] = refl
+length-entries (p ∷ ps) = omega (arith, length-entries ps)
+
 -- Two entries set, one after the other.
 set-two : (l : List ℕ) (i e n : ℕ) → i + 1 < length l → take (i + 2) (set (set l i e) (i + 1) n) ≡ (take i l ++ (e ∷ [])) ++ (n ∷ [])
 set-two l i e n h =
@@ -42,6 +47,10 @@ abbrev pub begunTally : Tally → Tally
 begunTally t = record { stop = 0; count = t .count; visits = t .visits + 1 }
 
 module _ (s : Standing) (t : Tally) (l : List ℕ) (h : Holds s t l) where
+  -- The places held are all in the list.
+  pub held-fits : 2 * t .count ≤ length l
+  held-fits = omega (arith, h .count, ap length (h .entries), length-entries (s .places), length-take (2 * t .count) l)
+
   pub stop-holds : (why : ℕ) → Holds (stopped why s) (stopTally why t) l
   stop-holds why = record { stop = refl; visits = h .visits; count = h .count; entries = h .entries }
 

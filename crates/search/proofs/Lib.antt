@@ -1,6 +1,7 @@
 -- What follows from the definitions of the search.
 pub mod WindowLaws
 pub mod WalkLaws
+pub mod AnswerLaws
 pub mod CellLaws
 pub mod Order
 mod Agreeing
@@ -8,3 +9,5 @@ mod Clearing
 mod Signs
 mod HoldLaws
 mod SquareLaws
+mod EndLaws
+mod Asking

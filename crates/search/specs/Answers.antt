@@ -1,6 +1,7 @@
 -- What a search answers: the refusals in 01's order, then how the walk ended; and what the list then holds
 -- (01, Numbers of refusal).
-use Prim.Native.Nat.{ℕ, _-_, _*_}
+use Prim.Native.Nat.{ℕ, _-_, _*_, _≤_}
+use mathlib.Core.Path.{_≡_}
 use mathlib.Core.Bool.{Bool, true, false, cond}
 use mathlib.Core.List.{List, [], _∷_, _++_}
 use lib.Dec.{leb, eqb}
@@ -39,6 +40,13 @@ ended s =
 abbrev pub unless : Bool → Answer → (Unit {0} → Outcome) → Outcome
 unless true a rest = rest tt
 unless false a rest = refused a
+
+-- The tests before the walk all pass.
+pub record Accepted (q : Question) (w : Window) : Type 0 where
+  pub readings : noneTooLarge (q .wanted) ≡ true
+  pub chain : isSound (q .chain) ≡ true
+  pub window : isWindow w ≡ true
+  pub tolerance : q .tolerance ≤ mostTolerance
 
 -- The search: 3, 5, 6, 7, then the walk.
 unfoldable pub searchOf : Question → Window → Outcome

@@ -1,17 +1,32 @@
+-- `search::walked` meets its contract: the walk starts with any list, and its end is told with the list cleared.
+use Prim.Native.Nat.{_*_}
+use mathlib.Core.Path.{_≡_, sym, _∙_}
+use native.Mathlib.Omega.{arith}
 use borrow.Author.Needs.{needs}
+use lib.ListN.{length}
+use Rattle.search.specs.Walk.{visit, start}
+use Rattle.search.specs.Holding.{questionBy, Holds}
+use Rattle.search.proofs.WindowLaws.{window-says}
+use Rattle.search.proofs.HoldLaws.{held-fits}
+use Rattle.search.proofs.EndLaws.{start-holds, out-told, full-told, none-told, some-told}
 use Rattle.search.proofs.walked.Statement.{statement}
 use Rattle.search.proofs.walked.Tie as tie
-use Rattle.search.proofs.walked.Reads as reads
-use Rattle.search.proofs.walked.Lts as lts
-use Rattle.search.proofs.clear.Reads as clear-reads
-use Rattle.search.proofs.side_of.Reads as side-of-reads
-use Rattle.search.proofs.visit.Reads as visit-reads
 
 side-of-requires : tie.Need-side-of-requires
-side-of-requires c κs = ?
+side-of-requires c κs = window-says (c .before .before .args .w) (c .before .before .pre .1) .0
 
 visit-requires : tie.Need-visit-requires
-visit-requires c κs = ?
+visit-requires c κs =
+    let start = c .before .before .before in
+    let w = window-says (start .args .w) (start .pre .1) .1 in (
+      start .pre .0,
+      record { side-is = c .side-of .ensures; east = omega (arith, c .side-of .ensures, w .east); north = omega (arith, c .side-of .ensures, w .north) },
+      start .pre .2,
+    )
+
+-- Where the walk stands when all is visited.
+held : (c : tie.After-visit) → let a = c .before .before .before .before .args in Holds (visit (questionBy (a .h)) (a .w .k) (a .w .corner) start) (c .visit .result) (c .visit .last .0)
+held c = c .visit .ensures start (start-holds _)
 
 clear-requires : tie.Need-clear-requires
 clear-requires c κs = search needs
@@ -20,7 +35,10 @@ same-length : tie.Need-same-length
 same-length c = search needs
 
 returns : tie.Need-returns
-returns c = ?
+returns c =
+    let then = c .before .before .before .before in
+    let visit = then .before .before .before .before in
+    out-told _ _ (visit .visit .result) (visit .visit .last .0) _ (held visit) (visit .visit .kept .0) (then .if1 .taken) (c .before .before .clear .ensures)
 
 clear-requires-2 : tie.Need-clear-requires-2
 clear-requires-2 c κs = search needs
@@ -29,7 +47,11 @@ same-length-2 : tie.Need-same-length-2
 same-length-2 c = search needs
 
 returns-2 : tie.Need-returns-2
-returns-2 c = ?
+returns-2 c =
+    let then = c .before .before .before .before in
+    let not-out = then .before .before in
+    let visit = not-out .before .before .before .before in
+    full-told _ _ (visit .visit .result) (visit .visit .last .0) _ (held visit) (visit .visit .kept .0) (not-out .if1 .left) (then .if2 .taken) (c .before .before .clear2 .ensures)
 
 clear-requires-3 : tie.Need-clear-requires-3
 clear-requires-3 c κs = search needs
@@ -38,10 +60,17 @@ same-length-3 : tie.Need-same-length-3
 same-length-3 c = search needs
 
 returns-3 : tie.Need-returns-3
-returns-3 c = ?
+returns-3 c =
+    let then = c .before .before .before .before in
+    let not-full = then .before in
+    let not-out = not-full .before .before in
+    let visit = not-out .before .before .before .before in
+    none-told _ _ (visit .visit .result) (visit .visit .last .0) _ (held visit) (visit .visit .kept .0) (not-out .if1 .left) (not-full .if2 .left) (then .if3 .taken) (c .before .before .clear3 .ensures)
 
 mul-clear : tie.Need-mul-clear
-mul-clear c = ?
+mul-clear c =
+    let visit = c .before .before .before .before .before .before .before .before in
+    omega (arith, held-fits _ _ _ (held visit), visit .visit .kept .0)
 
 clear-requires-4 : tie.Need-clear-requires-4
 clear-requires-4 c κs = search needs
@@ -50,7 +79,12 @@ same-length-4 : tie.Need-same-length-4
 same-length-4 c = search needs
 
 returns-4 : tie.Need-returns-4
-returns-4 c = ?
+returns-4 c =
+    let some = c .before .before .before .before in
+    let not-full = some .before in
+    let not-out = not-full .before .before in
+    let visit = not-out .before .before .before .before in
+    some-told _ _ (visit .visit .result) (visit .visit .last .0) _ (held visit) (visit .visit .kept .0) (not-out .if1 .left) (not-full .if2 .left) (some .if3 .left) (c .before .before .clear4 .ensures)
 
 pub walked-spec : {M : Type 1} → statement M
 walked-spec =

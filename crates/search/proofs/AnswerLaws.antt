@@ -1,0 +1,50 @@
+-- What a search answers, case by case: the first test that fails, or how the walk ended.
+use Prim.Native.Nat.{_<_}
+use mathlib.Core.Path.{_≡_, refl}
+use mathlib.Core.Bool.{true, false}
+use mathlib.Core.List.{List, [], _∷_}
+use borrow.Author.Tests.{le-leb, lt-leb, eq-eqb, ne-eqb}
+use lib.ListN.{length}
+use Rattle.chart.specs.declared.Place.{Place}
+use Rattle.chart.specs.Chains.{isSound}
+use Rattle.search.specs.declared.Window.{Window}
+use Rattle.search.specs.declared.Answer.the-variants.{Places, ReadingTooLarge, Unsound, BadWindow, BadTolerance, NoMatch, NoRoom, AllowanceUsed}
+use Rattle.search.specs.Windows.{isWindow}
+use Rattle.search.specs.Questions.{Question, mostTolerance, noneTooLarge}
+use Rattle.search.specs.Walk.{Standing, start, visit}
+use Rattle.search.specs.Answers.{refused, gone, ended, Accepted, searchOf}
+
+module _ (s : Standing) where
+  pub ended-out : s .stop ≡ 10 → ended s ≡ refused (AllowanceUsed (s .visits))
+  unfolding ended
+  ended-out e = rw (eq-eqb (s .stop) 10 e)
+
+  pub ended-full : (s .stop ≡ 10 → ⊥) → s .stop ≡ 9 → ended s ≡ refused (NoRoom (s .visits))
+  unfolding ended
+  ended-full f e = rw (ne-eqb (s .stop) 10 f, eq-eqb (s .stop) 9 e)
+
+  pub ended-gone : (s .stop ≡ 10 → ⊥) → (s .stop ≡ 9 → ⊥) → ended s ≡ gone (s .places) (s .visits)
+  unfolding ended
+  ended-gone f g = rw (ne-eqb (s .stop) 10 f, ne-eqb (s .stop) 9 g)
+
+module _ (q : Question) (w : Window) where
+  pub search-3 : noneTooLarge (q .wanted) ≡ false → searchOf q w ≡ refused ReadingTooLarge
+  unfolding searchOf
+  search-3 e = rw e
+
+  pub search-5 : noneTooLarge (q .wanted) ≡ true → isSound (q .chain) ≡ false → searchOf q w ≡ refused Unsound
+  unfolding searchOf
+  search-5 e f = rw (e, f)
+
+  pub search-6 : noneTooLarge (q .wanted) ≡ true → isSound (q .chain) ≡ true → isWindow w ≡ false → searchOf q w ≡ refused BadWindow
+  unfolding searchOf
+  search-6 e f g = rw (e, f, g)
+
+  pub search-7 : noneTooLarge (q .wanted) ≡ true → isSound (q .chain) ≡ true → isWindow w ≡ true → mostTolerance < q .tolerance → searchOf q w ≡ refused BadTolerance
+  unfolding searchOf
+  search-7 e f g h = rw (e, f, g, lt-leb (q .tolerance) mostTolerance h)
+
+  -- With the tests passed the answer is the walk's.
+  pub search-walks : Accepted q w → searchOf q w ≡ ended (visit q (w .k) (w .corner) start)
+  unfolding searchOf
+  search-walks a = rw (a .readings, a .chain, a .window, le-leb (q .tolerance) mostTolerance (a .tolerance))
