@@ -1,9 +1,9 @@
+-- `search::as_figures` meets its contract, case by case.
+use mathlib.Core.Path.{sym, ap, _∙_}
 use borrow.Author.Needs.{needs}
+use Rattle.search.specs.Answers.{searchFigures}
 use Rattle.search.proofs.as_figures.Statement.{statement}
 use Rattle.search.proofs.as_figures.Tie as tie
-use Rattle.search.proofs.as_figures.Reads as reads
-use Rattle.search.proofs.as_figures.Lts as lts
-use Rattle.search.proofs.told.Reads as told-reads
 
 enum-known-a : tie.Need-enum-known-a
 enum-known-a c = search needs
@@ -54,28 +54,36 @@ told-requires-8 : tie.Need-told-requires-8
 told-requires-8 c κs = search needs
 
 returns : tie.Need-returns
-returns c = ?
+unfolding searchFigures
+returns c = c .told .ensures ∙ sym (ap searchFigures (c .before .before .a .given .1))
 
 returns-2 : tie.Need-returns-2
-returns-2 c = ?
+unfolding searchFigures
+returns-2 c = c .told2 .ensures ∙ sym (ap searchFigures (c .before .enum-told .given .1))
 
 returns-3 : tie.Need-returns-3
-returns-3 c = ?
+unfolding searchFigures
+returns-3 c = c .told3 .ensures ∙ sym (ap searchFigures (c .before .enum-told2 .given .1))
 
 returns-4 : tie.Need-returns-4
-returns-4 c = ?
+unfolding searchFigures
+returns-4 c = c .told4 .ensures ∙ sym (ap searchFigures (c .before .enum-told3 .given .1))
 
 returns-5 : tie.Need-returns-5
-returns-5 c = ?
+unfolding searchFigures
+returns-5 c = c .told5 .ensures ∙ sym (ap searchFigures (c .before .enum-told4 .given .1))
 
 returns-6 : tie.Need-returns-6
-returns-6 c = ?
+unfolding searchFigures
+returns-6 c = c .told6 .ensures ∙ sym (ap searchFigures (c .before .before .a2 .given .1))
 
 returns-7 : tie.Need-returns-7
-returns-7 c = ?
+unfolding searchFigures
+returns-7 c = c .told7 .ensures ∙ sym (ap searchFigures (c .before .before .a3 .given .1))
 
 returns-8 : tie.Need-returns-8
-returns-8 c = ?
+unfolding searchFigures
+returns-8 c = c .told8 .ensures ∙ sym (ap searchFigures (c .before .before .a4 .given .1))
 
 pub as-figures-spec : {M : Type 1} → statement M
 as-figures-spec =
