@@ -42,6 +42,10 @@ differ-is a b u d =
     by-order (λ (z : ℤ). differ (subℕ a b) z ≡ apart (a + d) (b + u)) u d
     (λ h. from-below a b (d - suc u) ∙ omega arith) (λ h. from-above a b (u - d) ∙ omega arith)
 
+-- A difference does not differ from itself.
+pub differ-same : (a b : ℕ) → differ (subℕ a b) (subℕ a b) ≡ 0
+differ-same a b = differ-is a b a b ∙ omega arith
+
 nothing-less : (n : ℕ) → subℕ n 0 ≡ pos n
 nothing-less n = simp (le-ltb n 0 (omega arith)) (ap pos (omega arith))
 

@@ -4,6 +4,14 @@ pub mod WalkLaws
 pub mod AnswerLaws
 pub mod CellLaws
 pub mod Order
+pub mod Dropping
+pub mod Whole
+pub mod Finished
+pub mod Counting
+pub mod Keeping
+pub mod Limits
+pub mod Outcomes
+pub mod Theorems
 mod Agreeing
 mod Clearing
 mod Signs

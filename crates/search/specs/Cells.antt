@@ -1,10 +1,10 @@
 -- What a search is to find, said without a walk: the matching cells in chart order, and how many visits they take
 -- (01, The search and its count).
-use Prim.Native.Nat.{ℕ, zero, suc, _+_, _-_, _*_, _/_, _%_, _^_, _<_}
+use Prim.Native.Nat.{ℕ, zero, suc, _+_, _-_, _*_, _/_, _%_, _^_, _≤_, _<_}
 use mathlib.Core.Bool.{Bool, true, false}
-use mathlib.Core.List.{List, [], _∷_, _++_}
+use mathlib.Core.List.{List, [], _∷_, _++_, List·Memᴰ}
+use lib.ListN.{length}
 use Rattle.chart.specs.declared.Place.{Place}
-use Rattle.chart.specs.Readings.{within}
 use Rattle.search.specs.declared.Window.{Window}
 use Rattle.search.specs.Windows.{east, north, northEast}
 use Rattle.search.specs.Questions.{Question, matches, isKept}
@@ -58,3 +58,14 @@ visitsOf q (suc k) p =
 -- The most that any square of side 2^k takes.
 abbrev pub mostVisits : ℕ → ℕ
 mostVisits k = (4 ^ (k + 1) - 1) / 3
+
+-- A place stands in a list.
+abbrev pub Listed : Place → List Place → Type 0
+Listed p ps = List·Memᴰ p ps
+
+-- Ample room: for every matching cell. Ample allowance: for every visit that the window takes.
+abbrev pub AmpleRoom : Question → Window → Type 0
+AmpleRoom q w = length (matching q (w .k) (w .corner)) ≤ q .room
+
+abbrev pub AmpleAllowance : Question → Window → Type 0
+AmpleAllowance q w = visitsOf q (w .k) (w .corner) ≤ q .allowance

@@ -1,0 +1,62 @@
+-- A square that is dropped has no matching cell. Each of its cells lies at most half a side from the middle each way, so its
+-- ranges differ from the middle's by at most 3/4 of the side, and its readings by twice that.
+use Prim.Native.Nat.{ℕ, zero, suc, _+_, _*_, _^_, _≤_, _<_}
+use mathlib.Core.Path.{_≡_, refl, sym, ap, _∙_}
+use mathlib.Core.Bool.{Bool, true, false, true≢false}
+use mathlib.Core.List.{[]}
+use native.Mathlib.Omega.{arith}
+use native.Mathlib.Nat.{pow-succ', mul-assoc, mul-left-comm}
+use Rattle.squares.proofs.Squares.{sq-double}
+use Rattle.chart.specs.declared.Place.{Place}
+use Rattle.chart.specs.Places.{apart}
+use Rattle.chart.specs.Readings.{within}
+use Rattle.chart.proofs.Moving.{within-moves}
+use Rattle.search.specs.Windows.{northEast, IsCellOf}
+use Rattle.search.specs.Questions.{Question, matches, isKept}
+use Rattle.search.specs.Cells.{matching, cells}
+use Rattle.search.proofs.CellLaws.{those-none, cell-inside}
+
+-- How far a range moves from the middle of a square of side 2 ^ (k + 1) to any of its cells, at the most.
+span : ℕ → ℕ
+span zero = 2
+span (suc j) = 3 * 2 ^ j
+
+sq-treble : (x : ℕ) → (3 * x) * (3 * x) ≡ 9 * (x * x)
+sq-treble x = simp (mul-assoc, mul-left-comm x 3 x) (omega arith)
+
+-- It spans half a side each way.
+spans : (k : ℕ) → 2 ^ k * 2 ^ k + 2 ^ k * 2 ^ k ≤ span k * span k
+unfolding span
+spans zero = omega arith
+spans (suc j) =
+    omega (arith, ap (λ (x : ℕ). x * x) (pow-succ' 2 j), sq-double (2 ^ j), sq-treble (2 ^ j))
+
+-- And the dropping rule leaves room for it twice.
+room-for-it : (t k : ℕ) → t + 2 * span k ≤ t + 2 * 2 ^ suc k + 2
+unfolding span
+room-for-it t zero = omega arith
+room-for-it t (suc j) = omega (arith, pow-succ' 2 (suc j), pow-succ' 2 j)
+
+from-middle : (p o h side : ℕ) → side ≡ 2 * h → p ≤ o → o < p + side → apart (p + h) o ≤ h
+from-middle p o h side e l u = omega arith
+
+-- Where a cell of the square matches, the square is kept.
+kept-by : (q : Question) (k : ℕ) (p o : Place) → IsCellOf (suc k) p o → matches q o ≡ true → isKept q k p ≡ true
+kept-by q k p o i e =
+    within-moves (q .tolerance) _ (q .chain) (q .wanted) (northEast (2 ^ k) p) o (2 ^ k) (2 ^ k) (span k)
+    (from-middle (p .easting) (o .easting) (2 ^ k) (2 ^ suc k) (pow-succ' 2 k) (i .from-west) (i .to-east))
+    (from-middle (p .northing) (o .northing) (2 ^ k) (2 ^ suc k) (pow-succ' 2 k) (i .from-south) (i .to-north))
+    (spans k)
+    (room-for-it (q .tolerance) k)
+    e
+
+not-so : (b : Bool) → (b ≡ true → ⊥) → b ≡ false
+not-so true f = absurd (f refl)
+not-so false f = refl
+
+-- The dropping law.
+pub dropped-none : (q : Question) (k : ℕ) (p : Place) → isKept q k p ≡ false → matching q (suc k) p ≡ []
+unfolding matching
+dropped-none q k p e =
+    those-none (matches q) (cells (suc k) p)
+    (λ o m. not-so (matches q o) (λ t. true≢false (sym (kept-by q k p o (cell-inside (suc k) p o m) t) ∙ e)))

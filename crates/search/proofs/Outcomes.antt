@@ -1,0 +1,92 @@
+-- How a search that was accepted ends, said by its matching cells and the visits they take.
+use Prim.Native.Nat.{ℕ, _+_, _≤_, _<_}
+use mathlib.Core.Path.{_≡_, refl, sym, ap, ap₂, _∙_, subst⁻¹}
+use mathlib.Core.Logic.{_⊎_, inl, inr}
+use mathlib.Core.Bool.{Bool, true, false}
+use mathlib.Core.List.{[]}
+use native.Mathlib.Omega.{arith}
+use native.Mathlib.Nat.{lt-of-not-le}
+use native.Mathlib.Decide.{decLe}
+use borrow.Author.Tests.{eqb-false}
+use lib.ListN.{length}
+use Rattle.chart.specs.Chains.{isSound}
+use Rattle.search.specs.declared.Window.{Window}
+use Rattle.search.specs.declared.Answer.{Answer}
+use Rattle.search.specs.declared.Answer.the-variants.{ReadingTooLarge, Unsound, BadWindow, BadTolerance, NoRoom, AllowanceUsed}
+use Rattle.search.specs.Windows.{isWindow}
+use Rattle.search.specs.Questions.{Question, mostTolerance, noneTooLarge}
+use Rattle.search.specs.Walk.{Standing, start, visit}
+use Rattle.search.specs.Answers.{Outcome, refused, gone, ended, Accepted, searchOf, searchFigures}
+use Rattle.search.specs.Cells.{matching, visitsOf, AmpleRoom, AmpleAllowance}
+use Rattle.search.proofs.AnswerLaws.{ended-out, ended-full, ended-gone, search-3, search-5, search-6, search-7, search-walks}
+use Rattle.search.proofs.Whole.{whole}
+use Rattle.search.proofs.Finished.{finished}
+use Rattle.search.proofs.Limits.{bounded, too-little-room}
+
+-- The walk of a search.
+abbrev walk : Question → Window → Standing
+walk q w = visit q (w .k) (w .corner) start
+
+-- The outcome of a walk that goes to its end.
+abbrev pub complete : Question → Window → Outcome
+complete q w = gone (matching q (w .k) (w .corner)) (visitsOf q (w .k) (w .corner))
+
+from-nought : (n : ℕ) → 0 + n ≡ n
+from-nought n = omega arith
+
+module _ (q : Question) (w : Window) where
+  -- A walk that was not stopped ended complete.
+  unstopped : walk q w .stop ≡ 0 → ended (walk q w) ≡ complete q w
+  unstopped e =
+      let done = finished q (w .k) (w .corner) [] 0 e in
+      ended-gone (walk q w) (λ x. eqb-false 0 10 refl (sym e ∙ x)) (λ x. eqb-false 0 9 refl (sym e ∙ x))
+      ∙ ap₂ gone (ap (λ (s : Standing). s .places) done) (ap (λ (s : Standing). s .visits) done ∙ from-nought _)
+
+  module _ (a : Accepted q w) (enough : AmpleAllowance q w) where
+    -- With ample allowance and room.
+    pub ample-complete : AmpleRoom q w → searchOf q w ≡ complete q w
+    ample-complete room =
+        search-walks q w a
+        ∙ unstopped (ap (λ (s : Standing). s .stop) (whole q (w .k) (w .corner) [] 0 (omega arith) (omega arith)))
+
+    -- With ample allowance and too little room.
+    pub short-full : q .room < length (matching q (w .k) (w .corner)) → searchOf q w ≡ refused (NoRoom (walk q w .visits))
+    short-full room =
+        let nine : walk q w .stop ≡ 9 = too-little-room q (w .k) (w .corner) enough room in
+        search-walks q w a ∙ ended-full (walk q w) (λ x. eqb-false 9 10 refl (sym nine ∙ x)) nine
+
+-- How a search ends: at a test before the walk, complete, for want of room, or with the allowance used up.
+pub data Ending (q : Question) (w : Window) : Outcome → Type 0 where
+  early : (a : Answer) → (8 ≤ searchFigures a .refusal → ⊥) → (searchFigures a .visits ≡ 0) → Ending q w (refused a)
+  done : visitsOf q (w .k) (w .corner) ≤ q .allowance → Ending q w (complete q w)
+  full : (v : ℕ) → v ≤ q .allowance → Ending q w (refused (NoRoom v))
+  out : Ending q w (refused (AllowanceUsed (q .allowance)))
+
+module _ (q : Question) (w : Window) where
+  by-stop : Accepted q w → (walk q w .stop ≡ 0) ⊎ ((walk q w .stop ≡ 9) ⊎ (walk q w .stop ≡ 10)) → Ending q w (searchOf q w)
+  by-stop a (inl z) =
+      let most : visitsOf q (w .k) (w .corner) ≤ q .allowance =
+      omega (arith, bounded q (w .k) (w .corner) .most, ap (λ (s : Standing). s .visits) (finished q (w .k) (w .corner) [] 0 z)) in
+      subst⁻¹ (Ending q w) (search-walks q w a ∙ unstopped q w z) (done most)
+  by-stop a (inr (inl n)) =
+      subst⁻¹ (Ending q w) (search-walks q w a ∙ ended-full (walk q w) (λ x. eqb-false 9 10 refl (sym n ∙ x)) n)
+      (full (walk q w .visits) (bounded q (w .k) (w .corner) .most))
+  by-stop a (inr (inr t)) =
+      subst⁻¹ (Ending q w)
+      (search-walks q w a ∙ ended-out (walk q w) t ∙ ap (λ (v : ℕ). refused (AllowanceUsed v)) (bounded q (w .k) (w .corner) .all t))
+      out
+
+  by-tests : (b c d : Bool) → noneTooLarge (q .wanted) ≡ b → isSound (q .chain) ≡ c → isWindow w ≡ d → Dec (q .tolerance ≤ mostTolerance) → Ending q w (searchOf q w)
+  unfolding searchFigures
+  by-tests false c d e f g t = subst⁻¹ (Ending q w) (search-3 q w e) (early ReadingTooLarge (λ h. omega arith) refl)
+  by-tests true false d e f g t = subst⁻¹ (Ending q w) (search-5 q w e f) (early Unsound (λ h. omega arith) refl)
+  by-tests true true false e f g t = subst⁻¹ (Ending q w) (search-6 q w e f g) (early BadWindow (λ h. omega arith) refl)
+  by-tests true true true e f g (no t) =
+      subst⁻¹ (Ending q w) (search-7 q w e f g (lt-of-not-le t)) (early BadTolerance (λ h. omega arith) refl)
+  by-tests true true true e f g (yes t) =
+      by-stop (record { readings = e; chain = f; window = g; tolerance = t }) (bounded q (w .k) (w .corner) .stop)
+
+  -- Every search ends in one of these ways.
+  pub ending : Ending q w (searchOf q w)
+  ending =
+      by-tests (noneTooLarge (q .wanted)) (isSound (q .chain)) (isWindow w) refl refl refl (decLe (q .tolerance) mostTolerance)
