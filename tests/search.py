@@ -1,0 +1,462 @@
+#!/usr/bin/env python3
+"""Requests for crates/run_search, and what it must print of them, worked out from document 01 in whole numbers.
+
+    search.py stdin        the requests that have a reason, one to a line
+    search.py random SEED  1,500 others at random
+    search.py stdout       what the program must print, of the requests on standard input
+
+The visits are counted along the walk by quarters. The places are found apart from it: cell by cell in a small window, else
+by the least and the greatest distance of the cells of a box; their order is that of the interleaved numbers.
+"""
+import random
+import sys
+from math import isqrt
+from typing import NamedTuple
+
+EAST, NORTH = 100_000_000, 1_000_000_000
+CORNERS = (0, 0), (EAST, 0), (0, NORTH), (EAST, NORTH)
+AMPLE = 2**64 - 1
+
+
+class Request(NamedTuple):
+    master: tuple
+    a: tuple
+    b: tuple
+    wanted: tuple
+    corner: tuple
+    k: int
+    tolerance: int
+    allowance: int
+    entries: int
+    held: int
+
+
+def line_of(r):
+    readings = (reading % 2**64 for reading in r.wanted)
+    return " ".join(f"{n:x}" for n in (*r.master, *r.a, *r.b, *readings, *r.corner, *r[5:]))
+
+
+def request_of(line):
+    n = [int(word, 16) for word in line.split()]
+    wanted = tuple(x - 2**64 if x >= 2**63 else x for x in n[6:8])
+    return Request((n[0], n[1]), (n[2], n[3]), (n[4], n[5]), wanted, (n[8], n[9]), *n[10:])
+
+
+def distance(p, q):
+    return isqrt((p[0] - q[0]) ** 2 + (p[1] - q[1]) ** 2)
+
+
+def readings(r, p):
+    to_master = distance(p, r.master)
+    return distance(p, r.a) - to_master, distance(p, r.b) - to_master
+
+
+def off(r, p):
+    """By how much the readings of a place differ from those wanted: the larger of the two."""
+    return max(abs(reading - wanted) for reading, wanted in zip(readings(r, p), r.wanted))
+
+
+def moved(p, east, north):
+    return p[0] + east, p[1] + north
+
+
+def in_range(p):
+    return 0 <= p[0] <= EAST and 0 <= p[1] <= NORTH
+
+
+def refusal_of(r):
+    """The number of the first test that fails before any visit, or 0."""
+    stations = r.master, r.a, r.b
+    if any(abs(reading) > 1_000_000_000 for reading in r.wanted):
+        return 3
+    if len(set(stations)) < 3 or not all(in_range(p) for p in stations):
+        return 5
+    if r.k > 24 or not in_range(moved(r.corner, 2**r.k - 1, 2**r.k - 1)):
+        return 6
+    return 7 if r.tolerance > 100_000 else 0
+
+
+def walk(r):
+    """The squares in the order of their visits, each by its south-west cell and its side."""
+    squares = [(r.corner, 2**r.k)]
+    while squares:
+        corner, side = squares.pop()
+        yield corner, side
+        half = side // 2
+        if side > 1 and off(r, moved(corner, half, half)) <= r.tolerance + 2 * side + 2:
+            for east, north in (half, half), (0, half), (half, 0), (0, 0):
+                squares.append((moved(corner, east, north), half))
+
+
+def span(box, station):
+    """The least and the greatest distance to a station in a box of cells."""
+    west, south, east, north = box
+    e, n = station
+    least = isqrt(max(west - e, e - east, 0) ** 2 + max(south - n, n - north, 0) ** 2)
+    return least, isqrt(max(e - west, east - e) ** 2 + max(n - south, north - n) ** 2)
+
+
+def can_match(r, box):
+    near_master, far_master = span(box, r.master)
+    for slave, wanted in zip((r.a, r.b), r.wanted):
+        near, far = span(box, slave)
+        if near - far_master > wanted + r.tolerance or far - near_master < wanted - r.tolerance:
+            return False
+    return True
+
+
+def by_boxes(r):
+    """The matching cells: boxes that may hold one are halved, and in a box of one cell least and greatest are the same."""
+    boxes = [(*r.corner, *moved(r.corner, 2**r.k - 1, 2**r.k - 1))]
+    while boxes:
+        west, south, east, north = box = boxes.pop()
+        if not can_match(r, box):
+            continue
+        if west == east and south == north:
+            yield west, south
+        elif east - west > north - south:
+            middle = (west + east) // 2
+            boxes += (west, south, middle, north), (middle + 1, south, east, north)
+        else:
+            middle = (south + north) // 2
+            boxes += (west, south, east, middle), (west, middle + 1, east, north)
+
+
+def cell_by_cell(r):
+    cells = (moved(r.corner, east, north) for north in range(2**r.k) for east in range(2**r.k))
+    return (p for p in cells if off(r, p) <= r.tolerance)
+
+
+def chart_number(corner, p):
+    east, north = p[0] - corner[0], p[1] - corner[1]
+    return sum((east >> i & 1) << 2 * i | (north >> i & 1) << 2 * i + 1 for i in range(24))
+
+
+def answer(r):
+    """The refusal, the visits and the places."""
+    refusal = refusal_of(r)
+    if refusal:
+        return refusal, 0, []
+    visits, met = 0, []
+    for corner, side in walk(r):
+        if visits == r.allowance:
+            return 10, visits, []
+        visits += 1
+        if side == 1 and off(r, corner) <= r.tolerance:
+            if len(met) == r.entries // 2:
+                return 9, visits, []
+            met.append(corner)
+    found = cell_by_cell(r) if r.k <= 5 else by_boxes(r)
+    places = sorted(found, key=lambda p: chart_number(r.corner, p))
+    if met != places:
+        sys.exit(f"the walk of {r} meets {met}, and {places} match")
+    return 0 if places else 8, visits, places
+
+
+def told(r):
+    refusal, visits, places = answer(r)
+    entries = [number for p in places for number in p]
+    entries += [0] * (r.entries - len(entries))
+    return " ".join(str(word) for word in (refusal, len(places), visits, *entries, "rest", 1))
+
+
+# 01's chain 1 and its P4.
+P4 = Request((0, 0), (30000, 0), (0, 40000), (-10000, -20000), (30000, 40000), 1, 0, 100, 8, 7)
+# The stations of source document 002.
+PAPER = P4._replace(
+    master=(50_000_000, 500_000_000), a=(40_000_000, 490_000_000), b=(60_000_000, 500_000_000), allowance=AMPLE
+)
+# Stations as far apart as readings at every place of the chart allow.
+WIDE = P4._replace(master=(0, 0), a=(0, NORTH - 1), b=(EAST, 0))
+
+
+def p4(**changes):
+    return P4._replace(**changes)
+
+
+def own(r, p, **changes):
+    """A request for the readings of a place, its window that cell alone unless the changes say more."""
+    return r._replace(wanted=readings(r, p), **{"corner": p, "k": 0, **changes})
+
+
+def examples():
+    yield p4()
+    yield p4(tolerance=1)
+    yield p4(entries=2)
+    yield p4(allowance=4)
+    yield p4(allowance=4, entries=2)
+    yield p4(corner=(30001, 40000), k=0)
+    yield p4(wanted=(0, 0))
+
+
+def limits():
+    # a window of 2^24 whose middle is far off: one visit
+    for k in 24, 25, 31, 32, 33, 255, 2**32 - 1:
+        yield p4(k=k, wanted=(1_000_000_000, 1_000_000_000))
+    for tolerance in 100_000, 100_001, 2**32 - 1:
+        yield p4(tolerance=tolerance)
+    for reading in 1_000_000_000, 1_000_000_001, 2**32, 2**63 - 1:
+        for wanted in reading, -reading:
+            yield p4(wanted=(wanted, -20000))
+            yield p4(wanted=(-10000, wanted))
+    yield p4(wanted=(-(2**63), -20000))
+    yield p4(wanted=(-10000, -(2**63)))
+
+
+def edges():
+    """Windows in the corners of the chart, by chains far and near; then one cell too far, and sums beyond 32 bits."""
+    near = WIDE._replace(master=(EAST - 40, NORTH - 9), a=(EAST, NORTH - 30), b=(EAST - 25, NORTH))
+    for k in range(4):
+        for east, north in CORNERS:
+            corner = max(0, east + 1 - 2**k), max(0, north + 1 - 2**k)
+            for p in corner, moved(corner, 2**k - 1, 2**k - 1):
+                yield own(WIDE, p, corner=corner, k=k, entries=4 + 4 * k)
+        yield own(near, (EAST, NORTH), corner=corner, k=k)
+        yield p4(corner=(corner[0] + 1, 40000), k=k)
+        yield p4(corner=(30000, corner[1] + 1), k=k)
+    corner = EAST + 1 - 2**24, NORTH + 1 - 2**24
+    for east, north in (0, 0), (1, 0), (0, 1):
+        yield p4(corner=moved(corner, east, north), k=24, wanted=(1_000_000_000, 0))
+    for k in 0, 1, 3, 24:
+        for far in 2**32 - 1, 2**32 - 2**k:
+            yield p4(corner=(far, 0), k=k)
+            yield p4(corner=(0, far), k=k)
+
+
+def refusals():
+    """Every two faults at once, then all: the first test that fails answers."""
+    faults = (
+        {"wanted": (-10000, 1_000_000_001)},
+        {"b": (0, 0)},
+        {"corner": (EAST, 40000)},
+        {"tolerance": 100_001},
+        {"entries": 1},
+        {"allowance": 0},
+    )
+    for i, one in enumerate(faults):
+        yield p4(**one)
+        for other in faults[:i]:
+            yield p4(**other, **one)
+    yield p4(**{name: value for fault in faults for name, value in fault.items()})
+    yield p4(k=25, tolerance=100_001)
+
+
+def chains():
+    """Each station out of range, each two of them equal; then sound ones that stand close, at both ends of the chart."""
+    for station in "master", "a", "b":
+        for p in (EAST + 1, 0), (0, NORTH + 1), (2**32 - 1, 2**32 - 1):
+            yield p4(**{station: p})
+    yield p4(a=P4.master)
+    yield p4(b=P4.master)
+    yield p4(b=P4.a)
+    yield p4(a=P4.master, b=P4.master)
+    yield own(p4(a=(1, 0), b=(0, 1)), (2, 3), k=1)
+    yield own(p4(master=(EAST, NORTH), a=(EAST - 1, NORTH), b=(EAST, NORTH - 1)), (EAST - 3, NORTH - 2), k=1)
+
+
+# Readings, corner, k, count and visits, worked out apart from any of this: hyperbolas that cross twice, in the chain of
+# source document 002 and in one whose stations lie in a line; then that document's four points.
+LINE = PAPER._replace(a=(49_000_000, 500_000_000), b=(51_000_000, 500_000_000))
+CROSSINGS = (
+    (PAPER, (12205441, 9172617), (47499999, 497945629), 24, 3, 2753),
+    (LINE, (894427, 698348), (50000000, 499700000), 20, 2, 1821),
+    (PAPER, (5857865, -4142135), (55805696, 485805696), 23, 2, 3625),
+    (PAPER, (5928647, -4171602), (55805696, 485905696), 23, 1, 3557),
+    (PAPER, (5886978, -4212523), (55905696, 485805696), 23, 4, 3721),
+    (PAPER, (5957406, -4242337), (55905696, 485905696), 23, 2, 3689),
+)
+
+
+def crossings():
+    """Room and allowance ample, and just enough."""
+    for chain, wanted, corner, k, count, visits in CROSSINGS:
+        r = chain._replace(wanted=wanted, corner=corner, k=k)
+        yield r._replace(entries=20)
+        yield r._replace(entries=2 * count, allowance=visits)
+    # the last visit not allowed, and no room for the last place
+    yield r._replace(allowance=visits - 1)
+    yield r._replace(entries=2 * count - 1)
+    # windows about P4's first place, whose visits are known as well: 729 and 2009
+    yield p4(corner=(29984, 39984), k=5, allowance=AMPLE)
+    yield p4(corner=(27952, 37952), k=12, allowance=AMPLE)
+
+
+def lists():
+    """What a list held before is gone after every answer; rooms from none to more than enough, with half a place or not."""
+    answers = (
+        {},
+        {"wanted": (0, 2**40)},
+        {"a": (0, 0)},
+        {"k": 25},
+        {"tolerance": 2**20},
+        {"wanted": (0, 0)},
+        {"tolerance": 1, "entries": 6},
+        {"allowance": 3},
+    )
+    for changes in answers:
+        for held in 0, 2**32 - 1:
+            yield p4(**changes, held=held)
+        yield p4(**{"entries": 9, **changes, "held": 0x5A5A5A5A})
+    for entries in range(11):
+        yield p4(entries=entries)
+        yield p4(entries=entries, tolerance=1)
+    yield p4(entries=0, wanted=(0, 0))
+    yield p4(entries=1, wanted=(0, 0))
+    # as many places as the listing has room for, one room less, half a place more; the longest list, and too many for it
+    for entries in 511, 512, 513, 1100:
+        yield p4(k=4, tolerance=60, entries=entries, allowance=AMPLE)
+    yield p4(k=5, tolerance=90, entries=1100, allowance=AMPLE)
+
+
+def allowances():
+    for allowance in 0, 1, 2, 3, 5, 6, 2**32 + 2, 2**63, AMPLE:
+        yield p4(allowance=allowance)
+        yield p4(allowance=allowance, entries=1)
+        yield p4(allowance=allowance, entries=3)
+    # a window without a dropped square takes (4^(k+1) - 1)/3
+    for k in range(5):
+        most = (4 ** (k + 1) - 1) // 3
+        for allowance in most - 1, most:
+            yield p4(k=k, tolerance=100_000, allowance=allowance, entries=2 * 4**k)
+    # all that matches is met at the second visit, and still the others count
+    for allowance in 1, 2, 4, 5:
+        yield own(P4, (0, 0), k=1, allowance=allowance)
+    # a window that would take all its cells is stopped; another as large is gone through
+    yield p4(a=(1, 0), b=(0, 1), wanted=(1, 1), corner=(0, 0), k=24, allowance=2000)
+    yield own(PAPER, (62_345_678, 487_654_321), corner=(50_000_000, 480_000_000), k=24)
+
+
+def orders():
+    """Chart order goes by the offsets from a corner wherever it lies."""
+    for corner in (30000, 40000), (30001, 40003), (30007, 40014):
+        for k in 2, 3:
+            yield p4(corner=corner, k=k, tolerance=60, entries=2 * 4**k)
+    for tolerance in 0, 1, 2, 5:
+        yield p4(corner=(29991, 39990), k=5, tolerance=tolerance, entries=1000, allowance=AMPLE)
+
+
+def about(r, slack):
+    """Each reading off by so much and by one more, either way."""
+    for by in slack, -slack, slack + 1, -slack - 1:
+        yield r._replace(wanted=(r.wanted[0] + by, r.wanted[1]))
+        yield r._replace(wanted=(r.wanted[0], r.wanted[1] + by))
+
+
+def differences():
+    """At a cell by the tolerance, at the middle of a square by what drops it, and on a slave, whose range is 0."""
+    place = 30001, 40001
+    yield from about(own(P4, place), 0)
+    yield from about(own(p4(tolerance=100_000), place), 100_000)
+    yield from about(own(P4, place, corner=moved(place, -1, -1), k=1), 6)
+    yield from about(own(p4(tolerance=5), place, corner=moved(place, -4, -4), k=3), 23)
+    yield from about(own(P4, P4.a), 0)
+    yield from about(own(p4(tolerance=3), P4.b), 3)
+
+
+def close_errors():
+    """What 01 warns of: the readings that a wrong rule would give are asked for as well."""
+    yield own(P4, (30001, 40000))
+    yield p4(corner=(30001, 40000), k=0, wanted=(-10001, -19999))
+    yield own(P4, (1, 1))
+    yield p4(corner=(1, 1), k=0, wanted=(29997, 39998))
+    yield p4(wanted=(10000, 20000))
+    # a distance whose square is one less than (2jj + 1) squared, which a float takes for its root: the master's, a slave's
+    j = 22360
+    p = 2 * j, 2 * j * j
+    for chain in p4(a=moved(p, 0, -1), b=moved(p, 1, 0)), p4(master=moved(p, 0, -1), a=(0, 0), b=moved(p, 1, 0)):
+        r = own(chain, p)
+        yield r
+        yield r._replace(wanted=(r.wanted[0] - 1, r.wanted[1] - 1))
+        yield r._replace(wanted=(r.wanted[0] + 1, r.wanted[1]))
+    # at the corners of a window on the line from the master to a slave, where readings change fastest
+    for k in 2, 6, 10:
+        corner = 500_000, 500_000
+        for p in corner, moved(corner, 2**k - 1, 2**k - 1):
+            for master, a in ((0, 0), (1_000_000, 1_000_000)), ((1_000_000, 1_000_000), (0, 0)):
+                yield own(p4(master=master, a=a, b=(0, 1_000_000)), p, corner=corner, k=k, allowance=AMPLE, entries=20)
+    # a reading of 1,000,050,000 is not cut to what may be asked for
+    for tolerance in 49_999, 50_000, 50_001:
+        yield p4(a=(10_000_125, NORTH), b=(1, 0), wanted=(NORTH, 1), corner=(0, 0), k=0, tolerance=tolerance)
+
+
+def stations():
+    """Places on the stations and beside them, each found by its own readings."""
+    for r in P4, PAPER, WIDE:
+        for p in r.master, r.a, r.b, moved(r.master, 1, 0):
+            corner = min(p[0], EAST - 3), min(p[1], NORTH - 3)
+            yield own(r, p, corner=corner, k=2, allowance=AMPLE, entries=12)
+
+
+NAMED = examples, limits, edges, refusals, chains, crossings, lists, allowances, orders, differences, close_errors, stations
+
+
+def beside(draw, p, reach):
+    """A place of the chart at most so far from another either way."""
+    east = draw.randint(max(0, p[0] - reach), min(EAST, p[0] + reach))
+    return east, draw.randint(max(0, p[1] - reach), min(NORTH, p[1] + reach))
+
+
+def around(draw, p, k):
+    """A window's corner: mostly with the place in the window, else near it."""
+    astray = 2**k if draw.random() < 0.1 else 0
+    east, north = (x - draw.randrange(2**k) + draw.choice((-astray, astray)) for x in p)
+    return min(max(east, 0), EAST + 1 - 2**k), min(max(north, 0), NORTH + 1 - 2**k)
+
+
+def with_fault(draw, r):
+    """The request with one thing wrong in it, or just not."""
+    return draw.choice(
+        (
+            r._replace(wanted=(r.wanted[0], draw.choice((-1, 1)) * draw.randint(999_999_999, 1_000_000_002))),
+            r._replace(wanted=(draw.getrandbits(64) - 2**63, r.wanted[1])),
+            r._replace(master=(draw.randint(EAST - 1, EAST + 2), r.master[1])),
+            r._replace(b=(r.b[0], draw.getrandbits(32))),
+            r._replace(b=draw.choice((r.master, r.a))),
+            r._replace(corner=(EAST + 1 - 2**r.k + draw.randint(0, 2), r.corner[1])),
+            r._replace(corner=(draw.getrandbits(32), draw.getrandbits(32))),
+            r._replace(k=draw.randint(23, 40)),
+            r._replace(tolerance=draw.randint(99_999, 100_003)),
+        )
+    )
+
+
+def drawn(draw):
+    """A request at random, small windows mostly; a large one has a large chain, or it would seldom end."""
+    if draw.random() < 0.15:
+        k, reach = draw.randint(7, 24), draw.choice((10**6, 10**7, 10**7, NORTH))
+        tolerance = draw.choice((0, 0, 0, 1, 3))
+    else:
+        k, reach = draw.randint(0, 6), draw.choice((4, 40, 1_000, 100_000, 10**7, NORTH))
+        tolerance = draw.randint(0, draw.choice((0, 0, 1, 2, 30, 30, 100_000)))
+    place = beside(draw, draw.choice(CORNERS), draw.choice((2**k, NORTH, NORTH)))
+    r = P4._replace(**{station: beside(draw, place, reach) for station in ("master", "a", "b")})
+    noise = draw.choice((0, 0, tolerance, tolerance + 1, tolerance + 2 ** (k + 1) + 3))
+    wanted = tuple(min(max(x + draw.randint(-noise, noise), -NORTH), NORTH) for x in readings(r, place))
+    r = r._replace(wanted=wanted, corner=around(draw, place, k), k=k, tolerance=tolerance, held=draw.getrandbits(32))
+    return with_fault(draw, r) if draw.random() < 0.15 else r
+
+
+def at_random(seed):
+    """Allowance and room lie about what each search takes, which is 5,000 visits at the most."""
+    draw = random.Random(seed)
+    for _ in range(1500):
+        r = drawn(draw)
+        refusal, visits, places = answer(r._replace(allowance=5000, entries=1100))
+        ample = 5000 if refusal == 10 else AMPLE
+        allowance = draw.choice((visits, visits, visits - 1, visits + 1, draw.randint(0, visits), ample, ample, ample))
+        entries = 2 * len(places) + draw.choice((-2, -1, 0, 0, 1, 2, draw.randint(0, 12), 1100))
+        yield r._replace(allowance=max(0, allowance), entries=min(max(0, entries), 1100))
+
+
+def main(words):
+    if words == ["stdin"]:
+        print("\n".join(dict.fromkeys(line_of(r) for part in NAMED for r in part())))
+    elif words[:1] == ["random"] and len(words) == 2:
+        print("\n".join(line_of(r) for r in at_random(int(words[1]))))
+    elif words == ["stdout"]:
+        print("\n".join(told(request_of(line)) for line in sys.stdin.read().splitlines()))
+    else:
+        sys.exit(__doc__)
+
+
+main(sys.argv[1:])
