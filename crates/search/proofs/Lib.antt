@@ -19,3 +19,4 @@ mod HoldLaws
 mod SquareLaws
 mod EndLaws
 mod Asking
+mod Worked
