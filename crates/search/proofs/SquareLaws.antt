@@ -1,4 +1,4 @@
--- Squares on the chart: the corner, the middle and the quarters of one.
+-- A square on the chart: its corner, its middle, and the half of its side.
 use Prim.Native.Nat.{ℕ, suc, _+_, _-_, _*_, _/_, _^_, _≤_, _<_}
 use mathlib.Core.Path.{_≡_, ap, ap₂, _∙_}
 use mathlib.Core.Bool.{true}
@@ -9,7 +9,7 @@ use Rattle.chart.specs.declared.Place.{Place}
 use Rattle.chart.specs.Places.{inRange}
 use Rattle.chart.specs.Readings.{within}
 use Rattle.chart.proofs.PlaceLaws.{says-in-range}
-use Rattle.search.specs.Windows.{east, north, northEast}
+use Rattle.search.specs.Windows.{northEast}
 use Rattle.search.specs.Questions.{Question, isKept}
 use Rattle.search.specs.Holding.{OnChart}
 
@@ -45,15 +45,3 @@ module _ (k side : ℕ) (p : Place) (w : OnChart k side p) where
         ap₂ (λ (d : ℕ) (o : Place). within (q .tolerance + 2 * d + 2) (q .chain) (q .wanted) o)
         (w .side-is ∙ ap (λ (x : ℕ). 2 ^ x) k-is)
         (e ∙ ap (λ (d : ℕ). northEast d p) half-is)
-
-    pub south-west : OnChart (k - 1) (side / 2) p
-    south-west = record { side-is = half-is; east = omega (arith, w .east); north = omega (arith, w .north) }
-
-    pub south-east : OnChart (k - 1) (side / 2) (east (side / 2) p)
-    south-east = record { side-is = half-is; east = omega (arith, w .east); north = omega (arith, w .north) }
-
-    pub north-west : OnChart (k - 1) (side / 2) (north (side / 2) p)
-    north-west = record { side-is = half-is; east = omega (arith, w .east); north = omega (arith, w .north) }
-
-    pub north-east : OnChart (k - 1) (side / 2) (northEast (side / 2) p)
-    north-east = record { side-is = half-is; east = omega (arith, w .east); north = omega (arith, w .north) }

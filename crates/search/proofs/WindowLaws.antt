@@ -1,9 +1,10 @@
 -- What being a window says: its exponent, and that its squares lie on the chart.
 use Prim.Native.Nat.{ℕ, _+_, _-_, _≤_, _<_, _^_}
-use mathlib.Core.Path.{_≡_, refl, ap}
+use mathlib.Core.Path.{_≡_, ap}
 use mathlib.Core.Bool.{Bool, true, false, _&&_}
 use native.Mathlib.Omega.{arith}
-use lib.Dec.{leb}
+use native.Mathlib.Nat.{pow-le-pow-right}
+use lib.Dec.{leb, lit<}
 use lib.Pow.{pow-pos}
 use borrow.Author.Tests.{leb-true, le-leb, lt-leb}
 use Rattle.chart.specs.declared.Place.{Place}
@@ -22,15 +23,17 @@ pub by-last-cell : (w : Window) → w .k ≤ mostExponent → isWindow w ≡ inR
 unfolding isWindow
 by-last-cell w h = ap (λ (b : Bool). b && inRange (northEast (2 ^ w .k - 1) (w .corner))) (le-leb _ _ h)
 
--- A window's exponent is at most 24, and its square lies on the chart.
-pub window-says : (w : Window) → isWindow w ≡ true → (w .k ≤ mostExponent) × OnChart (w .k) (2 ^ w .k) (w .corner)
+-- A window's exponent is at most 24, and every square at its corner that is no larger lies on the chart.
+pub window-says : (w : Window) → isWindow w ≡ true → (w .k ≤ mostExponent) × ((k side : ℕ) → k ≤ w .k → side ≡ 2 ^ k → OnChart k side (w .corner))
 unfolding isWindow
 window-says w e =
     let two = both (leb (w .k) mostExponent) (inRange (northEast (2 ^ w .k - 1) (w .corner))) e in
     let far = in-range-says (northEast (2 ^ w .k - 1) (w .corner)) (two .1) in
     let some : 0 < 2 ^ w .k = pow-pos (w .k) in (
       leb-true _ _ (two .0),
-      record { side-is = refl; east = omega (arith, far .0); north = omega (arith, far .1) },
+      λ k side h is.
+          let less : 2 ^ k ≤ 2 ^ w .k = pow-le-pow-right {n = 2} (lit< tt) h in
+          record { side-is = is; east = omega (arith, far .0); north = omega (arith, far .1) },
     )
 
 -- Every cell of a square on the chart is in range.

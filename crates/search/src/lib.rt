@@ -266,16 +266,16 @@ fn walked(list: &mut [u32], h: Hunt, w: Window) -> Answer
     );
     let visits = t.visits;
     if t.stop == 10 {
-        clear(list, 0);
+        clear(list, 0); // what was found so far is no answer
         return Answer::AllowanceUsed { visits };
     }
     if t.stop == 9 {
-        clear(list, 0);
+        clear(list, 0); // and no part of one
         return Answer::NoRoom { visits };
     }
     let count = t.count;
     if count == 0 {
-        clear(list, 0);
+        clear(list, 0); // nothing was put, but the list may have held something
         return Answer::NoMatch { visits };
     }
     clear(list, 2 * count);
@@ -312,9 +312,11 @@ fn visit(list: &mut [u32], h: Hunt, k: u32, side: u32, p: Place, guess: u64, t: 
     if !near(h, middle, m, h.tolerance + 2 * (side as u64) + 2) {
         return begun;
     }
+    let south_east = east(p, half);
+    let north_west = north(p, half);
     let sw = visit(list, h, k - 1, half, p, m, begun);
-    let se = visit(list, h, k - 1, half, east(p, half), m, sw);
-    let nw = visit(list, h, k - 1, half, north(p, half), m, se);
+    let se = visit(list, h, k - 1, half, south_east, m, sw);
+    let nw = visit(list, h, k - 1, half, north_west, m, se);
     visit(list, h, k - 1, half, middle, m, nw)
 }
 

@@ -16,7 +16,7 @@ use Rattle.search.specs.Questions.{isKept}
 use Rattle.search.specs.Walk.{counted}
 use Rattle.search.specs.Holding.{questionBy, OnChart}
 use Rattle.search.proofs.HoldLaws.{after-holds, out-holds, count-holds, cell-holds, dropped-holds, quarters-hold}
-use Rattle.search.proofs.SquareLaws.{corner-in-range, k-is, half-is, middle-in-range, kept-is, south-west, south-east, north-west, north-east}
+use Rattle.search.proofs.SquareLaws.{corner-in-range, k-is, half-is, middle-in-range, kept-is}
 use Rattle.search.proofs.visit.Reads as visit
 use Rattle.search.proofs.visit.Kinds as visit-kinds
 use Rattle.search.proofs.+visit.Lts-visit as lts
@@ -49,12 +49,12 @@ claims t = (
   range-reads.Learnt,
   near-reads.Asked,
   near-reads.Learnt,
-  visit-below t,
-  visit.Post,
   east-reads.Asked,
   east-reads.Learnt,
   north-reads.Asked,
   north-reads.Learnt,
+  visit-below t,
+  visit.Post,
 )
 
 -- At a square larger than a cell: where the function started, and what it knows of the square.
@@ -79,6 +79,28 @@ test-is t c =
     c .near .ensures
     ∙ kept-is (a .k) (a .side) (a .p) (started t e .pre .1 .1) (e .if3 .left) (questionBy (a .h)) _ (c .before .before .before .north-east .ensures)
 
+-- Where the places of all four quarters are made.
+abbrev larger : (t : ℕ) → lts.After-north (claims t) (visit-at t) visit.Post → lts.Else3 (claims t) (visit-at t) visit.Post
+larger t n = n .before .before .before .before .before .before .before
+
+-- How far the three lie from the corner.
+parts : (t : ℕ) (n : lts.After-north (claims t) (visit-at t) visit.Post) → let a = started t (larger t n) .args in let se = n .before .east .result in let nw = n .north .result in let ne = n .before .before .before .before .before .before .north-east .result in
+    (se .easting ≡ a .p .easting + a .side / 2) × (se .northing ≡ a .p .northing) × (nw .easting ≡ a .p .easting) × (nw .northing ≡ a .p .northing + a .side / 2) × (ne .easting ≡ a .p .easting + a .side / 2) × (ne .northing ≡ a .p .northing + a .side / 2)
+parts t n =
+    let easting : Place → ℕ = λ o. o .easting in
+    let northing : Place → ℕ = λ o. o .northing in
+    let se = n .before .east .ensures in
+    let nw = n .north .ensures in
+    let ne = n .before .before .before .before .before .before .north-east .ensures in
+    (ap easting se, ap northing se, ap easting nw, ap northing nw, ap easting ne, ap northing ne)
+
+-- A square of half the side at most half a side from the corner lies on the chart.
+quarter : (t : ℕ) (n : lts.After-north (claims t) (visit-at t) visit.Post) (o : Place) → let a = started t (larger t n) .args in
+    o .easting ≤ a .p .easting + a .side / 2 → o .northing ≤ a .p .northing + a .side / 2 → OnChart (a .k - 1) (a .side / 2) o
+quarter t n o e f =
+    let w = started t (larger t n) .pre .1 .1 in
+    record { side-is = half-of t (larger t n); east = omega (arith, w .east); north = omega (arith, w .north) }
+
 visit-returns : (t : ℕ) → lts.Need-returns (claims t) (visit-at t) visit.Post
 visit-returns t c = λ s h.
     let a = c .before .before .before .args in
@@ -88,7 +110,7 @@ visit-returns-2 : (t : ℕ) → lts.Need-returns-2 (claims t) (visit-at t) visit
 visit-returns-2 t c = λ s h.
     let on = c .before .before .before in
     let a = on .before .before .before .args in
-    out-holds s (a .t) (a .list .now) h (questionBy (a .h)) (a .p) (a .k) (on .if1 .left) (c .if2 .taken)
+    out-holds s (a .t) (a .list .now) h (questionBy (a .h)) (a .p) (a .k) (on .if1 .left) (omega (arith, c .if2 .taken))
 
 visit-add-near : (t : ℕ) → lts.Need-add-near (claims t) (visit-at t) visit.Post
 visit-add-near t c = search needs
@@ -147,98 +169,85 @@ visit-returns-4 t c = λ s h.
     dropped-holds s (a .t) (a .list .now) h (questionBy (a .h)) (a .p) (on .if1 .left) (begun .if2 .left) (a .k) (a .k - 1) (exponent t e)
     (sym (test-is t (c .before)) ∙ not-true _ (c .if4 .taken))
 
-visit-sub-visit : (t : ℕ) → lts.Need-sub-visit (claims t) (visit-at t) visit.Post
-visit-sub-visit t c = search needs
-
-visit-visit-requires : (t : ℕ) → lts.Need-visit-requires (claims t) (visit-at t) visit.Post
-visit-visit-requires t c κs =
-    let e = c .before .before .before .before .before .before in
-    let start = started t e in
-    let a = start .args in
-    (omega (arith, e .if3 .left, start .pre .0), (start .pre .1 .0, south-west (a .k) (a .side) (a .p) (start .pre .1 .1) (e .if3 .left), start .pre .1 .2))
-
-visit-sub-visit-2 : (t : ℕ) → lts.Need-sub-visit-2 (claims t) (visit-at t) visit.Post
-visit-sub-visit-2 t c = omega (arith, c .before .before .before .before .before .before .before .before .before .before .if3 .left)
-
 visit-east-requires : (t : ℕ) → lts.Need-east-requires (claims t) (visit-at t) visit.Post
 visit-east-requires t c κs =
-    let start = started t (c .before .before .before .before .before .before .before .before .before .before) in
+    let start = started t (c .before .before .before .before .before) in
     omega (arith, start .pre .1 .1 .side-is, start .pre .1 .1 .east)
-
-visit-visit-requires-2 : (t : ℕ) → lts.Need-visit-requires-2 (claims t) (visit-at t) visit.Post
-visit-visit-requires-2 t c κs =
-    let e = c .before .before .before .before .before .before .before .before .before .before .before in
-    let start = started t e in
-    let a = start .args in (
-      omega (arith, e .if3 .left, start .pre .0),
-      (
-        start .pre .1 .0,
-        subst⁻¹ (OnChart (a .k - 1) (a .side / 2)) (c .east .ensures) (south-east (a .k) (a .side) (a .p) (start .pre .1 .1) (e .if3 .left)),
-        omega (arith, start .pre .1 .2, c .before .before .before .before .visit .kept .0),
-      ),
-    )
-
-visit-sub-visit-3 : (t : ℕ) → lts.Need-sub-visit-3 (claims t) (visit-at t) visit.Post
-visit-sub-visit-3 t c = omega (arith, c .before .before .before .before .before .before .before .before .before .before .before .before .before .before .before .if3 .left)
 
 visit-north-requires : (t : ℕ) → lts.Need-north-requires (claims t) (visit-at t) visit.Post
 visit-north-requires t c κs =
-    let start = started t (c .before .before .before .before .before .before .before .before .before .before .before .before .before .before .before) in
+    let start = started t (c .before .before .before .before .before .before) in
     omega (arith, start .pre .1 .1 .side-is, start .pre .1 .1 .north)
+
+visit-sub-visit : (t : ℕ) → lts.Need-sub-visit (claims t) (visit-at t) visit.Post
+visit-sub-visit t c = omega (arith, larger t (c .before) .if3 .left)
+
+visit-visit-requires : (t : ℕ) → lts.Need-visit-requires (claims t) (visit-at t) visit.Post
+visit-visit-requires t c κs =
+    let n = c .before in
+    let start = started t (larger t n) in (
+      omega (arith, larger t n .if3 .left, start .pre .0),
+      (start .pre .1 .0, quarter t n _ (omega (arith, parts t n)) (omega (arith, parts t n)), omega (arith, start .pre .1 .2)),
+    )
+
+visit-sub-visit-2 : (t : ℕ) → lts.Need-sub-visit-2 (claims t) (visit-at t) visit.Post
+visit-sub-visit-2 t c = omega (arith, larger t (c .before .before .before .before .before) .if3 .left)
+
+visit-visit-requires-2 : (t : ℕ) → lts.Need-visit-requires-2 (claims t) (visit-at t) visit.Post
+visit-visit-requires-2 t c κs =
+    let n = c .before .before .before .before .before in
+    let start = started t (larger t n) in (
+      omega (arith, larger t n .if3 .left, start .pre .0),
+      (start .pre .1 .0, quarter t n _ (omega (arith, parts t n)) (omega (arith, parts t n)), omega (arith, start .pre .1 .2, c .before .before .before .visit .kept .0)),
+    )
+
+visit-sub-visit-3 : (t : ℕ) → lts.Need-sub-visit-3 (claims t) (visit-at t) visit.Post
+visit-sub-visit-3 t c = omega (arith, larger t (c .before .before .before .before .before .before .before .before .before) .if3 .left)
 
 visit-visit-requires-3 : (t : ℕ) → lts.Need-visit-requires-3 (claims t) (visit-at t) visit.Post
 visit-visit-requires-3 t c κs =
-    let e = c .before .before .before .before .before .before .before .before .before .before .before .before .before .before .before .before in
-    let start = started t e in
-    let a = start .args in (
-      omega (arith, e .if3 .left, start .pre .0),
-      (
-        start .pre .1 .0,
-        subst⁻¹ (OnChart (a .k - 1) (a .side / 2)) (c .north .ensures) (north-west (a .k) (a .side) (a .p) (start .pre .1 .1) (e .if3 .left)),
-        omega (arith, start .pre .1 .2, c .before .before .before .before .before .before .before .before .before .visit .kept .0, c .before .before .before .before .visit2 .kept .0),
-      ),
+    let n = c .before .before .before .before .before .before .before .before .before in
+    let start = started t (larger t n) in (
+      omega (arith, larger t n .if3 .left, start .pre .0),
+      (start .pre .1 .0, quarter t n _ (omega (arith, parts t n)) (omega (arith, parts t n)), omega (arith, start .pre .1 .2, c .before .before .before .before .before .before .before .visit .kept .0, c .before .before .before .visit2 .kept .0)),
     )
 
 visit-sub-visit-4 : (t : ℕ) → lts.Need-sub-visit-4 (claims t) (visit-at t) visit.Post
-visit-sub-visit-4 t c = omega (arith, c .before .before .before .before .before .before .before .before .before .before .before .before .before .before .before .before .before .before .before .before .if3 .left)
+visit-sub-visit-4 t c = omega (arith, larger t (c .before .before .before .before .before .before .before .before .before .before .before .before .before) .if3 .left)
 
 visit-visit-requires-4 : (t : ℕ) → lts.Need-visit-requires-4 (claims t) (visit-at t) visit.Post
 visit-visit-requires-4 t c κs =
-    let e = c .before .before .before .before .before .before .before .before .before .before .before .before .before .before .before .before .before .before .before .before in
-    let start = started t e in
-    let a = start .args in (
-      omega (arith, e .if3 .left, start .pre .0),
-      (
-        start .pre .1 .0,
-        subst⁻¹ (OnChart (a .k - 1) (a .side / 2)) (c .before .before .before .before .before .before .before .before .before .before .before .before .before .before .before .before .before .before .before .north-east .ensures) (north-east (a .k) (a .side) (a .p) (start .pre .1 .1) (e .if3 .left)),
-        omega (arith, start .pre .1 .2, c .before .before .before .before .before .before .before .before .before .before .before .before .before .visit .kept .0, c .before .before .before .before .before .before .before .before .visit2 .kept .0, c .before .before .before .visit3 .kept .0),
-      ),
+    let n = c .before .before .before .before .before .before .before .before .before .before .before .before .before in
+    let start = started t (larger t n) in (
+      omega (arith, larger t n .if3 .left, start .pre .0),
+      (start .pre .1 .0, quarter t n _ (omega (arith, parts t n)) (omega (arith, parts t n)), omega (arith, start .pre .1 .2, c .before .before .before .before .before .before .before .before .before .before .before .visit .kept .0, c .before .before .before .before .before .before .before .visit2 .kept .0, c .before .before .before .visit3 .kept .0)),
     )
 
 visit-same-length-2 : (t : ℕ) → lts.Need-same-length-2 (claims t) (visit-at t) visit.Post
 visit-same-length-2 t c =
     let v4 = c .before .before in
     let v3 = v4 .before .before .before .before in
-    let v2 = v3 .before .before .before .before .before in
-    let v1 = v2 .before .before .before .before .before in
+    let v2 = v3 .before .before .before .before in
+    let v1 = v2 .before .before .before .before in
     v4 .visit4 .kept .0 ∙ v3 .visit3 .kept .0 ∙ v2 .visit2 .kept .0 ∙ v1 .visit .kept .0
 
 visit-returns-5 : (t : ℕ) → lts.Need-returns-5 (claims t) (visit-at t) visit.Post
 visit-returns-5 t c = λ s h.
     let v4 = c .before .before in
     let v3 = v4 .before .before .before .before in
-    let v2 = v3 .before .before .before .before .before in
-    let v1 = v2 .before .before .before .before .before in
-    let kept = v1 .before .before in
-    let e = kept .before .before .before .before .before in
+    let v2 = v3 .before .before .before .before in
+    let v1 = v2 .before .before .before .before in
+    let n = v1 .before .before in
+    let kept = n .before .before in
+    let e = larger t n in
     let begun = e .before .before in
     let on = begun .before .before .before in
     let a = started t e .args in
     let half = half-of t e in
     quarters-hold s (a .t) (a .list .now) h (questionBy (a .h)) (a .p) (on .if1 .left) (begun .if2 .left) (a .k) (a .k - 1) _ _ _ _ _ (exponent t e)
     (sym (test-is t (kept .before)) ∙ not-false _ (kept .if4 .left))
-    (v2 .before .east .ensures ∙ ap (λ (d : ℕ). east d (a .p)) half)
-    (v3 .before .north .ensures ∙ ap (λ (d : ℕ). north d (a .p)) half)
+    (n .before .east .ensures ∙ ap (λ (d : ℕ). east d (a .p)) half)
+    (n .north .ensures ∙ ap (λ (d : ℕ). north d (a .p)) half)
     (kept .before .before .before .before .north-east .ensures ∙ ap (λ (d : ℕ). northEast d (a .p)) half)
     (v4 .visit4 .ensures _ (v3 .visit3 .ensures _ (v2 .visit2 .ensures _ (v1 .visit .ensures (counted s) (count-holds s (a .t) (a .list .now) h (on .if1 .left))))))
 
@@ -259,13 +268,13 @@ pub +visit-spec : {M : Type 1} → statement M
     (visit-add-near-3 t)
     (visit-near-requires t)
     (visit-returns-4 t)
+    (visit-east-requires t)
+    (visit-north-requires t)
     (visit-sub-visit t)
     (visit-visit-requires t)
     (visit-sub-visit-2 t)
-    (visit-east-requires t)
     (visit-visit-requires-2 t)
     (visit-sub-visit-3 t)
-    (visit-north-requires t)
     (visit-visit-requires-3 t)
     (visit-sub-visit-4 t)
     (visit-visit-requires-4 t)

@@ -13,16 +13,12 @@ use Rattle.search.proofs.walked.Statement.{statement}
 use Rattle.search.proofs.walked.Tie as tie
 
 side-of-requires : tie.Need-side-of-requires
-side-of-requires c κs = window-says (c .before .before .args .w) (c .before .before .pre .1) .0
+side-of-requires c κs = omega (arith, window-says (c .before .before .args .w) (c .before .before .pre .1) .0)
 
 visit-requires : tie.Need-visit-requires
 visit-requires c κs =
     let start = c .before .before .before in
-    let w = window-says (start .args .w) (start .pre .1) .1 in (
-      start .pre .0,
-      record { side-is = c .side-of .ensures; east = omega (arith, c .side-of .ensures, w .east); north = omega (arith, c .side-of .ensures, w .north) },
-      start .pre .2,
-    )
+    (start .pre .0, window-says (start .args .w) (start .pre .1) .1 _ _ (omega arith) (c .side-of .ensures), start .pre .2)
 
 -- Where the walk stands when all is visited.
 held : (c : tie.After-visit) → let a = c .before .before .before .before .args in Holds (visit (questionBy (a .h)) (a .w .k) (a .w .corner) start) (c .visit .result) (c .visit .last .0)
