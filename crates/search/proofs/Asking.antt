@@ -38,15 +38,16 @@ both-small c ra rb e =
     let first = both (leb (natAbs ra) mostReading) _ e in
     (leb-true _ _ (first .0), leb-true _ _ (both (leb (natAbs rb) mostReading) true (first .1) .0))
 
-module _ (c : Chain) (ra rb : ℤ) (tolerance allowance entries : ℕ) (a b : Wish) (ea : a ≡ wishOf (c .a) ra) (eb : b ≡ wishOf (c .b) rb) where
+module _ (c : Chain) (ra rb : ℤ) (tolerance allowance room : ℕ) (a b : Wish) (ea : a ≡ wishOf (c .a) ra) (eb : b ≡ wishOf (c .b) rb) where
   -- The hunt that is made.
   abbrev pub made : Hunt
-  made = record { master = c .master; a = a; b = b; tolerance = tolerance; allowance = allowance; room = entries / 2 }
+  made = record { master = c .master; a = a; b = b; tolerance = tolerance; allowance = allowance; room = room }
 
-  pub asks : questionBy made ≡ questionOf c ra rb tolerance allowance entries
-  asks =
-      ap₂ (λ (x y : Wish). questionBy (record { master = c .master; a = x; b = y; tolerance = tolerance; allowance = allowance; room = entries / 2 })) ea eb
-      ∙ ap₂ (λ (x y : Wanted). record { chain = c; wanted = x ∷ y ∷ []; tolerance = tolerance; allowance = allowance; room = entries / 2 }) (wanted-again (c .a) ra) (wanted-again (c .b) rb)
+  pub asks : (entries : ℕ) → room ≡ entries / 2 → questionBy made ≡ questionOf c ra rb tolerance allowance entries
+  asks entries e =
+      ap₂ (λ (x y : Wish). questionBy (record { master = c .master; a = x; b = y; tolerance = tolerance; allowance = allowance; room = room })) ea eb
+      ∙ ap₂ (λ (x y : Wanted). record { chain = c; wanted = x ∷ y ∷ []; tolerance = tolerance; allowance = allowance; room = room }) (wanted-again (c .a) ra) (wanted-again (c .b) rb)
+      ∙ ap (λ (n : ℕ). record { chain = c; wanted = wantedOf c ra rb; tolerance = tolerance; allowance = allowance; room = n }) e
 
   pub ready : noneTooLarge (wantedOf c ra rb) ≡ true → isSound c ≡ true → tolerance ≤ mostTolerance → Ready made
   ready small sound t =

@@ -19,16 +19,14 @@ pub fn root(n: u64) -> u64
 pub fn root_near(n: u64, near: u64) -> u64
     ensures { λ r. ⌜ r ≡ root n ⌝ }
 {
+    let r = near % 4294967296;
+    if r < 2 {
+        return root(n);
+    }
     if n == 0 {
-        return 0;
+        return n;
     }
-    if near < 2 {
-        return root(n);
-    }
-    if near > 4294967295 {
-        return root(n);
-    }
-    settled(n, (near + n / near) / 2)
+    settled(n, (r + n / r) / 2)
 }
 
 // A guess that is not below the root: Newton's step from the power of two next to it, where the division is a shift.

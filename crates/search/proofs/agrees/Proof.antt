@@ -58,7 +58,7 @@ returns-2 : tie.Need-returns-2
 returns-2 c =
     let y = c .before .before .before .before .before in
     let a = y .before .args in
-    sym (told y ∙ too-far (y .squared .result) (a .m) (a .w .above) (a .w .below) (a .slack) (a .m + a .w .above + a .slack - a .w .below) (omega (arith, c .before .before .if1 .left)) (c .if2 .taken))
+    sym (told y ∙ too-far (y .squared .result) (a .m) (a .w .above) (a .w .below) (a .slack) (a .m + a .w .above + a .slack - a .w .below) (omega (arith, c .before .before .if1 .left)) (omega (arith, c .if2 .taken)))
 
 add-if3 : tie.Need-add-if3
 add-if3 c = search needs

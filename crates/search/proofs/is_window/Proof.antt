@@ -13,7 +13,7 @@ use Rattle.search.proofs.is_window.Statement.{statement}
 use Rattle.search.proofs.is_window.Tie as tie
 
 returns : tie.Need-returns
-returns c = sym (too-large-k _ (c .if1 .taken))
+returns c = sym (too-large-k (c .before .before .args .w) (omega (arith, c .if1 .taken)))
 
 side-of-requires : tie.Need-side-of-requires
 side-of-requires c κs = search needs

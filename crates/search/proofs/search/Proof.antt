@@ -148,7 +148,7 @@ walked-requires c κs =
     let tests = c .before .before .before .before in
     let a = begun tests .args in
     let ok = accepted tests in (
-      ready (a .c) (a .ra) (a .rb) (a .tolerance) (a .allowance) (length (a .list .now)) _ _ (wish-a (c .before .before)) (wish-b (c .before)) (ok .readings) (ok .chain) (ok .tolerance),
+      ready (a .c) (a .ra) (a .rb) (a .tolerance) (a .allowance) _ _ _ (wish-a (c .before .before)) (wish-b (c .before)) (ok .readings) (ok .chain) (ok .tolerance),
       ok .window,
       omega arith,
     )
@@ -165,7 +165,7 @@ returns-5 c =
     let a = o .args in
     let n = length (a .list .now) in
     subst (λ (x : Outcome). Told n x (walked .walked .result) (walked .walked .last .0))
-    (ap (λ (q : Question). ended (visit q (a .w .k) (a .w .corner) start)) (asks (a .c) (a .ra) (a .rb) (a .tolerance) (a .allowance) n _ _ (wish-a (b .before)) (wish-b b))
+    (ap (λ (q : Question). ended (visit q (a .w .k) (a .w .corner) start)) (asks (a .c) (a .ra) (a .rb) (a .tolerance) (a .allowance) _ _ _ (wish-a (b .before)) (wish-b b) n refl)
     ∙ sym (search-walks (asked o) (a .w) (accepted tests)))
     (walked .walked .ensures)
 
