@@ -1,14 +1,11 @@
 -- What a search answers, case by case: the first test that fails, or how the walk ended.
 use Prim.Native.Nat.{_<_}
-use mathlib.Core.Path.{_≡_, refl}
+use mathlib.Core.Path.{_≡_}
 use mathlib.Core.Bool.{true, false}
-use mathlib.Core.List.{List, [], _∷_}
 use borrow.Author.Tests.{le-leb, lt-leb, eq-eqb, ne-eqb}
-use lib.ListN.{length}
-use Rattle.chart.specs.declared.Place.{Place}
 use Rattle.chart.specs.Chains.{isSound}
 use Rattle.search.specs.declared.Window.{Window}
-use Rattle.search.specs.declared.Answer.the-variants.{Places, ReadingTooLarge, Unsound, BadWindow, BadTolerance, NoMatch, NoRoom, AllowanceUsed}
+use Rattle.search.specs.declared.Answer.the-variants.{ReadingTooLarge, Unsound, BadWindow, BadTolerance, NoRoom, AllowanceUsed}
 use Rattle.search.specs.Windows.{isWindow}
 use Rattle.search.specs.Questions.{Question, mostTolerance, noneTooLarge}
 use Rattle.search.specs.Walk.{Standing, start, visit}

@@ -16,7 +16,7 @@ use Rattle.chart.proofs.PlaceLaws.{both}
 use Rattle.chart.proofs.ChainLaws.{stations-in-range}
 use Rattle.search.specs.declared.Wish.{Wish}
 use Rattle.search.specs.declared.Hunt.{Hunt}
-use Rattle.search.specs.Questions.{Question, questionOf, mostReading, mostTolerance, noneTooLarge}
+use Rattle.search.specs.Questions.{questionOf, mostReading, mostTolerance, noneTooLarge}
 use Rattle.search.specs.Holding.{above, below, wantedBy, questionBy, Fair, Ready}
 use Rattle.search.proofs.Signs.{made-again, above-small, below-small}
 

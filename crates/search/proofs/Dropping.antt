@@ -9,7 +9,6 @@ use native.Mathlib.Nat.{pow-succ', mul-assoc, mul-left-comm}
 use Rattle.squares.proofs.Squares.{sq-double}
 use Rattle.chart.specs.declared.Place.{Place}
 use Rattle.chart.specs.Places.{apart}
-use Rattle.chart.specs.Readings.{within}
 use Rattle.chart.proofs.Moving.{within-moves}
 use Rattle.search.specs.Windows.{northEast, IsCellOf}
 use Rattle.search.specs.Questions.{Question, matches, isKept}

@@ -1,23 +1,18 @@
 -- How a tally and a list go on holding where a walk stands, visit by visit.
-use Prim.Native.Nat.{ℕ, suc, _+_, _-_, _*_, _/_, _^_, _≤_, _<_}
+use Prim.Native.Nat.{ℕ, suc, _+_, _*_, _^_, _≤_, _<_}
 use mathlib.Core.Path.{_≡_, refl, sym, ap, ap₂, _∙_, subst⁻¹}
 use mathlib.Core.Bool.{Bool, true, false}
 use mathlib.Core.List.{List, [], _∷_, _++_}
 use native.Mathlib.Omega.{arith}
-use native.Mathlib.Nat.{pow-succ'}
 use lib.ListN.{length, take, set, length-set, length-append, length-take}
-use lib.Pow.{pow-pos}
 use lib.Seq.{take-suc-set}
 use Rattle.chart.specs.declared.Place.{Place}
-use Rattle.chart.specs.Places.{inRange}
-use Rattle.chart.specs.Readings.{within}
-use Rattle.chart.proofs.PlaceLaws.{says-in-range}
 use Rattle.search.specs.declared.Tally.{Tally}
 use Rattle.search.specs.Windows.{east, north, northEast}
 use Rattle.search.specs.Questions.{Question, matches, isKept}
 use Rattle.search.specs.Walk.{Standing, either, unchanged, stopped, counted, listed, cell, visit}
 use Rattle.search.specs.Answers.{entriesOf}
-use Rattle.search.specs.Holding.{OnChart, Holds}
+use Rattle.search.specs.Holding.{Holds}
 use Rattle.search.proofs.WalkLaws.{visit-after, visit-out, visit-cell, visit-square, quarters, cell-missed, cell-full, cell-listed}
 
 -- The entries of one place more.

@@ -11,7 +11,7 @@ use Rattle.chart.specs.declared.Place.{Place}
 use Rattle.search.specs.declared.Window.{Window}
 use Rattle.search.specs.Windows.{east, north, northEast}
 use Rattle.search.specs.Questions.{Question, matches}
-use Rattle.search.specs.Cells.{interleave, chartNumber, Rises, cells, ifSo, those, matching}
+use Rattle.search.specs.Cells.{interleave, chartNumber, Rises, cells, ifSo, those, matching, matchingIn}
 use Rattle.search.proofs.CellLaws.{cell-inside, in-those}
 
 no-bits : (e n : ℕ) → interleave 0 e n ≡ 0
@@ -173,6 +173,6 @@ pub cells-rise : (w : Window) → Rises (chartNumber w) (cells (w .k) (w .corner
 cells-rise w = square-rises (w .k) (w .corner)
 
 -- The matching cells of a window stand in chart order.
-pub matching-rises : (q : Question) (w : Window) → Rises (chartNumber w) (matching q (w .k) (w .corner))
+pub matching-rises : (q : Question) (w : Window) → Rises (chartNumber w) (matchingIn q w)
 unfolding matching
 matching-rises q w = those-rise (chartNumber w) (matches q) (cells (w .k) (w .corner)) (cells-rise w)

@@ -17,7 +17,7 @@ use Rattle.search.specs.Windows.{isWindow}
 use Rattle.search.specs.Questions.{Question, mostTolerance, noneTooLarge}
 use Rattle.search.specs.Walk.{Standing, start, visit}
 use Rattle.search.specs.Answers.{Outcome, refused, gone, ended, Accepted, searchOf, searchFigures}
-use Rattle.search.specs.Cells.{matching, visitsOf, AmpleRoom, AmpleAllowance}
+use Rattle.search.specs.Cells.{matchingIn, visitsIn, AmpleRoom, AmpleAllowance}
 use Rattle.search.proofs.AnswerLaws.{ended-out, ended-full, ended-gone, search-3, search-5, search-6, search-7, search-walks}
 use Rattle.search.proofs.Whole.{whole}
 use Rattle.search.proofs.Finished.{finished}
@@ -29,7 +29,7 @@ walk q w = visit q (w .k) (w .corner) start
 
 -- The outcome of a walk that goes to its end.
 abbrev pub complete : Question → Window → Outcome
-complete q w = gone (matching q (w .k) (w .corner)) (visitsOf q (w .k) (w .corner))
+complete q w = gone (matchingIn q w) (visitsIn q w)
 
 from-nought : (n : ℕ) → 0 + n ≡ n
 from-nought n = omega arith
@@ -50,7 +50,7 @@ module _ (q : Question) (w : Window) where
         ∙ unstopped (ap (λ (s : Standing). s .stop) (whole q (w .k) (w .corner) [] 0 (omega arith) (omega arith)))
 
     -- With ample allowance and too little room.
-    pub short-full : q .room < length (matching q (w .k) (w .corner)) → searchOf q w ≡ refused (NoRoom (walk q w .visits))
+    pub short-full : q .room < length (matchingIn q w) → searchOf q w ≡ refused (NoRoom (walk q w .visits))
     short-full room =
         let nine : walk q w .stop ≡ 9 = too-little-room q (w .k) (w .corner) enough room in
         search-walks q w a ∙ ended-full (walk q w) (λ x. eqb-false 9 10 refl (sym nine ∙ x)) nine
@@ -58,14 +58,14 @@ module _ (q : Question) (w : Window) where
 -- How a search ends: at a test before the walk, complete, for want of room, or with the allowance used up.
 pub data Ending (q : Question) (w : Window) : Outcome → Type 0 where
   early : (a : Answer) → (8 ≤ searchFigures a .refusal → ⊥) → (searchFigures a .visits ≡ 0) → Ending q w (refused a)
-  done : visitsOf q (w .k) (w .corner) ≤ q .allowance → Ending q w (complete q w)
+  done : visitsIn q w ≤ q .allowance → Ending q w (complete q w)
   full : (v : ℕ) → v ≤ q .allowance → Ending q w (refused (NoRoom v))
   out : Ending q w (refused (AllowanceUsed (q .allowance)))
 
 module _ (q : Question) (w : Window) where
   by-stop : Accepted q w → (walk q w .stop ≡ 0) ⊎ ((walk q w .stop ≡ 9) ⊎ (walk q w .stop ≡ 10)) → Ending q w (searchOf q w)
   by-stop a (inl z) =
-      let most : visitsOf q (w .k) (w .corner) ≤ q .allowance =
+      let most : visitsIn q w ≤ q .allowance =
       omega (arith, bounded q (w .k) (w .corner) .most, ap (λ (s : Standing). s .visits) (finished q (w .k) (w .corner) [] 0 z)) in
       subst⁻¹ (Ending q w) (search-walks q w a ∙ unstopped q w z) (done most)
   by-stop a (inr (inl n)) =

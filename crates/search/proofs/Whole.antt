@@ -1,20 +1,17 @@
 -- A walk and what is to be found: with room and allowance it lists the matching cells in as many visits as the squares take,
 -- and a walk that was not stopped has done so.
-use Prim.Native.Nat.{ℕ, zero, suc, _+_, _*_, _^_, _≤_, _<_}
+use Prim.Native.Nat.{ℕ, zero, suc, _+_, _^_, _≤_}
 use mathlib.Core.Path.{_≡_, refl, sym, ap, ap₂, _∙_}
 use mathlib.Core.Bool.{Bool, true, false}
 use mathlib.Core.List.{List, [], _∷_, _++_, append-nil, append-assoc}
 use native.Mathlib.Omega.{arith}
-use native.Mathlib.Nat.{lt-of-not-le}
-use native.Mathlib.Decide.{decLe, ℕ-discrete}
-use borrow.Author.Tests.{eqb-false}
 use lib.ListN.{length, length-append}
 use Rattle.chart.specs.declared.Place.{Place}
 use Rattle.search.specs.Windows.{east, north, northEast}
 use Rattle.search.specs.Questions.{Question, matches, isKept}
-use Rattle.search.specs.Walk.{Standing, either, unchanged, stopped, counted, cell, visit}
+use Rattle.search.specs.Walk.{Standing, either, unchanged, visit}
 use Rattle.search.specs.Cells.{cells, ifSo, those, matching, visitsOf}
-use Rattle.search.proofs.WalkLaws.{visit-after, visit-out, visit-cell, visit-square, quarters, cell-missed, cell-full, cell-listed}
+use Rattle.search.proofs.WalkLaws.{visit-cell, visit-square, quarters, cell-missed, cell-listed}
 use Rattle.search.proofs.CellLaws.{matching-square}
 use Rattle.search.proofs.Dropping.{dropped-none}
 

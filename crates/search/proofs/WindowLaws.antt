@@ -1,9 +1,9 @@
 -- What being a window says: its exponent, and that its squares lie on the chart.
-use Prim.Native.Nat.{ℕ, _+_, _-_, _≤_, _<_, _^_}
-use mathlib.Core.Path.{_≡_, ap}
+use Prim.Native.Nat.{ℕ, _-_, _≤_, _<_, _^_}
+use mathlib.Core.Path.{_≡_, refl, ap, _∙_}
 use mathlib.Core.Bool.{Bool, true, false, _&&_}
 use native.Mathlib.Omega.{arith}
-use native.Mathlib.Nat.{pow-le-pow-right}
+use native.Mathlib.Nat.{pow-le-pow-right, le-refl}
 use lib.Dec.{leb, lit<}
 use lib.Pow.{pow-pos}
 use borrow.Author.Tests.{leb-true, le-leb, lt-leb}
@@ -11,7 +11,7 @@ use Rattle.chart.specs.declared.Place.{Place}
 use Rattle.chart.specs.Places.{inRange}
 use Rattle.chart.proofs.PlaceLaws.{both, in-range-says, says-in-range}
 use Rattle.search.specs.declared.Window.{Window}
-use Rattle.search.specs.Windows.{northEast, mostExponent, isWindow, IsCellOf}
+use Rattle.search.specs.Windows.{northEast, mostExponent, isWindow, IsCellIn}
 use Rattle.search.specs.Holding.{OnChart}
 
 -- An exponent too large decides; one that is not leaves it to the cell farthest north-east.
@@ -36,9 +36,16 @@ window-says w e =
           record { side-is = is; east = omega (arith, far .0); north = omega (arith, far .1) },
     )
 
--- Every cell of a square on the chart is in range.
-pub cell-in-range : (k side : ℕ) (p o : Place) → OnChart k side p → IsCellOf k p o → inRange o ≡ true
-cell-in-range k side p o w i =
-    says-in-range o
-    (omega (arith, w .side-is, w .east, i .to-east))
-    (omega (arith, w .side-is, w .north, i .to-north))
+-- Every cell of a window is in range.
+pub every-cell-in-range : (w : Window) (o : Place) → isWindow w ≡ true → IsCellIn w o → inRange o ≡ true
+every-cell-in-range w o e i =
+    let on = window-says w e .1 (w .k) (2 ^ w .k) (le-refl (w .k)) refl in
+    says-in-range o (omega (arith, on .east, i .to-east)) (omega (arith, on .north, i .to-north))
+
+-- And a square of at most that exponent whose cells are all in range is a window.
+pub in-range-is-window : (w : Window) → w .k ≤ mostExponent → ((o : Place) → IsCellIn w o → inRange o ≡ true) → isWindow w ≡ true
+in-range-is-window w h all =
+    let some : 0 < 2 ^ w .k = pow-pos (w .k) in
+    by-last-cell w h
+    ∙ all (northEast (2 ^ w .k - 1) (w .corner))
+    (record { from-west = omega arith; to-east = omega arith; from-south = omega arith; to-north = omega arith })

@@ -59,13 +59,20 @@ visitsOf q (suc k) p =
 abbrev pub mostVisits : ℕ → ℕ
 mostVisits k = (4 ^ (k + 1) - 1) / 3
 
+-- The matching cells of a window, and the visits that it takes.
+abbrev pub matchingIn : Question → Window → List Place
+matchingIn q w = matching q (w .k) (w .corner)
+
+abbrev pub visitsIn : Question → Window → ℕ
+visitsIn q w = visitsOf q (w .k) (w .corner)
+
 -- A place stands in a list.
 abbrev pub Listed : Place → List Place → Type 0
 Listed p ps = List·Memᴰ p ps
 
 -- Ample room: for every matching cell. Ample allowance: for every visit that the window takes.
 abbrev pub AmpleRoom : Question → Window → Type 0
-AmpleRoom q w = length (matching q (w .k) (w .corner)) ≤ q .room
+AmpleRoom q w = length (matchingIn q w) ≤ q .room
 
 abbrev pub AmpleAllowance : Question → Window → Type 0
-AmpleAllowance q w = visitsOf q (w .k) (w .corner) ≤ q .allowance
+AmpleAllowance q w = visitsIn q w ≤ q .allowance

@@ -1,14 +1,13 @@
 -- `search::visit` meets its contract, by the exponent that falls at each call: what holds where the walk stands before a call
 -- holds it after, so the four calls follow from each other.
-use Prim.Native.Nat.{ℕ, suc, _+_, _-_, _*_, _/_, _^_, _<_, _≤_}
+use Prim.Native.Nat.{ℕ, suc, _+_, _-_, _/_, _^_, _<_, _≤_}
 use mathlib.Core.Path.{_≡_, sym, ap, _∙_, subst⁻¹}
-use mathlib.Core.Bool.{true, false}
+use mathlib.Core.Bool.{true}
 use native.Mathlib.Omega.{arith}
 use borrow.Author.Needs.{needs}
 use borrow.Author.Tests.{not-true, not-false}
 use borrow.Fn.Kinds.{In}
 use borrow.Fn.PlainCycle.{Measures, is, falls, and}
-use lib.ListN.{length}
 use Rattle.chart.specs.declared.Place.{Place}
 use Rattle.chart.specs.Places.{inRange}
 use Rattle.search.specs.Windows.{east, north, northEast}

@@ -1,7 +1,6 @@
 -- `search::agrees` meets its contract: the tests are those of Agreeing, one after the other.
-use Prim.Native.Nat.{ℕ, _+_, _-_, _*_, _≤_, _^_}
+use Prim.Native.Nat.{ℕ, _+_, _-_, _*_, _≤_}
 use mathlib.Core.Path.{_≡_, sym, ap, _∙_}
-use mathlib.Core.Bool.{Bool}
 use native.Mathlib.Omega.{arith}
 use native.Mathlib.Nat.{mul-le-mul}
 use borrow.Author.Needs.{needs}

@@ -1,7 +1,7 @@
 -- `search::is_window` meets its contract: an exponent too large decides, then sums that 32 bits do not hold, which are far out
 -- of range, and else the cell farthest north-east.
-use Prim.Native.Nat.{ℕ, _-_, _≤_, _<_, _^_}
-use mathlib.Core.Path.{_≡_, sym, ap, _∙_}
+use Prim.Native.Nat.{ℕ, _-_}
+use mathlib.Core.Path.{sym, ap, _∙_}
 use native.Mathlib.Omega.{arith}
 use borrow.Author.Needs.{needs}
 use lib.Pow.{pow-pos}

@@ -1,14 +1,12 @@
 -- `search::near` meets its contract: a first slave that misses decides, and the second otherwise.
 use Prim.Native.Nat.{ℕ}
 use mathlib.Core.Path.{_≡_, sym, ap, _∙_}
-use mathlib.Core.Bool.{Bool, and-true}
+use mathlib.Core.Bool.{and-true}
 use borrow.Author.Needs.{needs}
 use borrow.Author.Tests.{not-true, not-false}
 use lib.Dec.{leb}
 use lib.IntN.{subℕ}
-use Rattle.chart.specs.declared.Chain.{Chain}
 use Rattle.chart.specs.Readings.{rangeOf, readingOf, differ, within}
-use Rattle.search.specs.declared.Wish.{Wish}
 use Rattle.search.proofs.near.Statement.{statement}
 use Rattle.search.proofs.near.Tie as tie
 

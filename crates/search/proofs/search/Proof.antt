@@ -1,7 +1,6 @@
 -- `search::search` meets its contract: the first test that fails is told with the list cleared, and else the walk's end.
-use Prim.Native.Nat.{ℕ, _≤_}
 use mathlib.Core.Path.{_≡_, refl, sym, ap, ap₂, _∙_, subst}
-use mathlib.Core.Bool.{Bool, true, false}
+use mathlib.Core.Bool.{true}
 use native.Mathlib.Omega.{arith}
 use borrow.Author.Needs.{needs}
 use borrow.Author.Tests.{not-true, not-false}
@@ -13,7 +12,7 @@ use mir.ValLaws.{toZ-ofZ}
 use Rattle.chart.specs.Chains.{isSound}
 use Rattle.chart.specs.Readings.{wantedOf}
 use Rattle.search.specs.Windows.{isWindow}
-use Rattle.search.specs.Questions.{Question, questionOf, mostTolerance, noneTooLarge}
+use Rattle.search.specs.Questions.{Question, questionOf, noneTooLarge}
 use Rattle.search.specs.Walk.{visit, start}
 use Rattle.search.specs.Answers.{Outcome, ended, Accepted}
 use Rattle.search.proofs.AnswerLaws.{search-3, search-5, search-6, search-7, search-walks}

@@ -2,10 +2,9 @@
 use Prim.Native.Nat.{ℕ, _+_, _*_, _≤_}
 use mathlib.Core.Path.{ap₂}
 use native.Mathlib.Omega.{arith}
-use native.Mathlib.Nat.{mul-le-mul}
 use borrow.Author.Needs.{needs}
 use Rattle.chart.specs.Places.{mostEasting, mostNorthing}
-use Rattle.chart.proofs.PlaceLaws.{in-range-says}
+use Rattle.chart.proofs.PlaceLaws.{squares-small}
 use Rattle.search.proofs.squared.Statement.{statement}
 use Rattle.search.proofs.squared.Tie as tie
 
@@ -15,14 +14,10 @@ gap-requires c κs = search needs
 gap-requires-2 : tie.Need-gap-requires-2
 gap-requires-2 c κs = search needs
 
--- The two differences are at most the chart's length and height.
-sides : (c : tie.After-gap2) → (c .before .gap .result ≤ mostEasting) × (c .gap2 .result ≤ mostNorthing)
-sides c =
-    let start = c .before .before in
-    omega (arith, in-range-says (start .args .p) (start .pre .0), in-range-says (start .args .q) (start .pre .1))
-
 squares : (c : tie.After-gap2) → (c .before .gap .result * c .before .gap .result ≤ mostEasting * mostEasting) × (c .gap2 .result * c .gap2 .result ≤ mostNorthing * mostNorthing)
-squares c = (mul-le-mul (sides c .0) (sides c .0), mul-le-mul (sides c .1) (sides c .1))
+squares c =
+    let start = c .before .before in
+    squares-small (start .args .p) (start .args .q) _ _ (start .pre .0) (start .pre .1) (c .before .gap .ensures) (c .gap2 .ensures)
 
 mul-result : tie.Need-mul-result
 mul-result c = omega (arith, squares c)

@@ -1,9 +1,6 @@
 -- `search::walked` meets its contract: the walk starts with any list, and its end is told with the list cleared.
-use Prim.Native.Nat.{_*_}
-use mathlib.Core.Path.{_≡_, sym, _∙_}
 use native.Mathlib.Omega.{arith}
 use borrow.Author.Needs.{needs}
-use lib.ListN.{length}
 use Rattle.search.specs.Walk.{visit, start}
 use Rattle.search.specs.Holding.{questionBy, Holds}
 use Rattle.search.proofs.WindowLaws.{window-says}

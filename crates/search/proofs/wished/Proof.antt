@@ -7,7 +7,6 @@ use lib.Signed.{ltZ}
 use mir.Syntax.{w64}
 use mir.Val.{toZ, ofZ}
 use mir.ValLaws.{toZ-ofZ}
-use Rattle.search.specs.declared.Wish.{Wish}
 use Rattle.search.proofs.Signs.{below-zero, not-below-zero}
 use Rattle.search.proofs.wished.Statement.{statement}
 use Rattle.search.proofs.wished.Tie as tie
