@@ -11,6 +11,7 @@ pub mod Counting
 pub mod Keeping
 pub mod Limits
 pub mod Outcomes
+mod Telling
 pub mod Theorems
 mod Agreeing
 mod Clearing

@@ -1,13 +1,12 @@
 -- Demand 3: what the answer of a search is worth. `search::search` is proved to answer `searchOf` and to leave its places in the
 -- list; these theorems say what `searchOf` is, by the cells of the window and nothing else.
 use Prim.Native.Nat.{ℕ, _≤_, _<_}
-use mathlib.Core.Path.{_≡_, refl, ap, _∙_, subst, subst⁻¹}
-use mathlib.Core.Bool.{Bool, true, false}
-use mathlib.Core.List.{List, [], _∷_, List·Memᴰ·not-nil}
+use mathlib.Core.Path.{_≡_, refl, ap, _∙_, subst⁻¹}
+use mathlib.Core.Bool.{false}
+use mathlib.Core.List.{List, []}
 use native.Mathlib.Omega.{arith}
 use native.Mathlib.Nat.{le-trans, lt-of-not-le}
 use native.Mathlib.Decide.{decLe}
-use borrow.Author.Tests.{eqb-false}
 use lib.ListN.{length}
 use Rattle.chart.specs.declared.Place.{Place}
 use Rattle.chart.specs.declared.Chain.{Chain}
@@ -16,53 +15,22 @@ use Rattle.chart.proofs.ReadingLaws.{own-match}
 use Rattle.search.specs.declared.Window.{Window}
 use Rattle.search.specs.Windows.{IsCellIn}
 use Rattle.search.specs.Questions.{Question, questionOf, matches}
-use Rattle.search.specs.Answers.{Outcome, gone, Accepted, searchOf, searchFigures}
-use Rattle.search.specs.Cells.{chartNumber, Rises, matching, matchingIn, visitsIn, mostVisits, Listed, AmpleRoom, AmpleAllowance}
+use Rattle.search.specs.Answers.{Outcome, gone, Accepted, searchOf, searchFigures, figuresIn}
+use Rattle.search.specs.Cells.{chartNumber, Rises, matching, matchingIn, visitsIn, mostVisits, IsMatch, Listed, AmpleRoom, AmpleAllowance}
 use Rattle.search.proofs.CellLaws.{those-none, cell-inside, matching-all, matching-only}
-use Rattle.search.proofs.Order.{rising-only, matching-rises}
+use Rattle.search.proofs.Order.{rising-only}
 use Rattle.search.proofs.Counting.{at-most}
-use Rattle.search.proofs.Outcomes.{ample-complete, short-full, Ending, early, done, full, out, ending}
-
--- What a complete walk lists and tells.
-gone-places : (ps : List Place) (v : ℕ) → gone ps v .places ≡ ps
-gone-places [] v = refl
-gone-places (p ∷ ps) v = refl
-
-gone-visits : (ps : List Place) (v : ℕ) → searchFigures (gone ps v .answer) .visits ≡ v
-unfolding searchFigures
-gone-visits [] v = refl
-gone-visits (p ∷ ps) v = refl
-
-gone-count : (ps : List Place) (v : ℕ) → searchFigures (gone ps v .answer) .count ≡ length ps
-unfolding searchFigures
-gone-count [] v = refl
-gone-count (p ∷ ps) v = refl
-
-gone-none : (ps : List Place) (v : ℕ) → searchFigures (gone ps v .answer) .refusal ≡ 8 → ps ≡ []
-unfolding searchFigures
-gone-none [] v e = refl
-gone-none (p ∷ ps) v e = absurd (eqb-false 0 8 refl e)
-
--- A complete walk is told as 0 or 8.
-gone-small : (ps : List Place) (v : ℕ) → searchFigures (gone ps v .answer) .refusal ≤ 8
-unfolding searchFigures
-gone-small [] v = omega arith
-gone-small (p ∷ ps) v = omega arith
+use Rattle.search.proofs.Outcomes.{ample-complete, short-full, ending}
+use Rattle.search.proofs.Telling.{gone-places, gone-visits, gone-count, gone-small, places-of, rises-of, none-of, unmatched, spent-of}
 
 module _ (q : Question) (w : Window) where
-  places-of : (o : Outcome) → Ending q w o → (p : Place) → Listed p (o .places) → Listed p (matchingIn q w)
-  places-of _ (early a f v) p m = absurd (List·Memᴰ·not-nil m)
-  places-of _ (done most) p m = subst (Listed p) (gone-places (matchingIn q w) (visitsIn q w)) m
-  places-of _ (full v most) p m = absurd (List·Memᴰ·not-nil m)
-  places-of _ out p m = absurd (List·Memᴰ·not-nil m)
-
   -- No cell is listed that does not lie in the window and match, whatever the room and the allowance.
-  pub listed-matches : (o : Place) → Listed o (searchOf q w .places) → IsCellIn w o × (matches q o ≡ true)
-  listed-matches o m = matching-only q (w .k) (w .corner) o (places-of (searchOf q w) (ending q w) o m)
+  pub listed-matches : (o : Place) → Listed o (searchOf q w .places) → IsMatch q w o
+  listed-matches o m = matching-only q (w .k) (w .corner) o (places-of q w (searchOf q w) (ending q w) o m)
 
   -- With room and allowance ample, a cell is listed exactly if it lies in the window and matches.
   pub listed-iff-matches : Accepted q w → AmpleRoom q w → AmpleAllowance q w → (o : Place) →
-      (Listed o (searchOf q w .places) → IsCellIn w o × (matches q o ≡ true)) × (IsCellIn w o × (matches q o ≡ true) → Listed o (searchOf q w .places))
+      (Listed o (searchOf q w .places) → IsMatch q w o) × (IsMatch q w o → Listed o (searchOf q w .places))
   listed-iff-matches a room enough o = (
     listed-matches o,
     λ h.
@@ -70,42 +38,24 @@ module _ (q : Question) (w : Window) where
         (matching-all q (w .k) (w .corner) o (h .0) (h .1)),
   )
 
-  rises-of : (o : Outcome) → Ending q w o → Rises (chartNumber w) (o .places)
-  unfolding Rises
-  rises-of _ (early a f v) = tt
-  rises-of _ (done most) = subst⁻¹ (Rises (chartNumber w)) (gone-places (matchingIn q w) (visitsIn q w)) (matching-rises q w)
-  rises-of _ (full v most) = tt
-  rises-of _ out = tt
-
   -- The chart numbers of the listed cells strictly rise: so they stand in chart order, and each once.
   pub numbers-rise : Rises (chartNumber w) (searchOf q w .places)
-  numbers-rise = rises-of (searchOf q w) (ending q w)
+  numbers-rise = rises-of q w (searchOf q w) (ending q w)
 
   -- Any list with these two properties is the list of the search.
   pub only-list : Accepted q w → AmpleRoom q w → AmpleAllowance q w → (l : List Place) →
-      ((o : Place) → Listed o l → IsCellIn w o × (matches q o ≡ true)) → ((o : Place) → IsCellIn w o × (matches q o ≡ true) → Listed o l) → Rises (chartNumber w) l →
+      ((o : Place) → Listed o l → IsMatch q w o) → ((o : Place) → IsMatch q w o → Listed o l) → Rises (chartNumber w) l →
       l ≡ searchOf q w .places
   only-list a room enough l right all rises =
       rising-only (chartNumber w) l (searchOf q w .places) rises numbers-rise
       (λ o m. listed-iff-matches a room enough o .1 (right o m))
       (λ o m. all o (listed-matches o m))
 
-  none-of : (o : Outcome) → Ending q w o → searchFigures (o .answer) .refusal ≡ 8 → matchingIn q w ≡ []
-  unfolding searchFigures
-  none-of _ (early a f v) e = absurd (f (omega (arith, e)))
-  none-of _ (done most) e = gone-none (matchingIn q w) (visitsIn q w) e
-  none-of _ (full v most) e = absurd (eqb-false 9 8 refl e)
-  none-of _ out e = absurd (eqb-false 10 8 refl e)
-
-  unmatched : (o : Place) → IsCellIn w o → matchingIn q w ≡ [] → (b : Bool) → matches q o ≡ b → b ≡ false
-  unmatched o i e true m = absurd (List·Memᴰ·not-nil (subst (Listed o) e (matching-all q (w .k) (w .corner) o i m)))
-  unmatched o i e false m = refl
-
   -- 8 is answered exactly when no cell matches. That it is answered only then needs no allowance.
-  pub eight-only-then : searchFigures (searchOf q w .answer) .refusal ≡ 8 → (o : Place) → IsCellIn w o → matches q o ≡ false
-  eight-only-then e o i = unmatched o i (none-of (searchOf q w) (ending q w) e) (matches q o) refl
+  pub eight-only-then : figuresIn q w .refusal ≡ 8 → (o : Place) → IsCellIn w o → matches q o ≡ false
+  eight-only-then e o i = unmatched q w o i (none-of q w (searchOf q w) (ending q w) e) (matches q o) refl
 
-  pub eight-when-none : Accepted q w → AmpleAllowance q w → ((o : Place) → IsCellIn w o → matches q o ≡ false) → searchFigures (searchOf q w .answer) .refusal ≡ 8
+  pub eight-when-none : Accepted q w → AmpleAllowance q w → ((o : Place) → IsCellIn w o → matches q o ≡ false) → figuresIn q w .refusal ≡ 8
   unfolding searchFigures matching
   eight-when-none a enough none =
       let nothing : matchingIn q w ≡ [] =
@@ -114,11 +64,11 @@ module _ (q : Question) (w : Window) where
       ∙ ap (λ (l : List Place). searchFigures (gone l (visitsIn q w) .answer) .refusal) nothing
 
   -- With room and allowance ample, the visits are the quartering count, and the count is that of the matching cells.
-  pub visits-are-counted : Accepted q w → AmpleRoom q w → AmpleAllowance q w → searchFigures (searchOf q w .answer) .visits ≡ visitsIn q w
+  pub visits-are-counted : Accepted q w → AmpleRoom q w → AmpleAllowance q w → figuresIn q w .visits ≡ visitsIn q w
   visits-are-counted a room enough =
       ap (λ (x : Outcome). searchFigures (x .answer) .visits) (ample-complete q w a enough room) ∙ gone-visits (matchingIn q w) (visitsIn q w)
 
-  pub places-are-counted : Accepted q w → AmpleRoom q w → AmpleAllowance q w → searchFigures (searchOf q w .answer) .count ≡ length (matchingIn q w)
+  pub places-are-counted : Accepted q w → AmpleRoom q w → AmpleAllowance q w → figuresIn q w .count ≡ length (matchingIn q w)
   places-are-counted a room enough =
       ap (λ (x : Outcome). searchFigures (x .answer) .count) (ample-complete q w a enough room) ∙ gone-count (matchingIn q w) (visitsIn q w)
 
@@ -127,11 +77,11 @@ module _ (q : Question) (w : Window) where
   always-enough h = le-trans (at-most q (w .k) (w .corner)) h
 
   -- With the allowance ample, 9 is answered exactly when the matching cells are more than the room.
-  pub nine-when-short : Accepted q w → AmpleAllowance q w → q .room < length (matchingIn q w) → searchFigures (searchOf q w .answer) .refusal ≡ 9
+  pub nine-when-short : Accepted q w → AmpleAllowance q w → q .room < length (matchingIn q w) → figuresIn q w .refusal ≡ 9
   unfolding searchFigures
   nine-when-short a enough short = ap (λ (x : Outcome). searchFigures (x .answer) .refusal) (short-full q w a enough short)
 
-  pub nine-only-then : Accepted q w → AmpleAllowance q w → searchFigures (searchOf q w .answer) .refusal ≡ 9 → q .room < length (matchingIn q w)
+  pub nine-only-then : Accepted q w → AmpleAllowance q w → figuresIn q w .refusal ≡ 9 → q .room < length (matchingIn q w)
   nine-only-then a enough e = go (decLe (length (matchingIn q w)) (q .room))
     where
       go : Dec (length (matchingIn q w) ≤ q .room) → q .room < length (matchingIn q w)
@@ -140,19 +90,9 @@ module _ (q : Question) (w : Window) where
           let told = ap (λ (x : Outcome). searchFigures (x .answer) .refusal) (ample-complete q w a enough room) in
           absurd (omega (arith, e, told, gone-small (matchingIn q w) (visitsIn q w)))
 
-  spent-of : (o : Outcome) → Ending q w o → (searchFigures (o .answer) .visits ≤ q .allowance) × (searchFigures (o .answer) .refusal ≡ 10 → searchFigures (o .answer) .visits ≡ q .allowance)
-  unfolding searchFigures
-  spent-of _ (early a f v) = (omega (arith, v), λ e. absurd (f (omega (arith, e))))
-  spent-of _ (done most) = (
-    omega (arith, gone-visits (matchingIn q w) (visitsIn q w)),
-    λ e. absurd (omega (arith, e, gone-small (matchingIn q w) (visitsIn q w))),
-  )
-  spent-of _ (full v most) = (most, λ e. absurd (eqb-false 9 10 refl e))
-  spent-of _ out = (omega arith, λ e. refl)
-
   -- No search makes more visits than allowed, and one that is told 10 has made exactly as many.
-  pub visits-in-allowance : (searchFigures (searchOf q w .answer) .visits ≤ q .allowance) × (searchFigures (searchOf q w .answer) .refusal ≡ 10 → searchFigures (searchOf q w .answer) .visits ≡ q .allowance)
-  visits-in-allowance = spent-of (searchOf q w) (ending q w)
+  pub visits-in-allowance : (figuresIn q w .visits ≤ q .allowance) × (figuresIn q w .refusal ≡ 10 → figuresIn q w .visits ≡ q .allowance)
+  visits-in-allowance = spent-of q w (searchOf q w) (ending q w)
 
 -- A place's own readings find that place, with room and allowance ample.
 pub own-readings-found : (c : Chain) (p : Place) (w : Window) (tolerance allowance entries : ℕ) →

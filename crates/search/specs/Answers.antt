@@ -76,3 +76,7 @@ searchFigures BadTolerance = record { refusal = 7; count = 0; visits = 0 }
 searchFigures (NoMatch visits) = record { refusal = 8; count = 0; visits = visits }
 searchFigures (NoRoom visits) = record { refusal = 9; count = 0; visits = visits }
 searchFigures (AllowanceUsed visits) = record { refusal = 10; count = 0; visits = visits }
+
+-- The figures that a search answers with.
+abbrev pub figuresIn : Question → Window → SearchFigures
+figuresIn q w = searchFigures (searchOf q w .answer)

@@ -1,12 +1,13 @@
 -- What a search is to find, said without a walk: the matching cells in chart order, and how many visits they take
 -- (01, The search and its count).
 use Prim.Native.Nat.{ℕ, zero, suc, _+_, _-_, _*_, _/_, _%_, _^_, _≤_, _<_}
+use mathlib.Core.Path.{_≡_}
 use mathlib.Core.Bool.{Bool, true, false}
 use mathlib.Core.List.{List, [], _∷_, _++_, List·Memᴰ}
 use lib.ListN.{length}
 use Rattle.chart.specs.declared.Place.{Place}
 use Rattle.search.specs.declared.Window.{Window}
-use Rattle.search.specs.Windows.{east, north, northEast}
+use Rattle.search.specs.Windows.{east, north, northEast, IsCellIn}
 use Rattle.search.specs.Questions.{Question, matches, isKept}
 
 -- The lowest k bits of two numbers interleaved, the northing bit above the easting bit at each place.
@@ -65,6 +66,10 @@ matchingIn q w = matching q (w .k) (w .corner)
 
 abbrev pub visitsIn : Question → Window → ℕ
 visitsIn q w = visitsOf q (w .k) (w .corner)
+
+-- A cell of the window that matches.
+abbrev pub IsMatch : Question → Window → Place → Type 0
+IsMatch q w p = IsCellIn w p × (matches q p ≡ true)
 
 -- A place stands in a list.
 abbrev pub Listed : Place → List Place → Type 0

@@ -1,0 +1,82 @@
+-- What each end of a search lists and tells.
+use Prim.Native.Nat.{ℕ, _≤_}
+use mathlib.Core.Path.{_≡_, refl, subst, subst⁻¹}
+use mathlib.Core.Bool.{Bool, true, false}
+use mathlib.Core.List.{List, [], _∷_, List·Memᴰ·not-nil}
+use native.Mathlib.Omega.{arith}
+use borrow.Author.Tests.{eqb-false}
+use lib.ListN.{length}
+use Rattle.chart.specs.declared.Place.{Place}
+use Rattle.search.specs.declared.Window.{Window}
+use Rattle.search.specs.Windows.{IsCellIn}
+use Rattle.search.specs.Questions.{Question, matches}
+use Rattle.search.specs.Answers.{Outcome, gone, searchFigures}
+use Rattle.search.specs.Cells.{chartNumber, Rises, matchingIn, visitsIn, Listed}
+use Rattle.search.proofs.CellLaws.{matching-all}
+use Rattle.search.proofs.Order.{matching-rises}
+use Rattle.search.proofs.Outcomes.{Ending, early, done, full, out}
+
+-- A complete walk.
+pub gone-places : (ps : List Place) (v : ℕ) → gone ps v .places ≡ ps
+gone-places [] v = refl
+gone-places (p ∷ ps) v = refl
+
+pub gone-visits : (ps : List Place) (v : ℕ) → searchFigures (gone ps v .answer) .visits ≡ v
+unfolding searchFigures
+gone-visits [] v = refl
+gone-visits (p ∷ ps) v = refl
+
+pub gone-count : (ps : List Place) (v : ℕ) → searchFigures (gone ps v .answer) .count ≡ length ps
+unfolding searchFigures
+gone-count [] v = refl
+gone-count (p ∷ ps) v = refl
+
+pub gone-none : (ps : List Place) (v : ℕ) → searchFigures (gone ps v .answer) .refusal ≡ 8 → ps ≡ []
+unfolding searchFigures
+gone-none [] v e = refl
+gone-none (p ∷ ps) v e = absurd (eqb-false 0 8 refl e)
+
+-- A complete walk is told as 0 or 8.
+pub gone-small : (ps : List Place) (v : ℕ) → searchFigures (gone ps v .answer) .refusal ≤ 8
+unfolding searchFigures
+gone-small [] v = omega arith
+gone-small (p ∷ ps) v = omega arith
+
+module _ (q : Question) (w : Window) where
+  -- Whatever the end, what is listed is among the matching cells, in chart order.
+  pub places-of : (o : Outcome) → Ending q w o → (p : Place) → Listed p (o .places) → Listed p (matchingIn q w)
+  places-of _ (early a f v) p m = absurd (List·Memᴰ·not-nil m)
+  places-of _ (done most) p m = subst (Listed p) (gone-places (matchingIn q w) (visitsIn q w)) m
+  places-of _ (full v most) p m = absurd (List·Memᴰ·not-nil m)
+  places-of _ out p m = absurd (List·Memᴰ·not-nil m)
+
+  pub rises-of : (o : Outcome) → Ending q w o → Rises (chartNumber w) (o .places)
+  unfolding Rises
+  rises-of _ (early a f v) = tt
+  rises-of _ (done most) = subst⁻¹ (Rises (chartNumber w)) (gone-places (matchingIn q w) (visitsIn q w)) (matching-rises q w)
+  rises-of _ (full v most) = tt
+  rises-of _ out = tt
+
+  -- 8 ends only a walk that found no matching cell.
+  pub none-of : (o : Outcome) → Ending q w o → searchFigures (o .answer) .refusal ≡ 8 → matchingIn q w ≡ []
+  unfolding searchFigures
+  none-of _ (early a f v) e = absurd (f (omega (arith, e)))
+  none-of _ (done most) e = gone-none (matchingIn q w) (visitsIn q w) e
+  none-of _ (full v most) e = absurd (eqb-false 9 8 refl e)
+  none-of _ out e = absurd (eqb-false 10 8 refl e)
+
+  -- Where there is no matching cell, no cell matches.
+  pub unmatched : (o : Place) → IsCellIn w o → matchingIn q w ≡ [] → (b : Bool) → matches q o ≡ b → b ≡ false
+  unmatched o i e true m = absurd (List·Memᴰ·not-nil (subst (Listed o) e (matching-all q (w .k) (w .corner) o i m)))
+  unmatched o i e false m = refl
+
+  -- No end has more visits than allowed, and 10 has exactly as many.
+  pub spent-of : (o : Outcome) → Ending q w o → (searchFigures (o .answer) .visits ≤ q .allowance) × (searchFigures (o .answer) .refusal ≡ 10 → searchFigures (o .answer) .visits ≡ q .allowance)
+  unfolding searchFigures
+  spent-of _ (early a f v) = (omega (arith, v), λ e. absurd (f (omega (arith, e))))
+  spent-of _ (done most) = (
+    omega (arith, gone-visits (matchingIn q w) (visitsIn q w)),
+    λ e. absurd (omega (arith, e, gone-small (matchingIn q w) (visitsIn q w))),
+  )
+  spent-of _ (full v most) = (most, λ e. absurd (eqb-false 9 10 refl e))
+  spent-of _ out = (omega arith, λ e. refl)
