@@ -14,6 +14,7 @@ pub record Standing : Type 0 where
   pub places : List Place
   pub visits : ℕ
 
+-- Before the first visit.
 abbrev pub start : Standing
 start = record { stop = 0; places = []; visits = 0 }
 
@@ -22,6 +23,7 @@ abbrev pub either : Bool → (Standing → Standing) → (Standing → Standing)
 either true f g s = f s
 either false f g s = g s
 
+-- The steps of a walk: nothing, a stop with a refusal, a visit counted, a place listed behind the others.
 abbrev pub unchanged : Standing → Standing
 unchanged s = s
 

@@ -28,6 +28,7 @@ use Rattle.search.proofs.range.Reads as range-reads
 use Rattle.search.proofs.+visit.{statement}
 use Rattle.search.proofs.+visit.Tie.{close}
 
+-- What falls at each call: the exponent.
 abbrev μ-visit : Measures 1 visit-kinds.ps ℕ
 μ-visit κs a = a .1 .1 .0
 
@@ -60,12 +61,14 @@ claims t = (
 abbrev started : (t : ℕ) → lts.Else3 (claims t) (visit-at t) visit.Post → lts.Start (claims t) (visit-at t) visit.Post
 started t e = e .before .before .before .before .before .before .before .before
 
+-- The exponent of the quarters and half the side.
 exponent : (t : ℕ) (e : lts.Else3 (claims t) (visit-at t) visit.Post) → started t e .args .k ≡ suc (started t e .args .k - 1)
 exponent t e = let a = started t e .args in k-is (a .k) (a .side) (a .p) (started t e .pre .1 .1) (e .if3 .left)
 
 half-of : (t : ℕ) (e : lts.Else3 (claims t) (visit-at t) visit.Post) → started t e .args .side / 2 ≡ 2 ^ (started t e .args .k - 1)
 half-of t e = let a = started t e .args in half-is (a .k) (a .side) (a .p) (started t e .pre .1 .1) (e .if3 .left)
 
+-- The middle is in range, and the test there is the definition's.
 middle-ok : (t : ℕ) (c : lts.After-north-east (claims t) (visit-at t) visit.Post) → inRange (c .north-east .result) ≡ true
 middle-ok t c =
     let a = started t (c .before) .args in
