@@ -11,6 +11,7 @@ use Rattle.search.specs.Questions.{Question, mostTolerance, noneTooLarge
 use Rattle.search.specs.Walk.{Standing, start, visit}
 use Rattle.search.specs.Answers.{refused, gone, ended, Accepted, searchOf}
 
+-- The end of a walk: 10, 9, or gone to its end.
 module _ (s : Standing) where
   pub ended-out : s .stop ≡ 10 → ended s ≡ refused (AllowanceUsed (s .visits))
   unfolding ended
@@ -25,6 +26,7 @@ module _ (s : Standing) where
   ended-gone f g = rw (ne-eqb (s .stop) 10 f, ne-eqb (s .stop) 9 g)
 
 module _ (q : Question) (w : Window) where
+  -- The first test that fails answers.
   pub search-3 : noneTooLarge (q .wanted) ≡ false → searchOf q w ≡ refused ReadingTooLarge
   unfolding searchOf
   search-3 e = rw e

@@ -43,12 +43,14 @@ module _ (c : Chain) (ra rb : ℤ) (tolerance allowance room : ℕ) (a b : Wish)
   abbrev pub made : Hunt
   made = record { master = c .master; a = a; b = b; tolerance = tolerance; allowance = allowance; room = room }
 
+  -- It asks what the readings ask.
   pub asks : (entries : ℕ) → room ≡ entries / 2 → questionBy made ≡ questionOf c ra rb tolerance allowance entries
   asks entries e =
       ap₂ (λ (x y : Wish). questionBy (record { master = c .master; a = x; b = y; tolerance = tolerance; allowance = allowance; room = room })) ea eb
       ∙ ap₂ (λ (x y : Wanted). record { chain = c; wanted = x ∷ y ∷ []; tolerance = tolerance; allowance = allowance; room = room }) (wanted-again (c .a) ra) (wanted-again (c .b) rb)
       ∙ ap (λ (n : ℕ). record { chain = c; wanted = wantedOf c ra rb; tolerance = tolerance; allowance = allowance; room = n }) e
 
+  -- With the tests passed it is ready.
   pub ready : noneTooLarge (wantedOf c ra rb) ≡ true → isSound c ≡ true → tolerance ≤ mostTolerance → Ready made
   ready small sound t =
       let stations = stations-in-range c sound in

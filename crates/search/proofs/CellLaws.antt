@@ -8,6 +8,7 @@ use mathlib.Core.List.{List, [], _∷_, _++_, List·Memᴰ, List·Memᴰ·head, 
 use native.Mathlib.Omega.{arith}
 use native.Mathlib.Nat.{pow-succ'}
 use native.Mathlib.Decide.{decLe}
+use lib.ListN.{length, length-append}
 use Rattle.chart.specs.declared.Place.{Place}
 use Rattle.search.specs.Windows.{east, north, northEast, IsCellOf}
 use Rattle.search.specs.Questions.{Question, matches}
@@ -135,3 +136,7 @@ matching-only q k p o m =
 pub matching-square : (q : Question) (k : ℕ) (p : Place) → matching q (suc k) p ≡ matching q k p ++ (matching q k (east (2 ^ k) p) ++ (matching q k (north (2 ^ k) p) ++ matching q k (northEast (2 ^ k) p)))
 unfolding matching cells
 matching-square q k p = simp those-append
+
+-- So they are as many as those of the four.
+pub matching-counted : (q : Question) (k : ℕ) (p : Place) → length (matching q (suc k) p) ≡ length (matching q k p) + (length (matching q k (east (2 ^ k) p)) + (length (matching q k (north (2 ^ k) p)) + length (matching q k (northEast (2 ^ k) p))))
+matching-counted q k p = ap length (matching-square q k p) ∙ simp length-append

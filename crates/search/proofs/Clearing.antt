@@ -17,6 +17,7 @@ pub record Cleared (from i : ℕ) (l₀ l : List ℕ) : Type 0 where
 zeros : (n m : ℕ) → n ≡ m → _≡_ {A = List ℕ} (replicate n 0) (replicate m 0)
 zeros n m e = ap (λ (x : ℕ). replicate x 0) e
 
+-- Nothing cleared yet; one entry more.
 pub cleared-none : (from : ℕ) (l : List ℕ) → Cleared from from l l
 cleared-none from l =
     record {

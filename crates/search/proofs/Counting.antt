@@ -45,5 +45,6 @@ in-tower q (suc k) p =
           (omega (arith, in-tower q k p, in-tower q k se, in-tower q k nw, in-tower q k ne)),
     )
 
+-- The law.
 pub at-most : (q : Question) (k : ℕ) (p : Place) → visitsOf q k p ≤ mostVisits k
 at-most q k p = omega (arith, in-tower q k p, most-is k)

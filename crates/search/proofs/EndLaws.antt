@@ -42,6 +42,7 @@ pub start-holds : (l : List ℕ) → Holds start (record { stop = 0; count = 0; 
 unfolding entriesOf
 start-holds l = record { stop = refl; visits = refl; count = refl; entries = refl }
 
+-- Each end of a walk, told with the list cleared: 10, 9, 8, and places.
 module _ (n : ℕ) (s : Standing) (t : Tally) (l l' : List ℕ) (h : Holds s t l) (same : length l ≡ n) where
   pub out-told : t .stop ≡ 10 → Empty l l' → Told n (ended s) (AllowanceUsed (t .visits)) l'
   out-told e empty =

@@ -46,6 +46,7 @@ module _ (s : Standing) (t : Tally) (l : List ℕ) (h : Holds s t l) where
   pub held-fits : 2 * t .count ≤ length l
   held-fits = omega (arith, h .count, ap length (h .entries), length-entries (s .places), length-take (2 * t .count) l)
 
+  -- A stop, and a visit counted, leave the list.
   pub stop-holds : (why : ℕ) → Holds (stopped why s) (stopTally why t) l
   stop-holds why = record { stop = refl; visits = h .visits; count = h .count; entries = h .entries }
 
@@ -69,6 +70,7 @@ module _ (s : Standing) (t : Tally) (l : List ℕ) (h : Holds s t l) where
       }
 
   module _ (q : Question) (p : Place) where
+    -- A cell is missed, finds the list full, or is listed.
     pub missed-holds : matches q p ≡ false → Holds (cell q p s) t l
     missed-holds e = subst⁻¹ (λ (x : Standing). Holds x t l) (cell-missed q p s e) h
 
@@ -81,6 +83,7 @@ module _ (s : Standing) (t : Tally) (l : List ℕ) (h : Holds s t l) where
         (cell-listed q p s e (omega (arith, h .count)))
         (list-holds p (omega arith))
 
+    -- A visit after a stop, and one that is not allowed.
     pub after-holds : (k : ℕ) → (t .stop ≡ 0 → ⊥) → Holds (visit q k p s) t l
     after-holds k f = subst⁻¹ (λ (x : Standing). Holds x t l) (visit-after q k p s (λ e. f (h .stop ∙ e))) h
 

@@ -36,6 +36,7 @@ module _ (q : Question) (P : Standing → Type 0) (keeps : Keeps q P) where
   either-keeps true k p s ih h = ih _ _ (ih _ _ (ih _ _ (ih p s h)))
   either-keeps false k p s ih h = h
 
+  -- The law.
   pub visit-keeps : (k : ℕ) (p : Place) (s : Standing) → P s → P (visit q k p s)
   visit-keeps zero p s h =
       by-start 0 p s h

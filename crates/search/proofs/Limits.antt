@@ -17,7 +17,7 @@ use Rattle.search.specs.Walk.{Standing, start, either, unchanged, visit}
 use Rattle.search.specs.Cells.{matching, visitsOf}
 use Rattle.search.proofs.WalkLaws.{visit-after, visit-cell, visit-square, quarters, cell-full}
 use Rattle.search.proofs.Keeping.{Keeps, visit-keeps}
-use Rattle.search.proofs.CellLaws.{matching-square}
+use Rattle.search.proofs.CellLaws.{matching-counted}
 use Rattle.search.proofs.Dropping.{dropped-none}
 use Rattle.search.proofs.Whole.{going, whole, visits-kept, one-visit, matching-cell}
 
@@ -81,8 +81,8 @@ module _ (q : Question) where
       let se : Place = east (2 ^ k) p in
       let nw : Place = north (2 ^ k) p in
       let ne : Place = northEast (2 ^ k) p in
-      let n : visitsOf q (suc k) p ≡ 1 + (visitsOf q k p + (visitsOf q k se + (visitsOf q k nw + visitsOf q k ne))) = visits-kept q k p e in
-      let f : length (matching q (suc k) p) ≡ length (matching q k p) + (length (matching q k se) + (length (matching q k nw) + length (matching q k ne))) = ap length (matching-square q k p) ∙ simp length-append in
+      let n = visits-kept q k p e in
+      let f = matching-counted q k p in
       then k p _ _ _ (ih p) (then k se _ _ _ (ih se) (then k nw _ _ _ (ih nw) (ih ne))) .over ps (v + 1) l (omega arith) (omega arith)
 
   overflows : (k : ℕ) (p : Place) → Overflows (visit q k p) (visitsOf q k p) (length (matching q k p))

@@ -1,11 +1,12 @@
 -- A reading taken apart: how far it lies above 0 and how far below.
-use Prim.Native.Nat.{suc, _≤_}
-use mathlib.Core.Path.{_≡_, refl, ap}
+use Prim.Native.Nat.{_≤_}
+use mathlib.Core.Path.{_≡_, refl}
 use mathlib.Core.Bool.{true, false, true≢false}
 use native.Mathlib.Omega.{arith}
-use borrow.Author.Tests.{ltb-true, le-ltb, lt-ltb}
+use borrow.Author.Tests.{ltb-true}
 use lib.IntN.{ℤ, pos, negsuc, natAbs, subℕ}
 use lib.Signed.{ltZ}
+use Rattle.chart.proofs.Differing.{nothing-less, all-less}
 use Rattle.search.specs.Holding.{above, below}
 
 -- A number below 0 has all its size there; any other has it above.
@@ -17,11 +18,12 @@ pub not-below-zero : (z : ℤ) → ltZ z (pos 0) ≡ false → (above z ≡ natA
 not-below-zero (pos n) e = (refl, refl)
 not-below-zero (negsuc n) e = absurd (true≢false e)
 
--- The two make the number again, and neither is larger than its size.
+-- The two make the number again.
 pub made-again : (z : ℤ) → subℕ (above z) (below z) ≡ z
-made-again (pos n) = simp (le-ltb n 0 (omega arith)) (ap pos (omega arith))
-made-again (negsuc n) = simp (lt-ltb 0 (suc n) (omega arith)) (ap negsuc (omega arith))
+made-again (pos n) = nothing-less n
+made-again (negsuc n) = all-less n
 
+-- Neither is larger than its size.
 pub above-small : (z : ℤ) → above z ≤ natAbs z
 above-small (pos n) = omega arith
 above-small (negsuc n) = omega arith

@@ -14,6 +14,7 @@ use Rattle.search.specs.Questions.{Question, isKept}
 use Rattle.search.specs.Holding.{OnChart}
 
 module _ (k side : ℕ) (p : Place) (w : OnChart k side p) where
+  -- The corner is in range.
   pub corner-in-range : inRange p ≡ true
   corner-in-range =
       let some : 0 < 2 ^ k = pow-pos k in
@@ -27,12 +28,14 @@ module _ (k side : ℕ) (p : Place) (w : OnChart k side p) where
     doubled : 2 ^ k ≡ 2 * 2 ^ (k - 1)
     doubled = ap (λ (x : ℕ). 2 ^ x) k-is ∙ pow-succ' 2 (k - 1)
 
+    -- Half the side is the quarters' side.
     pub half-is : side / 2 ≡ 2 ^ (k - 1)
     half-is = omega (arith, doubled, w .side-is)
 
     some : 0 < 2 ^ (k - 1)
     some = pow-pos (k - 1)
 
+    -- The middle is in range.
     pub middle-in-range : inRange (northEast (side / 2) p) ≡ true
     middle-in-range =
         says-in-range (northEast (side / 2) p)

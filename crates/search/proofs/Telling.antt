@@ -16,7 +16,7 @@ use Rattle.search.proofs.CellLaws.{matching-all}
 use Rattle.search.proofs.Order.{matching-rises}
 use Rattle.search.proofs.Outcomes.{Ending, early, done, full, out}
 
--- A complete walk.
+-- A complete walk: its places, visits and count, and what 8 says of it.
 pub gone-places : (ps : List Place) (v : ℕ) → gone ps v .places ≡ ps
 gone-places [] v = refl
 gone-places (p ∷ ps) v = refl
@@ -43,13 +43,14 @@ gone-small [] v = omega arith
 gone-small (p ∷ ps) v = omega arith
 
 module _ (q : Question) (w : Window) where
-  -- Whatever the end, what is listed is among the matching cells, in chart order.
+  -- Whatever the end, what is listed is among the matching cells.
   pub places-of : (o : Outcome) → Ending q w o → (p : Place) → Listed p (o .places) → Listed p (matchingIn q w)
   places-of _ (early a f v) p m = absurd (List·Memᴰ·not-nil m)
   places-of _ (done most) p m = subst (Listed p) (gone-places (matchingIn q w) (visitsIn q w)) m
   places-of _ (full v most) p m = absurd (List·Memᴰ·not-nil m)
   places-of _ out p m = absurd (List·Memᴰ·not-nil m)
 
+  -- And it stands in chart order.
   pub rises-of : (o : Outcome) → Ending q w o → Rises (chartNumber w) (o .places)
   unfolding Rises
   rises-of _ (early a f v) = tt

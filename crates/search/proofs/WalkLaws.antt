@@ -48,6 +48,7 @@ pub visit-square : (q : Question) (k : ℕ) (p : Place) (s : Standing) → s .st
 unfolding visit
 visit-square q k p s z h = visited-on (q .allowance) _ s z h
 
+-- A cell is missed, finds the list full, or is listed.
 module _ (q : Question) (p : Place) (s : Standing) where
   pub cell-missed : matches q p ≡ false → cell q p s ≡ s
   unfolding cell

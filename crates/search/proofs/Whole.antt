@@ -1,5 +1,4 @@
--- A walk and what is to be found: with room and allowance it lists the matching cells in as many visits as the squares take,
--- and a walk that was not stopped has done so.
+-- A walk and what is to be found: with room and allowance it lists the matching cells, in as many visits as the squares take.
 use Prim.Native.Nat.{ℕ, zero, suc, _+_, _^_, _≤_}
 use mathlib.Core.Path.{_≡_, refl, sym, ap, ap₂, _∙_}
 use mathlib.Core.Bool.{Bool, true, false}
@@ -12,7 +11,7 @@ use Rattle.search.specs.Questions.{Question, matches, isKept}
 use Rattle.search.specs.Walk.{Standing, either, unchanged, visit}
 use Rattle.search.specs.Cells.{cells, ifSo, those, matching, visitsOf}
 use Rattle.search.proofs.WalkLaws.{visit-cell, visit-square, quarters, cell-missed, cell-listed}
-use Rattle.search.proofs.CellLaws.{matching-square}
+use Rattle.search.proofs.CellLaws.{matching-square, matching-counted}
 use Rattle.search.proofs.Dropping.{dropped-none}
 
 -- A walk that goes on.
@@ -32,6 +31,7 @@ pub visits-dropped : (q : Question) (k : ℕ) (p : Place) → isKept q k p ≡ f
 unfolding visitsOf
 visits-dropped q k p e = rw e
 
+-- Every square takes a visit.
 pub one-visit : (q : Question) (k : ℕ) (p : Place) → 1 ≤ visitsOf q k p
 unfolding visitsOf
 one-visit q zero p = omega arith
@@ -42,6 +42,7 @@ pub matching-cell : (q : Question) (p : Place) (b : Bool) → matches q p ≡ b 
 unfolding matching those cells
 matching-cell q p b e = ap (λ (x : Bool). ifSo x p []) e
 
+-- One more visit, after which a cell is missed, a cell is listed, or a square dropped: its share is done.
 pub after-missed : (q : Question) (p : Place) (ps : List Place) (v : ℕ) → matches q p ≡ false → going ps (v + 1) ≡ after q 0 p ps v
 unfolding visitsOf
 after-missed q p ps v e =
@@ -62,6 +63,7 @@ after-dropped q k p ps v e =
 shares : (a b c d e : List Place) → (((a ++ b) ++ c) ++ d) ++ e ≡ a ++ (b ++ (c ++ (d ++ e)))
 shares a b c d e = simp append-assoc
 
+-- So is a square's after its quarters.
 pub after-quarters : (q : Question) (k : ℕ) (p : Place) (ps : List Place) (v : ℕ) → isKept q k p ≡ true → going ((((ps ++ matching q k p) ++ matching q k (east (2 ^ k) p)) ++ matching q k (north (2 ^ k) p)) ++ matching q k (northEast (2 ^ k) p)) (v + 1 + visitsOf q k p + visitsOf q k (east (2 ^ k) p) + visitsOf q k (north (2 ^ k) p) + visitsOf q k (northEast (2 ^ k) p)) ≡ after q (suc k) p ps v
 after-quarters q k p ps v e =
     ap₂ going
@@ -96,8 +98,8 @@ square-whole q k p ih true e ps v a r =
     let ps1 : List Place = ps ++ matching q k p in
     let ps2 : List Place = ps1 ++ matching q k se in
     let ps3 : List Place = ps2 ++ matching q k nw in
-    let n : visitsOf q (suc k) p ≡ 1 + (visitsOf q k p + (visitsOf q k se + (visitsOf q k nw + visitsOf q k ne))) = visits-kept q k p e in
-    let m : length (matching q (suc k) p) ≡ length (matching q k p) + (length (matching q k se) + (length (matching q k nw) + length (matching q k ne))) = ap length (matching-square q k p) ∙ simp length-append in
+    let n = visits-kept q k p e in
+    let m = matching-counted q k p in
     let l1 : length ps1 ≡ length ps + length (matching q k p) = length-append ps (matching q k p) in
     let l2 : length ps2 ≡ length ps1 + length (matching q k se) = length-append ps1 (matching q k se) in
     let l3 : length ps3 ≡ length ps2 + length (matching q k nw) = length-append ps2 (matching q k nw) in
