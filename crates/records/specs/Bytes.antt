@@ -1,0 +1,32 @@
+-- What the definitions of records share: a byte, a number, bytes that must be zero, and a test that refuses.
+use Prim.Native.Nat.{ℕ}
+use mathlib.Core.Bool.{Bool, true, false, _&&_}
+use mathlib.Core.List.{List, [], _∷_}
+use lib.Dec.{eqb}
+use lib.Ieee.{Float}
+use lib.ListN.{getD, take, drop}
+use Rattle.fields.specs.Fields.{fieldAt}
+use Rattle.metres.specs.Patterns.{numberOf}
+
+-- The byte at a place.
+abbrev pub byteAt : List ℕ → ℕ → ℕ
+byteAt s at = getD s at 0
+
+-- The binary64 number in the eight bytes from `at` on.
+abbrev pub numberIn : List ℕ → ℕ → Float
+numberIn s at = numberOf (fieldAt 8 s at)
+
+-- Every byte is zero.
+unfoldable pub allZero : List ℕ → Bool
+allZero [] = true
+allZero (b ∷ bs) = eqb b 0 && allZero bs
+
+-- So many bytes from `at` on are all zero. Bytes are looked at, not numbers: those of minus zero are not all zero.
+abbrev pub areZero : ℕ → List ℕ → ℕ → Bool
+areZero count s at = allZero (take count (drop at s))
+
+-- A test that fails is answered with its refusal; where it passes, the rest answers (01, Numbers of refusal: "the first
+-- failure answers").
+abbrev pub unless : {A : Type 0} → Bool → A → A → A
+unless true refused rest = rest
+unless false refused rest = refused

@@ -1,0 +1,55 @@
+-- The chain table: 1 to 16 chains of 24 bytes, numbered from 1 by place (01, The records).
+use Prim.Native.Nat.{ℕ, _+_, _-_, _*_, _/_, _%_}
+use mathlib.Core.Bool.{Bool, _&&_}
+use mathlib.Core.List.{List}
+use lib.Dec.{leb, eqb}
+use lib.ListN.{length}
+use Rattle.fields.specs.Fields.{fieldAt}
+use Rattle.chart.specs.declared.Place.{Place}
+use Rattle.chart.specs.declared.Chain.{Chain}
+use Rattle.chart.specs.Chains.{isSound}
+use Rattle.records.specs.declared.ChainCount.{ChainCount}
+use Rattle.records.specs.declared.ChainCount.the-variants as count
+use Rattle.records.specs.declared.NamedChain.{NamedChain}
+use Rattle.records.specs.declared.NamedChain.the-variants as named
+use Rattle.records.specs.Bytes.{unless}
+
+-- The bytes of a chain, and how many chains a table may have.
+abbrev pub chainBytes : ℕ
+chainBytes = 24
+
+abbrev pub mostChains : ℕ
+mostChains = 16
+
+-- A number from 1 to another.
+abbrev pub oneTo : ℕ → ℕ → Bool
+oneTo most n = leb 1 n && leb n most
+
+-- How many whole chains there are bytes for.
+abbrev pub chainsIn : List ℕ → ℕ
+chainsIn s = length s / chainBytes
+
+-- No byte is left over, and the chains are 1 to 16.
+abbrev pub isTable : List ℕ → Bool
+isTable s = eqb (length s % chainBytes) 0 && oneTo mostChains (chainsIn s)
+
+-- How many chains a table has, or 1.
+unfoldable pub chainCountOf : List ℕ → ChainCount
+chainCountOf s = unless (isTable s) (count.Refused 1) (count.Chains (chainsIn s))
+
+-- A place in eight bytes: easting, then northing.
+abbrev pub placeAt : List ℕ → ℕ → Place
+placeAt s at = record { easting = fieldAt 4 s at; northing = fieldAt 4 s (at + 4) }
+
+-- The chain in the 24 bytes from `at` on: master, A, B.
+abbrev pub chainAt : List ℕ → ℕ → Chain
+chainAt s at = record { master = placeAt s at; a = placeAt s (at + 8); b = placeAt s (at + 16) }
+
+-- The chain of a number: 1 for no table, then 5 for a number that is not in it or a chain that is not sound. No other chain
+-- of the table is looked at.
+unfoldable pub chainOf : List ℕ → ℕ → NamedChain
+chainOf s number =
+    unless (isTable s) (named.Refused 1)
+    (unless (oneTo (chainsIn s) number) (named.Refused 5)
+    (unless (isSound (chainAt s (chainBytes * (number - 1)))) (named.Refused 5)
+    (named.Chain (chainAt s (chainBytes * (number - 1))))))

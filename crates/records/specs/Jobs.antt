@@ -1,0 +1,36 @@
+-- The job: the window, the tolerance and the allowance of a search, in 32 bytes (01, The records).
+use Prim.Native.Nat.{ℕ}
+use mathlib.Core.Bool.{_&&_}
+use mathlib.Core.List.{List}
+use lib.Dec.{leb, eqb}
+use lib.ListN.{length}
+use Rattle.fields.specs.Fields.{fieldAt}
+use Rattle.search.specs.Windows.{isWindow}
+use Rattle.search.specs.Questions.{mostTolerance}
+use Rattle.records.specs.declared.Job.{Job}
+use Rattle.records.specs.declared.JobAnswer.{JobAnswer}
+use Rattle.records.specs.declared.JobAnswer.the-variants as answer
+use Rattle.records.specs.Bytes.{byteAt, areZero, unless}
+use Rattle.records.specs.ChainTables.{placeAt}
+
+-- The bytes of a job.
+abbrev pub jobBytes : ℕ
+jobBytes = 32
+
+-- What stands where in them, whatever it is.
+abbrev pub jobIn : List ℕ → Job
+jobIn s =
+    record {
+      window = record { corner = placeAt s 0; k = byteAt s 8 };
+      tolerance = fieldAt 4 s 12;
+      allowance = fieldAt 8 s 16;
+    }
+
+-- A job: 1, then 2 for a byte that must be zero and is not, 6 for the window, 7 for the tolerance.
+unfoldable pub jobOf : List ℕ → JobAnswer
+jobOf s =
+    unless (eqb (length s) jobBytes) (answer.Refused 1)
+    (unless (areZero 3 s 9 && areZero 8 s 24) (answer.Refused 2)
+    (unless (isWindow (jobIn s .window)) (answer.Refused 6)
+    (unless (leb (jobIn s .tolerance) mostTolerance) (answer.Refused 7)
+    (answer.Job (jobIn s)))))

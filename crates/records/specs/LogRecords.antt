@@ -1,0 +1,88 @@
+-- A log record: what its 32 bytes hold, what kind it is, and what it gives in whole centimetres (01, The records).
+use Prim.Native.Nat.{ℕ}
+use mathlib.Core.Bool.{Bool, false, cond, _&&_}
+use mathlib.Core.List.{List}
+use lib.Dec.{eqb}
+use lib.IntN.{ℤ, pos, negsuc, natAbs}
+use lib.ListN.{length}
+use Rattle.fields.specs.Fields.{fieldAt}
+use Rattle.metres.specs.declared.Whole.{Whole}
+use Rattle.metres.specs.declared.Whole.the-variants as whole
+use Rattle.metres.specs.Metres.{centimetresOf}
+use Rattle.chart.specs.Places.{inRange}
+use Rattle.records.specs.declared.RawRecord.{RawRecord}
+use Rattle.records.specs.declared.RawAnswer.{RawAnswer}
+use Rattle.records.specs.declared.RawAnswer.the-variants as raw
+use Rattle.records.specs.declared.LogRecord.{LogRecord}
+use Rattle.records.specs.declared.LogRecord.the-variants as log
+use Rattle.records.specs.declared.LogEntry.{LogEntry}
+use Rattle.records.specs.declared.LogEntry.the-variants as entry
+use Rattle.records.specs.Bytes.{byteAt, numberIn, areZero, unless}
+
+-- The bytes of a log record.
+abbrev pub logBytes : ℕ
+logBytes = 32
+
+-- What stands where in them, whatever it is.
+abbrev pub rawIn : List ℕ → RawRecord
+rawIn s =
+    record {
+      kind = byteAt s 0;
+      chain = byteAt s 1;
+      byte_2 = byteAt s 2;
+      byte_3 = byteAt s 3;
+      line = fieldAt 4 s 4;
+      first = numberIn s 8;
+      second = numberIn s 16;
+      third = numberIn s 24;
+    }
+
+-- The same, or 1 where there are not as many bytes.
+unfoldable pub rawRecordOf : List ℕ → RawAnswer
+rawRecordOf s = unless (eqb (length s) logBytes) (raw.Refused 1) (raw.Record (rawIn s))
+
+-- The kinds, each with the bytes that it does not use. Byte 1 of a hyperbolic record is its chain; a hold uses no number.
+abbrev pub isHyperbolic : List ℕ → Bool
+isHyperbolic s = eqb (byteAt s 0) 1 && (areZero 2 s 2 && areZero 8 s 24)
+
+abbrev pub isGrid : List ℕ → Bool
+isGrid s = eqb (byteAt s 0) 2 && (areZero 3 s 1 && areZero 8 s 24)
+
+abbrev pub isHold : List ℕ → Bool
+isHold s = eqb (byteAt s 0) 3 && (areZero 3 s 1 && areZero 24 s 8)
+
+-- A log record by its kind, its numbers in metres: 1, then 2 for any other kind or a byte that must be zero and is not.
+unfoldable pub logRecordOf : List ℕ → LogRecord
+logRecordOf s =
+    unless (eqb (length s) logBytes) (log.Refused 1)
+    (cond (isHyperbolic s) (log.Hyperbolic (numberIn s 8) (numberIn s 16))
+    (cond (isGrid s) (log.Grid (numberIn s 8) (numberIn s 16))
+    (cond (isHold s) log.Hold
+    (log.Refused 2))))
+
+-- Two whole numbers are easting and northing of a place in range.
+unfoldable pub isPlace : ℤ → ℤ → Bool
+isPlace (pos e) (pos n) = inRange (record { easting = e; northing = n })
+isPlace (pos e) (negsuc n) = false
+isPlace (negsuc e) n = false
+
+-- The place of a grid record: 4 where it is out of range, as it is after rounding.
+unfoldable pub placed : ℤ → ℤ → LogEntry
+placed e n = unless (isPlace e n) (entry.Refused 4) (entry.Place (record { easting = natAbs e; northing = natAbs n }))
+
+-- What two numbers give: 3 where one of them cannot be used.
+abbrev pub withBoth : (ℤ → ℤ → LogEntry) → Whole → Whole → LogEntry
+withBoth give (whole.Centimetres x) (whole.Centimetres y) = give x y
+withBoth give (whole.Centimetres x) whole.Refused = entry.Refused 3
+withBoth give whole.Refused second = entry.Refused 3
+
+-- A log record in whole centimetres. Both numbers are tested for 3 before the place is for 4.
+unfoldable pub inCentimetres : LogRecord → LogEntry
+inCentimetres (log.Hyperbolic a b) = withBoth entry.Readings (centimetresOf a) (centimetresOf b)
+inCentimetres (log.Grid e n) = withBoth placed (centimetresOf e) (centimetresOf n)
+inCentimetres log.Hold = entry.Hold
+inCentimetres (log.Refused number) = entry.Refused number
+
+-- From bytes to centimetres: 1, 2, 3, 4 in this order. Whether its chain is in a table is not asked here.
+unfoldable pub logEntryOf : List ℕ → LogEntry
+logEntryOf s = inCentimetres (logRecordOf s)

@@ -1,0 +1,573 @@
+// Log records, chain tables and jobs read from bytes of any content, and log records written.
+ghost use mathlib.Core.Path.{_≡_};
+ghost use mathlib.Core.Bool.{_&&_};
+ghost use mathlib.Core.List.{List};
+ghost use Prim.Native.Nat.{ℕ, _+_, _-_, _*_, _≤_, _<_};
+ghost use lib.ListN.{length, replicate};
+ghost use Rattle.fields.specs.Fields.{fieldAt};
+ghost use Rattle.metres.specs.Metres.{centimetresOf, mostCentimetres};
+ghost use Rattle.records.specs.declared.LogEntry.the-variants as entry;
+ghost use Rattle.records.specs.Bytes.{byteAt, numberIn, areZero};
+ghost use Rattle.records.specs.LogRecords.{logBytes, rawRecordOf, isHyperbolic, isGrid, isHold, logRecordOf, isPlace, placed, logEntryOf};
+ghost use Rattle.records.specs.ChainTables.{chainBytes, isTable, oneTo, chainCountOf, placeAt, chainAt, chainOf};
+ghost use Rattle.records.specs.Jobs.{jobOf};
+ghost use Rattle.records.specs.Writing.{numbersFit, placeFits, chainFits, refusalOf, usedOf, inMetres, recordBytes, bufferOf};
+ghost use Rattle.records.specs.Gathered.{IsRaw, pairOf, given};
+use chart::Chain;
+use chart::Place;
+use fields::Eight;
+use fields::Four;
+use metres::Whole;
+use search::Window;
+
+// A log record as it stands in its bytes, whatever they say. Bytes 2 and 3 should be zero.
+pub struct RawRecord {
+    pub kind: u8,
+    pub chain: u8,
+    pub byte_2: u8,
+    pub byte_3: u8,
+    pub line: u32,
+    pub first: f64,
+    pub second: f64,
+    pub third: f64,
+}
+
+// What is refused here and below is told by the number of the refusal in 01's table.
+pub enum RawAnswer {
+    Record(RawRecord),
+    Refused(u32),
+}
+
+// A log record by its kind, with the numbers that the kind uses, in metres. Line number and chain stand in the raw record.
+pub enum LogRecord {
+    Hyperbolic { a: f64, b: f64 },
+    Grid { easting: f64, northing: f64 },
+    Hold,
+    Refused(u32),
+}
+
+// The same in whole centimetres.
+pub enum LogEntry {
+    Readings { a: i64, b: i64 },
+    Place(Place),
+    Hold,
+    Refused(u32),
+}
+
+// How many chains a table has.
+pub enum ChainCount {
+    Chains(usize),
+    Refused(u32),
+}
+
+// The chain of a number.
+pub enum NamedChain {
+    Chain(Chain),
+    Refused(u32),
+}
+
+// Where to search, and how.
+pub struct Job {
+    pub window: Window,
+    pub tolerance: u32,
+    pub allowance: u64,
+}
+
+pub enum JobAnswer {
+    Job(Job),
+    Refused(u32),
+}
+
+// What a log record is to say. x and y are readings A and B, or easting and northing, in centimetres.
+pub struct Draft {
+    pub kind: u32,
+    pub chain: u32,
+    pub line: u32,
+    pub x: i64,
+    pub y: i64,
+}
+
+// Two numbers in whole centimetres, or that one of them cannot be used.
+enum Pair {
+    Both { x: i64, y: i64 },
+    Unusable,
+}
+
+const LOG_BYTES: usize = 32;
+
+const CHAIN_BYTES: usize = 24;
+
+const JOB_BYTES: usize = 32;
+
+const MOST_CHAINS: usize = 16;
+
+const MOST_TOLERANCE: u32 = 100_000;
+
+const MOST_CENTIMETRES: u64 = 1_000_000_000;
+
+// The raw log record in 32 bytes.
+pub fn raw_record(s: &[u8]) -> RawAnswer
+    ensures { λ r. ⌜ r ≡ rawRecordOf (now (s .entry)) ⌝ }
+{
+    if s.len() != LOG_BYTES {
+        return RawAnswer::Refused(1);
+    }
+    RawAnswer::Record(gathered(s))
+}
+
+// The log record in 32 bytes, by its kind.
+pub fn log_record(s: &[u8]) -> LogRecord
+    ensures { λ r. ⌜ r ≡ logRecordOf (now (s .entry)) ⌝ }
+{
+    if s.len() != LOG_BYTES {
+        return LogRecord::Refused(1);
+    }
+    by_kind(gathered(s))
+}
+
+// The log record in 32 bytes, in whole centimetres.
+pub fn log_entry(s: &[u8]) -> LogEntry
+    ensures { λ r. ⌜ r ≡ logEntryOf (now (s .entry)) ⌝ }
+{
+    match log_record(s) {
+        LogRecord::Hyperbolic { a, b } => readings(both(a, b)),
+        LogRecord::Grid { easting, northing } => place(both(easting, northing)),
+        LogRecord::Hold => LogEntry::Hold,
+        LogRecord::Refused(number) => LogEntry::Refused(number),
+    }
+}
+
+// How many chains there are in the bytes of a table.
+pub fn chain_count(s: &[u8]) -> ChainCount
+    ensures { λ r. ⌜ r ≡ chainCountOf (now (s .entry)) ⌝ }
+{
+    if !is_table(s) {
+        return ChainCount::Refused(1);
+    }
+    ChainCount::Chains(s.len() / CHAIN_BYTES)
+}
+
+// The chain of a number in the bytes of a table, if it is sound.
+pub fn chain_of(s: &[u8], number: u32) -> NamedChain
+    ensures { λ r. ⌜ r ≡ chainOf (now (s .entry)) number ⌝ }
+{
+    if !is_table(s) {
+        return NamedChain::Refused(1);
+    }
+    if !one_to(s.len() / CHAIN_BYTES, number) {
+        return NamedChain::Refused(5); // not in the table
+    }
+    let chain = chain_at(s, CHAIN_BYTES * (number as usize - 1));
+    if !chart::sound(chain) {
+        return NamedChain::Refused(5); // not sound
+    }
+    NamedChain::Chain(chain)
+}
+
+// The job in 32 bytes.
+pub fn job_of(s: &[u8]) -> JobAnswer
+    ensures { λ r. ⌜ r ≡ jobOf (now (s .entry)) ⌝ }
+{
+    if s.len() != JOB_BYTES {
+        return JobAnswer::Refused(1);
+    }
+    if !job_zeros(s) {
+        return JobAnswer::Refused(2);
+    }
+    let window = Window {
+        corner: place_at(s, 0),
+        k: byte(s, 8),
+    };
+    if !search::is_window(window) {
+        return JobAnswer::Refused(6);
+    }
+    let tolerance = four(s, 12);
+    if tolerance > MOST_TOLERANCE {
+        return JobAnswer::Refused(7);
+    }
+    let allowance = eight(s, 16);
+    JobAnswer::Job(Job {
+        window,
+        tolerance,
+        allowance,
+    })
+}
+
+// Writes a draft into a buffer of 32 bytes. Answers with the number of the refusal, 0 for none; a refused write leaves the
+// whole buffer zero, whatever its length.
+pub fn write(buffer: &mut [u8], d: Draft) -> u32
+    ensures answer { λ r. ⌜ r ≡ refusalOf (length (now (buffer .entry))) d ⌝ }
+    ensures buffer { λ r. ⌜ now (buffer .exit) ≡ bufferOf (length (now (buffer .entry))) d ⌝ }
+{
+    let refusal = refusal_of(buffer.len(), d);
+    clear(buffer);
+    if refusal != 0 {
+        return refusal;
+    }
+    put(buffer, used(d));
+    0
+}
+
+fn gathered(s: &[u8]) -> RawRecord
+    requires { ⌜ length (now s) ≡ logBytes ⌝ }
+    ensures { λ r. ⌜ IsRaw (now (s .entry)) r ⌝ }
+{
+    let line = four(s, 4);
+    let first = number(s, 8);
+    let second = number(s, 16);
+    let third = number(s, 24);
+    RawRecord {
+        kind: s[0],
+        chain: s[1],
+        byte_2: s[2],
+        byte_3: s[3],
+        line,
+        first,
+        second,
+        third,
+    }
+}
+
+fn by_kind(r: RawRecord) -> LogRecord
+    ensures { λ answer. ⌜ ((s : List ℕ) → IsRaw s r → answer ≡ logRecordOf s) ⌝ }
+{
+    if is_hyperbolic(r) {
+        return LogRecord::Hyperbolic {
+            a: r.first,
+            b: r.second,
+        };
+    }
+    if is_grid(r) {
+        return LogRecord::Grid {
+            easting: r.first,
+            northing: r.second,
+        };
+    }
+    if is_hold(r) {
+        return LogRecord::Hold;
+    }
+    LogRecord::Refused(2)
+}
+
+fn is_hyperbolic(r: RawRecord) -> bool
+    ensures { λ answer. ⌜ ((s : List ℕ) → IsRaw s r → answer ≡ isHyperbolic s) ⌝ }
+{
+    if r.kind != 1 {
+        return false;
+    }
+    last_zero(r)
+}
+
+fn is_grid(r: RawRecord) -> bool
+    ensures { λ answer. ⌜ ((s : List ℕ) → IsRaw s r → answer ≡ isGrid s) ⌝ }
+{
+    if r.kind != 2 {
+        return false;
+    }
+    if r.chain != 0 {
+        return false;
+    }
+    last_zero(r)
+}
+
+fn is_hold(r: RawRecord) -> bool
+    ensures { λ answer. ⌜ ((s : List ℕ) → IsRaw s r → answer ≡ isHold s) ⌝ }
+{
+    if r.kind != 3 {
+        return false;
+    }
+    if r.chain != 0 {
+        return false;
+    }
+    if !metres::is_plus_zero(r.first) {
+        return false;
+    }
+    if !metres::is_plus_zero(r.second) {
+        return false;
+    }
+    last_zero(r)
+}
+
+// The bytes that no kind uses: bytes 2 and 3, and the third number's.
+fn last_zero(r: RawRecord) -> bool
+    ensures { λ answer. ⌜ ((s : List ℕ) → IsRaw s r → answer ≡ (areZero 2 s 2 && areZero 8 s 24)) ⌝ }
+{
+    if r.byte_2 != 0 {
+        return false;
+    }
+    if r.byte_3 != 0 {
+        return false;
+    }
+    metres::is_plus_zero(r.third)
+}
+
+// Two numbers of metres in centimetres.
+fn both(x: f64, y: f64) -> Pair
+    ensures { λ r. ⌜ r ≡ pairOf (centimetresOf x) (centimetresOf y) ⌝ }
+{
+    let first = metres::centimetres(x);
+    let second = metres::centimetres(y);
+    let Whole::Centimetres(x) = first else {
+        return Pair::Unusable;
+    };
+    let Whole::Centimetres(y) = second else {
+        return Pair::Unusable;
+    };
+    Pair::Both { x, y }
+}
+
+fn readings(p: Pair) -> LogEntry
+    ensures { λ r. ⌜ r ≡ given entry.Readings p ⌝ }
+{
+    match p {
+        Pair::Both { x, y } => LogEntry::Readings { a: x, b: y },
+        Pair::Unusable => LogEntry::Refused(3),
+    }
+}
+
+fn place(p: Pair) -> LogEntry
+    ensures { λ r. ⌜ r ≡ given placed p ⌝ }
+{
+    match p {
+        Pair::Both { x, y } => grid_place(x, y),
+        Pair::Unusable => LogEntry::Refused(3),
+    }
+}
+
+fn grid_place(x: i64, y: i64) -> LogEntry
+    ensures { λ r. ⌜ r ≡ placed x y ⌝ }
+{
+    if !is_place(x, y) {
+        return LogEntry::Refused(4);
+    }
+    LogEntry::Place(Place {
+        easting: metres::size(x) as u32,
+        northing: metres::size(y) as u32,
+    })
+}
+
+// Whether two numbers are easting and northing of a place in range. They may be too large for a place's numbers.
+fn is_place(x: i64, y: i64) -> bool
+    ensures { λ r. ⌜ r ≡ isPlace x y ⌝ }
+{
+    if x < 0 {
+        return false;
+    }
+    if y < 0 {
+        return false;
+    }
+    let e = metres::size(x);
+    let n = metres::size(y);
+    if e > u32::MAX as u64 {
+        return false;
+    }
+    if n > u32::MAX as u64 {
+        return false;
+    }
+    chart::in_range(Place {
+        easting: e as u32,
+        northing: n as u32,
+    })
+}
+
+// Whether so many bytes are 1 to 16 whole chains.
+fn is_table(s: &[u8]) -> bool
+    ensures { λ r. ⌜ r ≡ isTable (now (s .entry)) ⌝ }
+{
+    if s.len() % CHAIN_BYTES != 0 {
+        return false;
+    }
+    if s.len() == 0 {
+        return false;
+    }
+    s.len() / CHAIN_BYTES <= MOST_CHAINS
+}
+
+fn one_to(most: usize, n: u32) -> bool
+    ensures { λ r. ⌜ r ≡ oneTo most n ⌝ }
+{
+    if n == 0 {
+        return false;
+    }
+    n as usize <= most
+}
+
+fn chain_at(s: &[u8], at: usize) -> Chain
+    requires { ⌜ at + chainBytes ≤ length (now s) ⌝ }
+    ensures { λ r. ⌜ r ≡ chainAt (now (s .entry)) at ⌝ }
+{
+    Chain {
+        master: place_at(s, at),
+        a: place_at(s, at + 8),
+        b: place_at(s, at + 16),
+    }
+}
+
+fn place_at(s: &[u8], at: usize) -> Place
+    requires { ⌜ at + 8 ≤ length (now s) ⌝ }
+    ensures { λ r. ⌜ r ≡ placeAt (now (s .entry)) at ⌝ }
+{
+    Place {
+        easting: four(s, at),
+        northing: four(s, at + 4),
+    }
+}
+
+// The bytes of a job that must be zero.
+fn job_zeros(s: &[u8]) -> bool
+    requires { ⌜ length (now s) ≡ 32 ⌝ }
+    ensures { λ r. ⌜ r ≡ (areZero 3 (now (s .entry)) 9 && areZero 8 (now (s .entry)) 24) ⌝ }
+{
+    if s[9] != 0 {
+        return false;
+    }
+    if s[10] != 0 {
+        return false;
+    }
+    if s[11] != 0 {
+        return false;
+    }
+    eight(s, 24) == 0
+}
+
+fn byte(s: &[u8], at: usize) -> u32
+    requires { ⌜ at + 1 ≤ length (now s) ⌝ }
+    ensures { λ r. ⌜ r ≡ byteAt (now (s .entry)) at ⌝ }
+{
+    s[at] as u32
+}
+
+fn four(s: &[u8], at: usize) -> u32
+    requires { ⌜ at + 4 ≤ length (now s) ⌝ }
+    ensures { λ r. ⌜ r ≡ fieldAt 4 (now (s .entry)) at ⌝ }
+{
+    match fields::four_at(s, at) {
+        Four::Value(n) => n,
+        Four::Outside => 0,
+    }
+}
+
+fn eight(s: &[u8], at: usize) -> u64
+    requires { ⌜ at + 8 ≤ length (now s) ⌝ }
+    ensures { λ r. ⌜ r ≡ fieldAt 8 (now (s .entry)) at ⌝ }
+{
+    match fields::eight_at(s, at) {
+        Eight::Value(n) => n,
+        Eight::Outside => 0,
+    }
+}
+
+fn number(s: &[u8], at: usize) -> f64
+    requires { ⌜ at + 8 ≤ length (now s) ⌝ }
+    ensures { λ r. ⌜ r ≡ numberIn (now (s .entry)) at ⌝ }
+{
+    metres::number_of(eight(s, at))
+}
+
+// Why a draft is not written into a buffer of so many bytes, or 0.
+fn refusal_of(bytes: usize, d: Draft) -> u32
+    ensures { λ r. ⌜ r ≡ refusalOf bytes d ⌝ }
+{
+    if bytes != LOG_BYTES {
+        return 1;
+    }
+    if !one_to(3, d.kind) {
+        return 2;
+    }
+    if !numbers_fit(d) {
+        return 3;
+    }
+    if !place_fits(d) {
+        return 4;
+    }
+    if !chain_fits(d) {
+        return 5;
+    }
+    0
+}
+
+fn numbers_fit(d: Draft) -> bool
+    ensures { λ r. ⌜ r ≡ numbersFit d ⌝ }
+{
+    if d.kind == 3 {
+        return true;
+    }
+    if metres::size(d.x) > MOST_CENTIMETRES {
+        return false;
+    }
+    metres::size(d.y) <= MOST_CENTIMETRES
+}
+
+fn place_fits(d: Draft) -> bool
+    ensures { λ r. ⌜ r ≡ placeFits d ⌝ }
+{
+    if d.kind != 2 {
+        return true;
+    }
+    is_place(d.x, d.y)
+}
+
+fn chain_fits(d: Draft) -> bool
+    ensures { λ r. ⌜ r ≡ chainFits d ⌝ }
+{
+    if d.kind != 1 {
+        return true;
+    }
+    one_to(MOST_CHAINS, d.chain)
+}
+
+// A draft with 0 for what its kind does not use.
+fn used(d: Draft) -> Draft
+    ensures { λ r. ⌜ r ≡ usedOf d ⌝ }
+{
+    let kind = d.kind;
+    let line = d.line;
+    if kind == 1 {
+        return d;
+    }
+    if kind == 3 {
+        return Draft {
+            kind,
+            chain: 0,
+            line,
+            x: 0,
+            y: 0,
+        };
+    }
+    Draft {
+        kind,
+        chain: 0,
+        line,
+        x: d.x,
+        y: d.y,
+    }
+}
+
+fn clear(buffer: &mut [u8])
+    ensures { λ _. ⌜ now (buffer .exit) ≡ replicate (length (now (buffer .entry))) 0 ⌝ }
+{
+    let mut i = 0;
+    while i < buffer.len() {
+        buffer[i] = 0;
+        i += 1;
+    }
+}
+
+// The bytes of a record in a buffer that is clear.
+fn put(buffer: &mut [u8], d: Draft)
+    requires { ⌜ (now buffer ≡ replicate 32 0) × (d .kind < 256) × (d .chain < 256) ⌝ }
+    ensures { λ _. ⌜ now (buffer .exit) ≡ recordBytes d ⌝ }
+{
+    buffer[0] = d.kind as u8;
+    buffer[1] = d.chain as u8;
+    fields::put_four(buffer, 4, d.line);
+    metres::put_number(buffer, 8, in_metres(d.x));
+    metres::put_number(buffer, 16, in_metres(d.y));
+}
+
+fn in_metres(c: i64) -> f64
+    ensures { λ r. ⌜ r ≡ inMetres c ⌝ }
+{
+    let f = metres::length_figures(metres::metres(c));
+    f.metres
+}
