@@ -558,11 +558,13 @@ fn put(buffer: &mut [u8], d: Draft)
     requires { ⌜ (now buffer ≡ replicate 32 0) × (d .kind < 256) × (d .chain < 256) ⌝ }
     ensures { λ _. ⌜ now (buffer .exit) ≡ recordBytes d ⌝ }
 {
+    let x = in_metres(d.x);
+    let y = in_metres(d.y);
     buffer[0] = d.kind as u8;
     buffer[1] = d.chain as u8;
     fields::put_four(buffer, 4, d.line);
-    metres::put_number(buffer, 8, in_metres(d.x));
-    metres::put_number(buffer, 16, in_metres(d.y));
+    metres::put_number(buffer, 8, x);
+    metres::put_number(buffer, 16, y);
 }
 
 fn in_metres(c: i64) -> f64

@@ -14,7 +14,7 @@ pub mod Outcomes
 mod Telling
 pub mod Theorems
 mod Agreeing
-mod Clearing
+pub mod Clearing
 mod Signs
 mod HoldLaws
 mod SquareLaws

@@ -1,0 +1,69 @@
+-- The tests of a job, one after the other, and what each comes to.
+use Prim.Native.Nat.{ℕ, _≤_, _<_}
+use mathlib.Core.Path.{_≡_, ap, _∙_, subst⁻¹}
+use mathlib.Core.Bool.{Bool, true, false, _&&_}
+use mathlib.Core.List.{List}
+use native.Mathlib.Omega.{arith}
+use lib.Dec.{eqb}
+use lib.ListN.{length}
+use borrow.Author.Tests.{eq-eqb, ne-eqb, le-leb, lt-leb}
+use Rattle.fields.specs.Fields.{fieldAt}
+use Rattle.chart.specs.declared.Place.{Place}
+use Rattle.search.specs.Windows.{isWindow}
+use Rattle.search.specs.Questions.{mostTolerance}
+use Rattle.records.specs.declared.Job.{Job}
+use Rattle.records.specs.declared.JobAnswer.the-variants as answer
+use Rattle.records.specs.Bytes.{byteAt, areZero}
+use Rattle.records.specs.ChainTables.{placeAt}
+use Rattle.records.specs.Jobs.{jobBytes, jobIn, jobOf}
+use Rattle.records.proofs.ByteLaws.{zero-byte, zero-one}
+
+-- The bytes of a job that must be zero.
+abbrev pub zerosKept : List ℕ → Bool
+zerosKept s = areZero 3 s 9 && areZero 8 s 24
+
+-- The three behind k, byte by byte.
+three-by-one : (s : List ℕ) → length s ≡ jobBytes → areZero 3 s 9 ≡ (eqb (byteAt s 9) 0 && (eqb (byteAt s 10) 0 && eqb (byteAt s 11) 0))
+three-by-one s h =
+    let inside : (at : ℕ) → at < jobBytes → at < length s = λ at small. subst⁻¹ (λ (n : ℕ). at < n) h small in
+    zero-byte 2 s 9 (inside 9 (omega arith))
+    ∙ ap (λ (t : Bool). eqb (byteAt s 9) 0 && t)
+    (zero-byte 1 s 10 (inside 10 (omega arith)) ∙ ap (λ (t : Bool). eqb (byteAt s 10) 0 && t) (zero-one s 11 (inside 11 (omega arith))))
+
+pub zeros-9 : (s : List ℕ) → length s ≡ jobBytes → (byteAt s 9 ≡ 0 → ⊥) → zerosKept s ≡ false
+zeros-9 s h n = rw (three-by-one s h, ne-eqb (byteAt s 9) 0 n)
+
+pub zeros-10 : (s : List ℕ) → length s ≡ jobBytes → byteAt s 9 ≡ 0 → (byteAt s 10 ≡ 0 → ⊥) → zerosKept s ≡ false
+zeros-10 s h a n = rw (three-by-one s h, eq-eqb (byteAt s 9) 0 a, ne-eqb (byteAt s 10) 0 n)
+
+pub zeros-11 : (s : List ℕ) → length s ≡ jobBytes → byteAt s 9 ≡ 0 → byteAt s 10 ≡ 0 → (byteAt s 11 ≡ 0 → ⊥) → zerosKept s ≡ false
+zeros-11 s h a b n = rw (three-by-one s h, eq-eqb (byteAt s 9) 0 a, eq-eqb (byteAt s 10) 0 b, ne-eqb (byteAt s 11) 0 n)
+
+pub zeros-last : (s : List ℕ) → length s ≡ jobBytes → byteAt s 9 ≡ 0 → byteAt s 10 ≡ 0 → byteAt s 11 ≡ 0 → zerosKept s ≡ areZero 8 s 24
+zeros-last s h a b c = rw (three-by-one s h, eq-eqb (byteAt s 9) 0 a, eq-eqb (byteAt s 10) 0 b, eq-eqb (byteAt s 11) 0 c)
+
+-- A job made of the fields is the job of the bytes.
+pub job-same : (s : List ℕ) {corner : Place} {k tolerance allowance : ℕ} → corner ≡ placeAt s 0 → k ≡ byteAt s 8 → tolerance ≡ fieldAt 4 s 12 → allowance ≡ fieldAt 8 s 16 → _≡_ {A = Job} (record { window = record { corner = corner; k = k }; tolerance = tolerance; allowance = allowance }) (jobIn s)
+job-same s p k t a = rw (p, k, t, a)
+
+-- What a job answers.
+pub job-1 : (s : List ℕ) → (length s ≡ jobBytes → ⊥) → jobOf s ≡ answer.Refused 1
+unfolding jobOf
+job-1 s h = rw (ne-eqb (length s) jobBytes h)
+
+module _ (s : List ℕ) (whole : length s ≡ jobBytes) where
+  pub job-2 : zerosKept s ≡ false → jobOf s ≡ answer.Refused 2
+  unfolding jobOf
+  job-2 z = rw (eq-eqb (length s) jobBytes whole, z)
+
+  pub job-6 : zerosKept s ≡ true → isWindow (jobIn s .window) ≡ false → jobOf s ≡ answer.Refused 6
+  unfolding jobOf
+  job-6 z w = rw (eq-eqb (length s) jobBytes whole, z, w)
+
+  pub job-7 : zerosKept s ≡ true → isWindow (jobIn s .window) ≡ true → mostTolerance < jobIn s .tolerance → jobOf s ≡ answer.Refused 7
+  unfolding jobOf
+  job-7 z w t = rw (eq-eqb (length s) jobBytes whole, z, w, lt-leb (jobIn s .tolerance) mostTolerance t)
+
+  pub job-told : zerosKept s ≡ true → isWindow (jobIn s .window) ≡ true → jobIn s .tolerance ≤ mostTolerance → jobOf s ≡ answer.Job (jobIn s)
+  unfolding jobOf
+  job-told z w t = rw (eq-eqb (length s) jobBytes whole, z, w, le-leb (jobIn s .tolerance) mostTolerance t)
