@@ -1,4 +1,5 @@
 -- What follows from the definitions of the records.
+pub mod Theorems
 mod ByteLaws
 mod ReadLaws
 mod LogLaws
@@ -6,3 +7,7 @@ mod GridLaws
 mod TableLaws
 mod JobLaws
 mod WriteLaws
+mod ReadBack
+mod RefusalLaws
+mod LineLaws
+mod Worked

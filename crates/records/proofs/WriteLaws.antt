@@ -1,19 +1,21 @@
 -- The tests of the writer, one after the other, what each comes to, and the bytes that it puts.
 use Prim.Native.Nat.{ℕ, _≤_, _<_}
 use mathlib.Core.Path.{_≡_, refl}
-use mathlib.Core.Bool.{true, false}
+use mathlib.Core.Bool.{Bool, true, false, not, cond, _||_}
 use native.Mathlib.Omega.{arith}
-use lib.Dec.{leb}
+use lib.Dec.{leb, eqb}
 use lib.IntN.{pos, natAbs}
-use lib.ListN.{set, replicate}
-use borrow.Author.Tests.{eq-eqb, ne-eqb, le-leb, lt-leb}
+use lib.ListN.{length, set, replicate}
+use borrow.Author.Tests.{eqb-true, eq-eqb, ne-eqb, le-leb, lt-leb}
 use Rattle.fields.specs.Fields.{bytesOf, putAt}
 use Rattle.metres.specs.Metres.{mostCentimetres}
 use Rattle.metres.specs.Patterns.{putNumberAt}
 use Rattle.records.specs.declared.Draft.{Draft}
+use Rattle.records.specs.Bytes.{unless}
 use Rattle.records.specs.LogRecords.{logBytes, isPlace}
 use Rattle.records.specs.ChainTables.{mostChains, oneTo}
-use Rattle.records.specs.Writing.{isKind, numbersFit, placeFits, chainFits, refusalOf, usedOf, inMetres, recordBytes}
+use Rattle.records.specs.Writing.{isKind, numbersFit, placeFits, chainFits, refusalOf, usedOf, inMetres, recordBytes, bufferOf}
+use Rattle.records.proofs.TableLaws.{one-to-says}
 
 -- The numbers, of every kind but a hold.
 pub hold-fits : (d : Draft) → d .kind ≡ 3 → numbersFit d ≡ true
@@ -82,3 +84,45 @@ used-grid d n m = rw (ne-eqb (d .kind) 1 n, ne-eqb (d .kind) 3 m)
 pub put-together : (d : Draft) → putNumberAt (putNumberAt (putAt 4 (set (set (replicate 32 0) 0 (d .kind)) 1 (d .chain)) 4 (d .line)) 8 (inMetres (d .x))) 16 (inMetres (d .y)) ≡ recordBytes d
 unfolding putAt bytesOf recordBytes
 put-together d = refl
+
+-- A record has 32 bytes.
+pub record-length : (d : Draft) → length (recordBytes d) ≡ logBytes
+unfolding recordBytes bytesOf
+record-length d = refl
+
+-- What a buffer holds after a write that was not refused, and after one that was.
+pub buffer-written : (bytes : ℕ) (d : Draft) → refusalOf bytes d ≡ 0 → bufferOf bytes d ≡ recordBytes (usedOf d)
+unfolding bufferOf
+buffer-written bytes d e = rw e
+
+pub buffer-zero : (bytes : ℕ) (d : Draft) → (refusalOf bytes d ≡ 0 → ⊥) → bufferOf bytes d ≡ replicate bytes 0
+unfolding bufferOf
+buffer-zero bytes d n = rw (ne-eqb (refusalOf bytes d) 0 n)
+
+-- Where nothing was refused, a test has passed and the rest has not refused either.
+pub passed : (t : Bool) (number rest : ℕ) → 0 < number → unless t number rest ≡ 0 → (t ≡ true) × (rest ≡ 0)
+passed true number rest h e = (refl, e)
+passed false number rest h e = absurd (omega arith)
+
+-- No kind is above 3.
+pub known-kind : (kind : ℕ) → isKind kind ≡ true → kind ≤ 3
+known-kind kind e = one-to-says 3 kind e .1
+
+-- Only a buffer of 32 bytes is written.
+pub written-bytes : (bytes : ℕ) (d : Draft) → refusalOf bytes d ≡ 0 → bytes ≡ logBytes
+unfolding refusalOf
+written-bytes bytes d e = eqb-true bytes logBytes (passed _ 1 _ (omega arith) e .0)
+
+-- Kind and chain of what is written each fit a byte.
+pub used-small : (bytes : ℕ) (d : Draft) → refusalOf bytes d ≡ 0 → (usedOf d .kind < 256) × (usedOf d .chain < 256)
+unfolding refusalOf usedOf
+used-small bytes d e =
+    let kind = passed (isKind (d .kind)) 2 _ (omega arith) (passed (eqb bytes logBytes) 1 _ (omega arith) e .1) in
+    let numbers = passed (numbersFit d) 3 _ (omega arith) (kind .1) in
+    let place = passed (placeFits d) 4 _ (omega arith) (numbers .1) in
+    let chain = passed (chainFits d) 5 0 (omega arith) (place .1) in
+    (omega (arith, known-kind (d .kind) (kind .0)), small (eqb (d .kind) 1) (d .chain) (chain .0))
+  where
+    small : (t : Bool) (n : ℕ) → (not t || oneTo mostChains n) ≡ true → cond t n 0 < 256
+    small true n h = omega (arith, one-to-says mostChains n h .1)
+    small false n h = omega arith

@@ -1,12 +1,13 @@
+-- `records::write` meets its contract: the buffer is cleared, and a draft that is not refused is put.
+use Prim.Native.Nat.{ℕ, _<_}
+use mathlib.Core.Path.{_≡_, sym, ap, _∙_, subst⁻¹}
+use lib.ListN.{length, replicate}
+use Rattle.records.specs.declared.Draft.{Draft}
+use Rattle.records.specs.Writing.{refusalOf, recordBytes}
+use Rattle.records.proofs.WriteLaws.{buffer-written, buffer-zero, written-bytes, used-small}
 use borrow.Author.Needs.{needs}
 use Rattle.records.proofs.write.Statement.{statement}
 use Rattle.records.proofs.write.Tie as tie
-use Rattle.records.proofs.write.Reads as reads
-use Rattle.records.proofs.write.Lts as lts
-use Rattle.records.proofs.clear.Reads as clear-reads
-use Rattle.records.proofs.put.Reads as put-reads
-use Rattle.records.proofs.refusal_of.Reads as refusal-of-reads
-use Rattle.records.proofs.used.Reads as used-reads
 
 refusal-of-requires : tie.Need-refusal-of-requires
 refusal-of-requires c κs = search needs
@@ -18,19 +19,44 @@ same-length : tie.Need-same-length
 same-length c = search needs
 
 returns : tie.Need-returns
-returns c = ?
+returns c =
+    let cleared = c .before .before .before in
+    let read = cleared .before .before in
+    let a = read .before .before .args in
+    let length-is = length (a .buffer .now) in
+    (read .refusal-of .ensures, cleared .clear .ensures ∙ sym (buffer-zero length-is (a .d) (λ e. c .if1 .taken (read .refusal-of .ensures ∙ e))))
 
 used-requires : tie.Need-used-requires
 used-requires c κs = search needs
 
+abbrev start : tie.Else1 → tie.Start
+start c = c .before .before .before .before .before .before .before
+
+written : (c : tie.Else1) → refusalOf (length (start c .args .buffer .now)) (start c .args .d) ≡ 0
+written c = sym (c .before .before .before .before .before .refusal-of .ensures) ∙ c .if1 .left
+
 put-requires : tie.Need-put-requires
-put-requires c κs = ?
+put-requires c κs =
+    let over = c .before .before in
+    let cleared = over .before .before .before in
+    let o = start over in
+    let small = used-small (length (o .args .buffer .now)) (o .args .d) (written over) in (
+      cleared .clear .ensures ∙ ap (λ (n : ℕ). replicate n 0) (written-bytes (length (o .args .buffer .now)) (o .args .d) (written over)),
+      subst⁻¹ (λ (d : Draft). d .kind < 256) (c .used .ensures) (small .0),
+      subst⁻¹ (λ (d : Draft). d .chain < 256) (c .used .ensures) (small .1),
+    )
 
 same-length-2 : tie.Need-same-length-2
 same-length-2 c = search needs
 
 returns-2 : tie.Need-returns-2
-returns-2 c = ?
+returns-2 c =
+    let put = c .before .before in
+    let over = put .before .before .before in
+    let o = start over in (
+      sym (written over),
+      put .put .ensures ∙ ap recordBytes (put .before .used .ensures) ∙ sym (buffer-written (length (o .args .buffer .now)) (o .args .d) (written over)),
+    )
 
 pub write-spec : {M : Type 1} → statement M
 write-spec =

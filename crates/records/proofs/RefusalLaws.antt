@@ -1,0 +1,32 @@
+-- Which numbers a refusal may have. Tests leave two answers each: where both are allowed, whichever they give is.
+use Prim.Native.Nat.{ℕ}
+use mathlib.Core.Path.{_≡_}
+use mathlib.Core.Bool.{Bool, true, false, cond}
+use mathlib.Core.List.{List}
+use lib.IntN.{ℤ}
+use Rattle.metres.specs.declared.Whole.{Whole}
+use Rattle.metres.specs.declared.Whole.the-variants.{Centimetres, Refused}
+use Rattle.records.specs.declared.LogEntry.{LogEntry}
+use Rattle.records.specs.declared.LogEntry.the-variants as entry
+use Rattle.records.specs.Bytes.{unless}
+use Rattle.records.specs.LogRecords.{withBoth}
+use Rattle.records.specs.Refusals.{isAmong}
+
+-- The refusal of an answer is one of some numbers.
+abbrev pub Among : {A : Type 0} → (A → ℕ) → List ℕ → A → Type 0
+Among refusal numbers answer = isAmong (refusal answer) numbers ≡ true
+
+-- What holds of both answers holds of the one that a test leaves.
+pub either : {A : Type 0} (P : A → Type 0) (t : Bool) {refused rest : A} → P refused → P rest → P (unless t refused rest)
+either P true h k = k
+either P false h k = h
+
+pub either-kind : {A : Type 0} (P : A → Type 0) (t : Bool) {kind rest : A} → P kind → P rest → P (cond t kind rest)
+either-kind P true h k = h
+either-kind P false h k = k
+
+-- Two numbers give their entry, or 3.
+pub both-or-three : (P : LogEntry → Type 0) (give : ℤ → ℤ → LogEntry) (x y : Whole) → P (entry.Refused 3) → ((a b : ℤ) → P (give a b)) → P (withBoth give x y)
+both-or-three P give (Centimetres x) (Centimetres y) h k = k x y
+both-or-three P give (Centimetres x) Refused h k = h
+both-or-three P give Refused y h k = h

@@ -1,0 +1,145 @@
+-- Demand 2, the records: what the writer accepts is read back, a refused write leaves zeros, and each answer has its refusals.
+-- The functions of `records` are proved to answer by its definitions; these theorems say what the definitions are worth.
+use Prim.Native.Nat.{ℕ, _-_, _*_, _^_, _<_}
+use mathlib.Core.Path.{_≡_, refl, sym, ap, _∙_, subst⁻¹}
+use mathlib.Core.Bool.{Bool, true, false, _&&_}
+use mathlib.Core.List.{List, [], _∷_}
+use native.Mathlib.Omega.{arith}
+use lib.Dec.{leb, eqb}
+use lib.IntN.{pos}
+use lib.Ieee.{toBits}
+use lib.ListN.{length, replicate, length-replicate}
+use borrow.Author.Tests.{eqb-true, eqb-false}
+use Rattle.fields.specs.Fields.{bytesOf, putAt}
+use Rattle.metres.specs.Metres.{centimetresOf, metresOf, lengthFigures}
+use Rattle.chart.specs.Chains.{isSound}
+use Rattle.search.specs.Windows.{isWindow}
+use Rattle.search.specs.Questions.{mostTolerance}
+use Rattle.records.specs.declared.RawAnswer.{RawAnswer}
+use Rattle.records.specs.declared.LogRecord.{LogRecord}
+use Rattle.records.specs.declared.LogEntry.{LogEntry}
+use Rattle.records.specs.declared.LogEntry.the-variants as entry
+use Rattle.records.specs.declared.ChainCount.{ChainCount}
+use Rattle.records.specs.declared.NamedChain.{NamedChain}
+use Rattle.records.specs.declared.JobAnswer.{JobAnswer}
+use Rattle.records.specs.declared.Draft.{Draft}
+use Rattle.records.specs.Bytes.{numberIn, areZero}
+use Rattle.records.specs.LogRecords.{logBytes, rawRecordOf, isHyperbolic, isGrid, isHold, logRecordOf, isPlace, placed, inCentimetres, logEntryOf}
+use Rattle.records.specs.ChainTables.{chainBytes, oneTo, chainsIn, isTable, chainCountOf, chainAt, chainOf}
+use Rattle.records.specs.Jobs.{jobBytes, jobIn, jobOf}
+use Rattle.records.specs.Writing.{isKind, numbersFit, placeFits, chainFits, refusalOf, usedOf, metresBytes, bufferOf, ReadsAs}
+use Rattle.records.specs.Refusals.{rawRefusal, logRefusal, entryRefusal, countRefusal, chainRefusal, jobRefusal, isAmong}
+use Rattle.records.proofs.WriteLaws.{buffer-written, buffer-zero, written-bytes, record-length}
+use Rattle.records.proofs.ReadBack.{raw-back, entry-back}
+use Rattle.records.proofs.RefusalLaws.{Among, either, either-kind, both-or-three}
+use Rattle.records.proofs.LineLaws.{line-away}
+
+-- What the writer accepts is read back: the same kind, chain number, line number and centimetres.
+pub reads-back : (d : Draft) → d .line < 2 ^ 32 → refusalOf 32 d ≡ 0 → ReadsAs (usedOf d) (bufferOf 32 d)
+unfolding usedOf
+reads-back d small e =
+    subst⁻¹ (ReadsAs (usedOf d)) (buffer-written 32 d e)
+    (record { raw = raw-back (usedOf d) small; entry = entry-back d e })
+
+-- 0 is written as plus zero: eight zero bytes.
+pub plus-zero-written : metresBytes (pos 0) ≡ replicate 8 0
+unfolding bytesOf metresOf lengthFigures toBits
+plus-zero-written = refl
+
+-- A refused write leaves its whole buffer zero.
+pub refused-write-zeros : (bytes : ℕ) (d : Draft) → (refusalOf bytes d ≡ 0 → ⊥) → bufferOf bytes d ≡ replicate bytes 0
+refused-write-zeros bytes d refused = buffer-zero bytes d refused
+
+-- No write changes the length of its buffer.
+pub same-length : (bytes : ℕ) (d : Draft) → length (bufferOf bytes d) ≡ bytes
+same-length bytes d = go (eqb (refusalOf bytes d) 0) refl
+  where
+    go : (t : Bool) → eqb (refusalOf bytes d) 0 ≡ t → length (bufferOf bytes d) ≡ bytes
+    go true e =
+        let accepted = eqb-true (refusalOf bytes d) 0 e in
+        ap length (buffer-written bytes d accepted) ∙ record-length (usedOf d) ∙ sym (written-bytes bytes d accepted)
+    go false e = ap length (refused-write-zeros bytes d (eqb-false (refusalOf bytes d) 0 e)) ∙ length-replicate bytes 0
+
+-- The line number has no part in what a record says: any value, repeats allowed.
+pub line-ignored : (s : List ℕ) (n : ℕ) → length s ≡ 32 → logEntryOf (putAt 4 s 4 n) ≡ logEntryOf s
+line-ignored s n h = line-away s n (omega arith)
+
+-- Each answer has its own refusals, by 01's numbers, with 0 for none. A raw record has 1.
+pub raw-refusals : (s : List ℕ) → isAmong (rawRefusal (rawRecordOf s)) (0 ∷ 1 ∷ []) ≡ true
+unfolding rawRecordOf rawRefusal isAmong
+raw-refusals s = either (Among rawRefusal (0 ∷ 1 ∷ [])) (eqb (length s) logBytes) refl refl
+
+-- A log record in metres has 1 and 2.
+pub log-refusals : (s : List ℕ) → isAmong (logRefusal (logRecordOf s)) (0 ∷ 1 ∷ 2 ∷ []) ≡ true
+unfolding logRecordOf logRefusal isAmong
+log-refusals s =
+    let among = Among logRefusal (0 ∷ 1 ∷ 2 ∷ []) in
+    either among (eqb (length s) logBytes) refl
+    (either-kind among (isHyperbolic s) refl (either-kind among (isGrid s) refl (either-kind among (isHold s) refl refl)))
+
+-- A log record in centimetres has 1, 2, 3 and 4.
+pub entry-refusals : (s : List ℕ) → isAmong (entryRefusal (logEntryOf s)) (0 ∷ 1 ∷ 2 ∷ 3 ∷ 4 ∷ []) ≡ true
+unfolding logEntryOf logRecordOf inCentimetres placed entryRefusal isAmong
+entry-refusals s =
+    let among = Among entryRefusal (0 ∷ 1 ∷ 2 ∷ 3 ∷ 4 ∷ []) in
+    let of-record : LogRecord → Type 0 = λ r. among (inCentimetres r) in
+    either of-record (eqb (length s) logBytes) refl
+    (either-kind of-record (isHyperbolic s)
+    (both-or-three among entry.Readings (centimetresOf (numberIn s 8)) (centimetresOf (numberIn s 16)) refl (λ a b. refl))
+    (either-kind of-record (isGrid s)
+    (both-or-three among placed (centimetresOf (numberIn s 8)) (centimetresOf (numberIn s 16)) refl (λ e n. either among (isPlace e n) refl refl))
+    (either-kind of-record (isHold s) refl refl)))
+
+-- The count of a chain table has 1.
+pub count-refusals : (s : List ℕ) → isAmong (countRefusal (chainCountOf s)) (0 ∷ 1 ∷ []) ≡ true
+unfolding chainCountOf countRefusal isAmong
+count-refusals s = either (Among countRefusal (0 ∷ 1 ∷ [])) (isTable s) refl refl
+
+-- A chain of a table has 1 and 5.
+pub chain-refusals : (s : List ℕ) (number : ℕ) → isAmong (chainRefusal (chainOf s number)) (0 ∷ 1 ∷ 5 ∷ []) ≡ true
+unfolding chainOf chainRefusal isAmong
+chain-refusals s number =
+    let among = Among chainRefusal (0 ∷ 1 ∷ 5 ∷ []) in
+    either among (isTable s) refl
+    (either among (oneTo (chainsIn s) number) refl (either among (isSound (chainAt s (chainBytes * (number - 1)))) refl refl))
+
+-- A job has 1, 2, 6 and 7.
+pub job-refusals : (s : List ℕ) → isAmong (jobRefusal (jobOf s)) (0 ∷ 1 ∷ 2 ∷ 6 ∷ 7 ∷ []) ≡ true
+unfolding jobOf jobRefusal isAmong
+job-refusals s =
+    let among = Among jobRefusal (0 ∷ 1 ∷ 2 ∷ 6 ∷ 7 ∷ []) in
+    either among (eqb (length s) jobBytes) refl
+    (either among (areZero 3 s 9 && areZero 8 s 24) refl
+    (either among (isWindow (jobIn s .window)) refl (either among (leb (jobIn s .tolerance) mostTolerance) refl refl)))
+
+-- A write has 1 to 5.
+pub write-refusals : (bytes : ℕ) (d : Draft) → isAmong (refusalOf bytes d) (0 ∷ 1 ∷ 2 ∷ 3 ∷ 4 ∷ 5 ∷ []) ≡ true
+unfolding refusalOf isAmong
+write-refusals bytes d =
+    let among = Among (λ (n : ℕ). n) (0 ∷ 1 ∷ 2 ∷ 3 ∷ 4 ∷ 5 ∷ []) in
+    either among (eqb bytes logBytes) refl
+    (either among (isKind (d .kind)) refl
+    (either among (numbersFit d) refl (either among (placeFits d) refl (either among (chainFits d) refl refl))))
+
+-- Any two answers that keep a reader's promise of the same bytes are equal: they follow from the bytes alone.
+pub bytes-alone : {A : Type 0} (answer : List ℕ → A) (s t : List ℕ) (r q : A) → s ≡ t → r ≡ answer s → q ≡ answer t → r ≡ q
+bytes-alone answer s t r q same is-r is-q = is-r ∙ ap answer same ∙ sym is-q
+
+-- So it is of each reader.
+pub raw-by-bytes : (s t : List ℕ) (r q : RawAnswer) → s ≡ t → r ≡ rawRecordOf s → q ≡ rawRecordOf t → r ≡ q
+raw-by-bytes = bytes-alone rawRecordOf
+
+pub records-by-bytes : (s t : List ℕ) (r q : LogRecord) → s ≡ t → r ≡ logRecordOf s → q ≡ logRecordOf t → r ≡ q
+records-by-bytes = bytes-alone logRecordOf
+
+pub entries-by-bytes : (s t : List ℕ) (r q : LogEntry) → s ≡ t → r ≡ logEntryOf s → q ≡ logEntryOf t → r ≡ q
+entries-by-bytes = bytes-alone logEntryOf
+
+pub counts-by-bytes : (s t : List ℕ) (r q : ChainCount) → s ≡ t → r ≡ chainCountOf s → q ≡ chainCountOf t → r ≡ q
+counts-by-bytes = bytes-alone chainCountOf
+
+pub chains-by-bytes : (number : ℕ) (s t : List ℕ) (r q : NamedChain) → s ≡ t → r ≡ chainOf s number → q ≡ chainOf t number → r ≡ q
+chains-by-bytes number = bytes-alone (λ (s : List ℕ). chainOf s number)
+
+pub jobs-by-bytes : (s t : List ℕ) (r q : JobAnswer) → s ≡ t → r ≡ jobOf s → q ≡ jobOf t → r ≡ q
+jobs-by-bytes = bytes-alone jobOf
