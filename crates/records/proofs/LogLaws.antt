@@ -89,18 +89,24 @@ module _ (s : List ℕ) (r : RawRecord) (h : IsRaw s r) where
   pub hyperbolic-last : r .kind ≡ 1 → isHyperbolic s ≡ lastZero
   hyperbolic-last e = rw (kind-is 1 e)
 
-  -- A grid record has byte 1 as well.
+  -- The other kinds have byte 1 as well.
+  abbrev pub restZero : Bool
+  restZero = areZero 3 s 1 && areZero 8 s 24
+
   three-zero : areZero 3 s 1 ≡ (eqb (r .chain) 0 && areZero 2 s 2)
   three-zero = zero-byte 2 s 1 (at-32 1 (omega arith)) ∙ ap (λ (q : RawRecord). eqb (q .chain) 0 && areZero 2 s 2) (sym (h .same))
+
+  pub chained : (r .chain ≡ 0 → ⊥) → restZero ≡ false
+  chained n = rw (three-zero, ne-eqb (r .chain) 0 n)
+
+  pub unchained-last : r .chain ≡ 0 → restZero ≡ lastZero
+  unchained-last e = rw (three-zero, eq-eqb (r .chain) 0 e)
 
   pub no-grid : (r .kind ≡ 2 → ⊥) → isGrid s ≡ false
   no-grid n = rw (kind-is-not 2 n)
 
-  pub grid-chained : r .kind ≡ 2 → (r .chain ≡ 0 → ⊥) → isGrid s ≡ false
-  grid-chained e n = rw (kind-is 2 e, three-zero, ne-eqb (r .chain) 0 n)
-
-  pub grid-last : r .kind ≡ 2 → r .chain ≡ 0 → isGrid s ≡ lastZero
-  grid-last e f = rw (kind-is 2 e, three-zero, eq-eqb (r .chain) 0 f)
+  pub grid-rest : r .kind ≡ 2 → isGrid s ≡ restZero
+  grid-rest e = rw (kind-is 2 e)
 
   -- A hold has all three fields.
   fields-zero : areZero 24 s 8 ≡ (isPlusZero (r .first) && (isPlusZero (r .second) && areZero 8 s 24))
@@ -109,17 +115,14 @@ module _ (s : List ℕ) (r : RawRecord) (h : IsRaw s r) where
   pub no-hold : (r .kind ≡ 3 → ⊥) → isHold s ≡ false
   no-hold n = rw (kind-is-not 3 n)
 
-  pub hold-chained : r .kind ≡ 3 → (r .chain ≡ 0 → ⊥) → isHold s ≡ false
-  hold-chained e n = rw (kind-is 3 e, three-zero, ne-eqb (r .chain) 0 n)
-
   pub hold-first : isPlusZero (r .first) ≡ false → isHold s ≡ false
   hold-first n = rw (fields-zero, n) (nothing (eqb (byteAt s 0) 3) (areZero 3 s 1))
 
   pub hold-second : isPlusZero (r .first) ≡ true → isPlusZero (r .second) ≡ false → isHold s ≡ false
   hold-second e n = rw (fields-zero, e, n) (nothing (eqb (byteAt s 0) 3) (areZero 3 s 1))
 
-  pub hold-last : r .kind ≡ 3 → r .chain ≡ 0 → isPlusZero (r .first) ≡ true → isPlusZero (r .second) ≡ true → isHold s ≡ lastZero
-  hold-last e f x y = rw (kind-is 3 e, three-zero, eq-eqb (r .chain) 0 f, fields-zero, x, y)
+  pub hold-rest : r .kind ≡ 3 → isPlusZero (r .first) ≡ true → isPlusZero (r .second) ≡ true → isHold s ≡ restZero
+  hold-rest e x y = rw (kind-is 3 e, fields-zero, x, y)
 
   -- The record is the first kind whose test passes.
   pub told-hyperbolic : isHyperbolic s ≡ true → logRecordOf s ≡ log.Hyperbolic (r .first) (r .second)

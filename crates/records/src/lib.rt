@@ -212,7 +212,7 @@ fn gathered(s: &[u8]) -> RawRecord
     requires { ⌜ length (now s) ≡ logBytes ⌝ }
     ensures { λ r. ⌜ IsRaw (now (s .entry)) r ⌝ }
 {
-    let line = four(s, 4);
+    let line = line_number(s);
     let first = number(s, 8);
     let second = number(s, 16);
     let third = number(s, 24);
@@ -226,6 +226,14 @@ fn gathered(s: &[u8]) -> RawRecord
         second,
         third,
     }
+}
+
+// Any number, the lowest byte first.
+fn line_number(s: &[u8]) -> u32
+    requires { ⌜ length (now s) ≡ logBytes ⌝ }
+    ensures { λ r. ⌜ r ≡ fieldAt 4 (now (s .entry)) 4 ⌝ }
+{
+    four(s, 4)
 }
 
 fn by_kind(r: RawRecord) -> LogRecord
@@ -264,10 +272,7 @@ fn is_grid(r: RawRecord) -> bool
     if r.kind != 2 {
         return false;
     }
-    if r.chain != 0 {
-        return false;
-    }
-    last_zero(r)
+    unchained(r)
 }
 
 fn is_hold(r: RawRecord) -> bool
@@ -276,19 +281,26 @@ fn is_hold(r: RawRecord) -> bool
     if r.kind != 3 {
         return false;
     }
-    if r.chain != 0 {
-        return false;
-    }
     if !metres::is_plus_zero(r.first) {
         return false;
     }
     if !metres::is_plus_zero(r.second) {
         return false;
     }
+    unchained(r)
+}
+
+// No chain is named, and the bytes that no kind uses are zero.
+fn unchained(r: RawRecord) -> bool
+    ensures { λ answer. ⌜ ((s : List ℕ) → IsRaw s r → answer ≡ (areZero 3 s 1 && areZero 8 s 24)) ⌝ }
+{
+    if r.chain != 0 {
+        return false;
+    }
     last_zero(r)
 }
 
-// The bytes that no kind uses: bytes 2 and 3, and the third number's.
+// The bytes that no kind uses: bytes 2 and 3, and the third number's. Minus zero is not all zero bytes.
 fn last_zero(r: RawRecord) -> bool
     ensures { λ answer. ⌜ ((s : List ℕ) → IsRaw s r → answer ≡ (areZero 2 s 2 && areZero 8 s 24)) ⌝ }
 {
@@ -328,15 +340,9 @@ fn readings(p: Pair) -> LogEntry
 fn place(p: Pair) -> LogEntry
     ensures { λ r. ⌜ r ≡ given placed p ⌝ }
 {
-    match p {
-        Pair::Both { x, y } => grid_place(x, y),
-        Pair::Unusable => LogEntry::Refused(3),
-    }
-}
-
-fn grid_place(x: i64, y: i64) -> LogEntry
-    ensures { λ r. ⌜ r ≡ placed x y ⌝ }
-{
+    let Pair::Both { x, y } = p else {
+        return LogEntry::Refused(3);
+    };
     if !is_place(x, y) {
         return LogEntry::Refused(4);
     }
@@ -468,19 +474,23 @@ fn number(s: &[u8], at: usize) -> f64
 fn refusal_of(bytes: usize, d: Draft) -> u32
     ensures { λ r. ⌜ r ≡ refusalOf bytes d ⌝ }
 {
+    let kind = one_to(3, d.kind);
+    let numbers = numbers_fit(d);
+    let place = place_fits(d);
+    let chain = chain_fits(d);
     if bytes != LOG_BYTES {
         return 1;
     }
-    if !one_to(3, d.kind) {
+    if !kind {
         return 2;
     }
-    if !numbers_fit(d) {
+    if !numbers {
         return 3;
     }
-    if !place_fits(d) {
+    if !place {
         return 4;
     }
-    if !chain_fits(d) {
+    if !chain {
         return 5;
     }
     0

@@ -4,8 +4,8 @@ use borrow.Author.Needs.{needs}
 use Rattle.records.proofs.gathered.Statement.{statement}
 use Rattle.records.proofs.gathered.Tie as tie
 
-four-requires : tie.Need-four-requires
-four-requires c κs = search needs
+line-number-requires : tie.Need-line-number-requires
+line-number-requires c κs = search needs
 
 number-requires : tie.Need-number-requires
 number-requires c κs = search needs
@@ -35,14 +35,14 @@ returns c =
     record {
       whole = s .pre;
       bytes = λ i. c .shared-slice-known5 .given i .fits;
-      same = raw-same (s .args .s .now) _ _ _ _ (read .before .before .before .four .ensures) (read .before .before .number .ensures) (read .before .number2 .ensures) (read .number3 .ensures);
+      same = raw-same (s .args .s .now) _ _ _ _ (read .before .before .before .line-number .ensures) (read .before .before .number .ensures) (read .before .number2 .ensures) (read .number3 .ensures);
     }
 
 pub gathered-spec : {M : Type 1} → statement M
 gathered-spec =
     tie.close
     (tie.spec
-    four-requires
+    line-number-requires
     number-requires
     number-requires-2
     number-requires-3

@@ -1,7 +1,7 @@
--- `records::is_hold` meets its contract: the kind, byte 1, both numbers by their bits, then the bytes that no kind uses.
+-- `records::is_hold` meets its contract: the kind, both numbers by their bits, then the bytes that the other kinds leave out too.
 use mathlib.Core.Path.{sym, _∙_}
 use borrow.Author.Tests.{not-true, not-false}
-use Rattle.records.proofs.LogLaws.{no-hold, hold-chained, hold-first, hold-second, hold-last}
+use Rattle.records.proofs.LogLaws.{no-hold, hold-first, hold-second, hold-rest}
 use borrow.Author.Needs.{needs}
 use Rattle.records.proofs.is_hold.Statement.{statement}
 use Rattle.records.proofs.is_hold.Tie as tie
@@ -9,48 +9,42 @@ use Rattle.records.proofs.is_hold.Tie as tie
 returns : tie.Need-returns
 returns c s h = sym (no-hold s _ h (c .if1 .taken))
 
-returns-2 : tie.Need-returns-2
-returns-2 c s h = sym (hold-chained s _ h (c .before .before .if1 .left) (c .if2 .taken))
-
 is-plus-zero-requires : tie.Need-is-plus-zero-requires
 is-plus-zero-requires c κs = search needs
 
-returns-3 : tie.Need-returns-3
-returns-3 c s h = sym (hold-first s _ h (sym (c .before .is-plus-zero .ensures) ∙ not-true _ (c .if3 .taken)))
+returns-2 : tie.Need-returns-2
+returns-2 c s h = sym (hold-first s _ h (sym (c .before .is-plus-zero .ensures) ∙ not-true _ (c .if2 .taken)))
 
 is-plus-zero-requires-2 : tie.Need-is-plus-zero-requires-2
 is-plus-zero-requires-2 c κs = search needs
 
-returns-4 : tie.Need-returns-4
-returns-4 c s h =
+returns-3 : tie.Need-returns-3
+returns-3 c s h =
     let first = c .before .before in
     sym
-    (hold-second s _ h (sym (first .before .is-plus-zero .ensures) ∙ not-false _ (first .if3 .left))
-    (sym (c .before .is-plus-zero2 .ensures) ∙ not-true _ (c .if4 .taken)))
+    (hold-second s _ h (sym (first .before .is-plus-zero .ensures) ∙ not-false _ (first .if2 .left))
+    (sym (c .before .is-plus-zero2 .ensures) ∙ not-true _ (c .if3 .taken)))
 
-last-zero-requires : tie.Need-last-zero-requires
-last-zero-requires c κs = search needs
+unchained-requires : tie.Need-unchained-requires
+unchained-requires c κs = search needs
 
-returns-5 : tie.Need-returns-5
-returns-5 c s h =
+returns-4 : tie.Need-returns-4
+returns-4 c s h =
     let second = c .before in
     let first = second .before .before in
-    let chain = first .before .before in
-    c .last-zero .ensures s h
+    c .unchained .ensures s h
     ∙ sym
-    (hold-last s _ h (chain .before .before .if1 .left) (chain .if2 .left)
-    (sym (first .before .is-plus-zero .ensures) ∙ not-false _ (first .if3 .left))
-    (sym (second .before .is-plus-zero2 .ensures) ∙ not-false _ (second .if4 .left)))
+    (hold-rest s _ h (first .before .before .if1 .left) (sym (first .before .is-plus-zero .ensures) ∙ not-false _ (first .if2 .left))
+    (sym (second .before .is-plus-zero2 .ensures) ∙ not-false _ (second .if3 .left)))
 
 pub is-hold-spec : {M : Type 1} → statement M
 is-hold-spec =
     tie.close
     (tie.spec
     returns
-    returns-2
     is-plus-zero-requires
-    returns-3
+    returns-2
     is-plus-zero-requires-2
-    returns-4
-    last-zero-requires
-    returns-5)
+    returns-3
+    unchained-requires
+    returns-4)
