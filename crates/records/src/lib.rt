@@ -304,13 +304,14 @@ fn unchained(r: RawRecord) -> bool
 fn last_zero(r: RawRecord) -> bool
     ensures { λ answer. ⌜ ((s : List ℕ) → IsRaw s r → answer ≡ (areZero 2 s 2 && areZero 8 s 24)) ⌝ }
 {
+    let third = r.third;
     if r.byte_2 != 0 {
         return false;
     }
     if r.byte_3 != 0 {
         return false;
     }
-    metres::is_plus_zero(r.third)
+    metres::is_plus_zero(third)
 }
 
 // Two numbers of metres in centimetres.

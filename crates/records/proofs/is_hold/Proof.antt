@@ -1,5 +1,6 @@
 -- `records::is_hold` meets its contract: the kind, both numbers by their bits, then the bytes that the other kinds leave out too.
 use mathlib.Core.Path.{sym, _∙_}
+use native.Mathlib.Omega.{arith}
 use borrow.Author.Tests.{not-true, not-false}
 use Rattle.records.proofs.LogLaws.{no-hold, hold-first, hold-second, hold-rest}
 use borrow.Author.Needs.{needs}
@@ -7,7 +8,7 @@ use Rattle.records.proofs.is_hold.Statement.{statement}
 use Rattle.records.proofs.is_hold.Tie as tie
 
 returns : tie.Need-returns
-returns c s h = sym (no-hold s _ h (c .if1 .taken))
+returns c s h = sym (no-hold s _ h (λ e. omega (arith, e, c .if1 .taken)))
 
 is-plus-zero-requires : tie.Need-is-plus-zero-requires
 is-plus-zero-requires c κs = search needs
@@ -34,7 +35,7 @@ returns-4 c s h =
     let first = second .before .before in
     c .unchained .ensures s h
     ∙ sym
-    (hold-rest s _ h (first .before .before .if1 .left) (sym (first .before .is-plus-zero .ensures) ∙ not-false _ (first .if2 .left))
+    (hold-rest s _ h (omega (arith, first .before .before .if1 .left)) (sym (first .before .is-plus-zero .ensures) ∙ not-false _ (first .if2 .left))
     (sym (second .before .is-plus-zero2 .ensures) ∙ not-false _ (second .if3 .left)))
 
 pub is-hold-spec : {M : Type 1} → statement M
