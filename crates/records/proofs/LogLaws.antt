@@ -1,6 +1,6 @@
 -- A log record by the tests of its raw record, and its entry by its kind.
 -- A number of the raw record is plus zero exactly if its eight bytes are zero, so the tests are those on the bytes.
-use Prim.Native.Nat.{ℕ, _+_, _<_}
+use Prim.Native.Nat.{ℕ, _<_}
 use mathlib.Core.Path.{_≡_, refl, sym, ap, _∙_, subst⁻¹}
 use mathlib.Core.Bool.{Bool, true, false, _&&_}
 use mathlib.Core.List.{List}
@@ -20,8 +20,8 @@ use Rattle.records.specs.declared.LogRecord.{LogRecord}
 use Rattle.records.specs.declared.LogRecord.the-variants as log
 use Rattle.records.specs.declared.LogEntry.{LogEntry}
 use Rattle.records.specs.declared.LogEntry.the-variants as entry
-use Rattle.records.specs.Bytes.{byteAt, numberIn, areZero}
-use Rattle.records.specs.LogRecords.{logBytes, rawIn, rawRecordOf, isHyperbolic, isGrid, isHold, logRecordOf, placed, withBoth, inCentimetres, logEntryOf}
+use Rattle.records.specs.Bytes.{byteAt, areZero}
+use Rattle.records.specs.LogRecords.{logBytes, rawRecordOf, isHyperbolic, isGrid, isHold, logRecordOf, placed, withBoth, inCentimetres, logEntryOf}
 use Rattle.records.specs.Gathered.{IsRaw, pairOf, given}
 use Rattle.records.proofs.ByteLaws.{zero-byte, zero-one, zero-split, plus-zero-field}
 
@@ -48,19 +48,19 @@ module _ (s : List ℕ) (r : RawRecord) (h : IsRaw s r) where
   at-32 at small = subst⁻¹ (λ (n : ℕ). at < n) (h .whole) small
 
   -- The tests of the raw record, as tests of the bytes.
-  pub kind-is : (kind : ℕ) → r .kind ≡ kind → eqb (byteAt s 0) kind ≡ true
+  kind-is : (kind : ℕ) → r .kind ≡ kind → eqb (byteAt s 0) kind ≡ true
   kind-is kind e = eq-eqb (byteAt s 0) kind (sym (ap (λ (q : RawRecord). q .kind) (h .same)) ∙ e)
 
-  pub kind-is-not : (kind : ℕ) → (r .kind ≡ kind → ⊥) → eqb (byteAt s 0) kind ≡ false
+  kind-is-not : (kind : ℕ) → (r .kind ≡ kind → ⊥) → eqb (byteAt s 0) kind ≡ false
   kind-is-not kind n = ne-eqb (byteAt s 0) kind (λ e. n (ap (λ (q : RawRecord). q .kind) (h .same) ∙ e))
 
-  pub first-is : isPlusZero (r .first) ≡ areZero 8 s 8
+  first-is : isPlusZero (r .first) ≡ areZero 8 s 8
   first-is = ap (λ (q : RawRecord). isPlusZero (q .first)) (h .same) ∙ plus-zero-field s 8 (h .bytes)
 
-  pub second-is : isPlusZero (r .second) ≡ areZero 8 s 16
+  second-is : isPlusZero (r .second) ≡ areZero 8 s 16
   second-is = ap (λ (q : RawRecord). isPlusZero (q .second)) (h .same) ∙ plus-zero-field s 16 (h .bytes)
 
-  pub third-is : isPlusZero (r .third) ≡ areZero 8 s 24
+  third-is : isPlusZero (r .third) ≡ areZero 8 s 24
   third-is = ap (λ (q : RawRecord). isPlusZero (q .third)) (h .same) ∙ plus-zero-field s 24 (h .bytes)
 
   -- The bytes that no kind uses: byte 2, byte 3, the third field.

@@ -2,11 +2,11 @@
 use mathlib.Core.Path.{sym, ap, ap₂, _∙_}
 use mir.Syntax.{w64}
 use mir.ValLaws.{toZ-ofZ}
+use borrow.Author.Needs.{needs}
 use Rattle.metres.specs.declared.Whole.{Whole}
 use Rattle.metres.specs.Metres.{centimetresOf}
 use Rattle.records.specs.declared.Pair.the-variants.{Both}
 use Rattle.records.specs.Gathered.{pairOf}
-use borrow.Author.Needs.{needs}
 use Rattle.records.proofs.both.Statement.{statement}
 use Rattle.records.proofs.both.Tie as tie
 

@@ -3,10 +3,10 @@ use Prim.Native.Nat.{ℕ}
 use mathlib.Core.Path.{_≡_, sym, _∙_}
 use mathlib.Core.Bool.{false}
 use mathlib.Core.List.{List}
+use borrow.Author.Needs.{needs}
 use Rattle.records.specs.LogRecords.{isHyperbolic, isGrid}
 use Rattle.records.specs.Gathered.{IsRaw}
 use Rattle.records.proofs.LogLaws.{told-hyperbolic, told-grid, told-hold, told-2}
-use borrow.Author.Needs.{needs}
 use Rattle.records.proofs.by_kind.Statement.{statement}
 use Rattle.records.proofs.by_kind.Tie as tie
 

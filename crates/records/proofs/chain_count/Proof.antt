@@ -1,8 +1,8 @@
 -- `records::chain_count` meets its contract: what is no table is refused, and else the chains are counted.
 use mathlib.Core.Path.{sym, _∙_}
 use borrow.Author.Tests.{not-true, not-false}
-use Rattle.records.proofs.TableLaws.{count-1, counted}
 use borrow.Author.Needs.{needs}
+use Rattle.records.proofs.TableLaws.{count-1, counted}
 use Rattle.records.proofs.chain_count.Statement.{statement}
 use Rattle.records.proofs.chain_count.Tie as tie
 

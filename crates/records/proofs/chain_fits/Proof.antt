@@ -1,7 +1,7 @@
 -- `records::chain_fits` meets its contract: only a hyperbolic record has a chain.
 use mathlib.Core.Path.{sym, _∙_}
-use Rattle.records.proofs.WriteLaws.{no-chain, by-chain}
 use borrow.Author.Needs.{needs}
+use Rattle.records.proofs.WriteLaws.{no-chain, by-chain}
 use Rattle.records.proofs.chain_fits.Statement.{statement}
 use Rattle.records.proofs.chain_fits.Tie as tie
 

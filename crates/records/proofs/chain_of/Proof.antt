@@ -4,11 +4,11 @@ use mathlib.Core.Path.{_≡_, sym, ap, _∙_}
 use mathlib.Core.Bool.{true}
 use native.Mathlib.Omega.{arith}
 use borrow.Author.Tests.{not-true, not-false}
+use borrow.Author.Needs.{needs}
 use Rattle.chart.specs.Chains.{isSound}
 use Rattle.records.specs.declared.NamedChain.the-variants.{Chain}
 use Rattle.records.specs.ChainTables.{chainBytes, isTable, oneTo, chainsIn, chainAt}
 use Rattle.records.proofs.TableLaws.{chain-1, chain-5, chain-unsound, chain-named, one-to-says, chain-inside}
-use borrow.Author.Needs.{needs}
 use Rattle.records.proofs.chain_of.Statement.{statement}
 use Rattle.records.proofs.chain_of.Tie as tie
 

@@ -1,7 +1,7 @@
 -- `records::eight` meets its contract: the field is inside, so what stands there is its number.
 use mathlib.Core.Path.{sym, ap, _∙_}
-use Rattle.records.proofs.ReadLaws.{eightIn, eight-inside}
 use borrow.Author.Needs.{needs}
+use Rattle.records.proofs.ReadLaws.{eightIn, eight-inside}
 use Rattle.records.proofs.eight.Statement.{statement}
 use Rattle.records.proofs.eight.Tie as tie
 

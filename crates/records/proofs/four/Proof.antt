@@ -1,7 +1,7 @@
 -- `records::four` meets its contract: the field is inside, so what stands there is its number.
 use mathlib.Core.Path.{sym, ap, _∙_}
-use Rattle.records.proofs.ReadLaws.{fourIn, four-inside}
 use borrow.Author.Needs.{needs}
+use Rattle.records.proofs.ReadLaws.{fourIn, four-inside}
 use Rattle.records.proofs.four.Statement.{statement}
 use Rattle.records.proofs.four.Tie as tie
 

@@ -1,6 +1,6 @@
 -- `records::gathered` meets its contract: each field is read where it stands.
-use Rattle.records.proofs.ReadLaws.{raw-same}
 use borrow.Author.Needs.{needs}
+use Rattle.records.proofs.ReadLaws.{raw-same}
 use Rattle.records.proofs.gathered.Statement.{statement}
 use Rattle.records.proofs.gathered.Tie as tie
 

@@ -2,10 +2,10 @@
 use mathlib.Core.Path.{ap, _∙_}
 use mir.Syntax.{w64}
 use mir.ValLaws.{toZ-ofZ}
+use borrow.Author.Needs.{needs}
 use Rattle.metres.specs.declared.LengthFigures.{LengthFigures}
 use Rattle.metres.specs.Metres.{lengthFigures}
 use Rattle.records.specs.Writing.{inMetres}
-use borrow.Author.Needs.{needs}
 use Rattle.records.proofs.in_metres.Statement.{statement}
 use Rattle.records.proofs.in_metres.Tie as tie
 

@@ -2,8 +2,8 @@
 use mathlib.Core.Path.{sym, _∙_}
 use native.Mathlib.Omega.{arith}
 use borrow.Author.Tests.{not-true, not-false}
-use Rattle.records.proofs.LogLaws.{no-hold, hold-first, hold-second, hold-rest}
 use borrow.Author.Needs.{needs}
+use Rattle.records.proofs.LogLaws.{no-hold, hold-first, hold-second, hold-rest}
 use Rattle.records.proofs.is_hold.Statement.{statement}
 use Rattle.records.proofs.is_hold.Tie as tie
 

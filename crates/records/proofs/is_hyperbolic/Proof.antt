@@ -1,7 +1,7 @@
 -- `records::is_hyperbolic` meets its contract: the kind, then the bytes that no kind uses.
 use mathlib.Core.Path.{sym, _∙_}
-use Rattle.records.proofs.LogLaws.{no-hyperbolic, hyperbolic-last}
 use borrow.Author.Needs.{needs}
+use Rattle.records.proofs.LogLaws.{no-hyperbolic, hyperbolic-last}
 use Rattle.records.proofs.is_hyperbolic.Statement.{statement}
 use Rattle.records.proofs.is_hyperbolic.Tie as tie
 

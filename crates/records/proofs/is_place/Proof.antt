@@ -8,9 +8,9 @@ use lib.Signed.{ltZ}
 use mir.Syntax.{w64}
 use mir.Val.{toZ, ofZ}
 use mir.ValLaws.{toZ-ofZ}
+use borrow.Author.Needs.{needs}
 use Rattle.chart.specs.Places.{inRange}
 use Rattle.records.proofs.GridLaws.{too-far-west, too-far-south, by-size, size-east, size-north}
-use borrow.Author.Needs.{needs}
 use Rattle.records.proofs.is_place.Statement.{statement}
 use Rattle.records.proofs.is_place.Tie as tie
 

@@ -4,12 +4,12 @@ use mathlib.Core.Bool.{true}
 use native.Mathlib.Omega.{arith}
 use Prim.Native.Nat.{ℕ}
 use borrow.Author.Tests.{not-true, not-false}
+use borrow.Author.Needs.{needs}
 use Rattle.chart.specs.declared.Place.{Place}
 use Rattle.search.specs.Windows.{isWindow}
 use Rattle.records.specs.declared.JobAnswer.the-variants.{Job}
 use Rattle.records.specs.Jobs.{jobIn}
 use Rattle.records.proofs.JobLaws.{zerosKept, job-same, job-1, job-2, job-6, job-7, job-told}
-use borrow.Author.Needs.{needs}
 use Rattle.records.proofs.job_of.Statement.{statement}
 use Rattle.records.proofs.job_of.Tie as tie
 

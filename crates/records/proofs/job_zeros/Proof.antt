@@ -2,9 +2,9 @@
 use Prim.Native.Nat.{ℕ}
 use mathlib.Core.Path.{sym, ap, _∙_}
 use lib.Dec.{eqb}
+use borrow.Author.Needs.{needs}
 use Rattle.records.proofs.ByteLaws.{zero-field}
 use Rattle.records.proofs.JobLaws.{zeros-9, zeros-10, zeros-11, zeros-last}
-use borrow.Author.Needs.{needs}
 use Rattle.records.proofs.job_zeros.Statement.{statement}
 use Rattle.records.proofs.job_zeros.Tie as tie
 

@@ -1,7 +1,7 @@
 -- `records::last_zero` meets its contract: bytes 2 and 3, then the third number by its bits.
 use mathlib.Core.Path.{sym, _∙_}
-use Rattle.records.proofs.LogLaws.{last-zero-2, last-zero-3, last-zero-third}
 use borrow.Author.Needs.{needs}
+use Rattle.records.proofs.LogLaws.{last-zero-2, last-zero-3, last-zero-third}
 use Rattle.records.proofs.last_zero.Statement.{statement}
 use Rattle.records.proofs.last_zero.Tie as tie
 

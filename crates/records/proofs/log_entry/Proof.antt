@@ -1,11 +1,11 @@
 -- `records::log_entry` meets its contract, kind by kind.
 use mathlib.Core.Path.{ap, _∙_}
 use denote.Ref.{now}
+use borrow.Author.Needs.{needs}
 use Rattle.records.specs.declared.LogEntry.the-variants.{Readings}
 use Rattle.records.specs.LogRecords.{placed}
 use Rattle.records.specs.Gathered.{given}
 use Rattle.records.proofs.LogLaws.{entry-hyperbolic, entry-grid, entry-hold, entry-refused}
-use borrow.Author.Needs.{needs}
 use Rattle.records.proofs.log_entry.Statement.{statement}
 use Rattle.records.proofs.log_entry.Tie as tie
 

@@ -1,7 +1,7 @@
 -- `records::log_record` meets its contract: the length is tested, then the raw record sorted by kind.
 use mathlib.Core.Path.{sym}
-use Rattle.records.proofs.LogLaws.{log-1}
 use borrow.Author.Needs.{needs}
+use Rattle.records.proofs.LogLaws.{log-1}
 use Rattle.records.proofs.log_record.Statement.{statement}
 use Rattle.records.proofs.log_record.Tie as tie
 

@@ -1,7 +1,7 @@
 -- `records::number` meets its contract: the number of the eight bytes.
 use mathlib.Core.Path.{ap, _∙_}
-use Rattle.metres.specs.Patterns.{numberOf}
 use borrow.Author.Needs.{needs}
+use Rattle.metres.specs.Patterns.{numberOf}
 use Rattle.records.proofs.number.Statement.{statement}
 use Rattle.records.proofs.number.Tie as tie
 

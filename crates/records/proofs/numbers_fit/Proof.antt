@@ -6,9 +6,9 @@ use lib.Dec.{leb}
 use lib.IntN.{natAbs}
 use mir.Syntax.{w64}
 use mir.ValLaws.{toZ-ofZ}
+use borrow.Author.Needs.{needs}
 use Rattle.metres.specs.Metres.{mostCentimetres}
 use Rattle.records.proofs.WriteLaws.{hold-fits, first-too-large, by-second}
-use borrow.Author.Needs.{needs}
 use Rattle.records.proofs.numbers_fit.Statement.{statement}
 use Rattle.records.proofs.numbers_fit.Tie as tie
 

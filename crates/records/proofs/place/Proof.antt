@@ -8,12 +8,12 @@ use lib.IntN.{ℤ, natAbs}
 use mir.Syntax.{w64}
 use mir.Val.{toZ, ofZ}
 use mir.ValLaws.{toZ-ofZ}
+use borrow.Author.Needs.{needs}
 use Rattle.chart.specs.Places.{mostEasting, mostNorthing}
 use Rattle.records.specs.declared.LogEntry.the-variants.{Place}
 use Rattle.records.specs.LogRecords.{isPlace, placed}
 use Rattle.records.specs.Gathered.{given}
 use Rattle.records.proofs.GridLaws.{place-small, placed-4, placed-there}
-use borrow.Author.Needs.{needs}
 use Rattle.records.proofs.place.Statement.{statement}
 use Rattle.records.proofs.place.Tie as tie
 

@@ -2,9 +2,9 @@
 use mathlib.Core.Path.{sym, ap₂, _∙_}
 use mir.Syntax.{w64}
 use mir.ValLaws.{toZ-ofZ}
+use borrow.Author.Needs.{needs}
 use Rattle.records.specs.LogRecords.{isPlace}
 use Rattle.records.proofs.WriteLaws.{no-place, by-place}
-use borrow.Author.Needs.{needs}
 use Rattle.records.proofs.place_fits.Statement.{statement}
 use Rattle.records.proofs.place_fits.Tie as tie
 

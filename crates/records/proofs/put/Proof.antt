@@ -7,11 +7,11 @@ use lib.Ieee.{Float}
 use lib.ListN.{length, set}
 use mir.Syntax.{w64}
 use mir.ValLaws.{toZ-ofZ}
+use borrow.Author.Needs.{needs}
 use Rattle.fields.specs.Fields.{putAt}
 use Rattle.metres.specs.Patterns.{putNumberAt}
 use Rattle.records.specs.Writing.{inMetres, recordBytes}
 use Rattle.records.proofs.WriteLaws.{put-together, record-length}
-use borrow.Author.Needs.{needs}
 use Rattle.records.proofs.put.Statement.{statement}
 use Rattle.records.proofs.put.Tie as tie
 

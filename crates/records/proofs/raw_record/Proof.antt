@@ -1,7 +1,7 @@
 -- `records::raw_record` meets its contract: the length is tested, then the fields are gathered.
 use mathlib.Core.Path.{sym}
-use Rattle.records.proofs.LogLaws.{raw-1, raw-told}
 use borrow.Author.Needs.{needs}
+use Rattle.records.proofs.LogLaws.{raw-1, raw-told}
 use Rattle.records.proofs.raw_record.Statement.{statement}
 use Rattle.records.proofs.raw_record.Tie as tie
 

@@ -2,9 +2,9 @@
 use mathlib.Core.Path.{sym, ap, ap₂, _∙_}
 use mir.Syntax.{w64}
 use mir.ValLaws.{toZ-ofZ}
+use borrow.Author.Needs.{needs}
 use Rattle.records.specs.declared.LogEntry.the-variants.{Readings}
 use Rattle.records.specs.Gathered.{given}
-use borrow.Author.Needs.{needs}
 use Rattle.records.proofs.readings.Statement.{statement}
 use Rattle.records.proofs.readings.Tie as tie
 

@@ -2,10 +2,10 @@
 use Prim.Native.Nat.{ℕ, _<_}
 use mathlib.Core.Path.{_≡_, sym, ap, _∙_, subst⁻¹}
 use lib.ListN.{length, replicate}
+use borrow.Author.Needs.{needs}
 use Rattle.records.specs.declared.Draft.{Draft}
 use Rattle.records.specs.Writing.{refusalOf, recordBytes}
 use Rattle.records.proofs.WriteLaws.{buffer-written, buffer-zero, written-bytes, used-small}
-use borrow.Author.Needs.{needs}
 use Rattle.records.proofs.write.Statement.{statement}
 use Rattle.records.proofs.write.Tie as tie
 

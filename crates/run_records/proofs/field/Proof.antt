@@ -1,7 +1,6 @@
 -- `run_records::field` is safe, ends and stays in the line: i stays at most its length, and rises.
 use Prim.Native.Nat.{_-_, _≤_}
 use native.Mathlib.Omega.{arith}
-use borrow.Author.Needs.{needs}
 use lib.ListN.{length}
 use Rattle.run_records.proofs.field.Statement.{statement}
 use Rattle.run_records.proofs.field.Tie as tie
