@@ -4,15 +4,8 @@
 cd "$(dirname "$0")/.." && . tests/common.bash
 seed=${1:-20261115}
 
-requests=$(mktemp) printed=$(mktemp) wanted=$(mktemp) both=$(mktemp)
-trap 'rm -f "$requests" "$printed" "$wanted" "$both"' EXIT
-
-# The requests that have a reason, which the crate keeps with what must be printed of them; then sound records with each
-# byte set to other values, and 1,500 at random.
-python3 tests/records.py stdin >"$requests"
-pass_if 'the input of run_records has the requests that have a reason' cmp -s "$requests" crates/run_records/stdin
-python3 tests/records.py stdout <"$requests" >"$wanted"
-pass_if 'its output is what 01 gives for them' cmp -s "$wanted" crates/run_records/stdout
+# The requests that have a reason; then sound records with each byte set to other values, and 1,500 at random.
+ask records
 python3 tests/records.py sweep >>"$requests"
 python3 tests/records.py random "$seed" >>"$requests"
 python3 tests/records.py stdout <"$requests" >"$wanted"

@@ -4,14 +4,8 @@
 cd "$(dirname "$0")/.." && . tests/common.bash
 seed=${1:-20261115}
 
-requests=$(mktemp) printed=$(mktemp) wanted=$(mktemp) both=$(mktemp)
-trap 'rm -f "$requests" "$printed" "$wanted" "$both"' EXIT
-
-# The requests that have a reason, which the crate keeps with what must be printed of them, then 1,500 at random.
-python3 tests/search.py stdin >"$requests"
-pass_if 'the input of run_search has the requests that have a reason' cmp -s "$requests" crates/run_search/stdin
-python3 tests/search.py stdout <"$requests" >"$wanted"
-pass_if 'its output is what the rule gives for them' cmp -s "$wanted" crates/run_search/stdout
+# The requests that have a reason, then 1,500 at random.
+ask search
 python3 tests/search.py random "$seed" >>"$requests"
 python3 tests/search.py stdout <"$requests" >"$wanted"
 program run_search <"$requests" >"$printed"

@@ -20,8 +20,8 @@ use Rattle.records.specs.declared.LogRecord.{LogRecord}
 use Rattle.records.specs.declared.LogRecord.the-variants as log
 use Rattle.records.specs.declared.LogEntry.{LogEntry}
 use Rattle.records.specs.declared.LogEntry.the-variants as entry
-use Rattle.records.specs.Bytes.{byteAt, areZero}
-use Rattle.records.specs.LogRecords.{logBytes, rawRecordOf, isHyperbolic, isGrid, isHold, logRecordOf, placed, withBoth, inCentimetres, logEntryOf}
+use Rattle.records.specs.Bytes.{byteAt, numberIn, areZero}
+use Rattle.records.specs.LogRecords.{logBytes, rawIn, rawRecordOf, isHyperbolic, isGrid, isHold, logRecordOf, placed, withBoth, inCentimetres, logEntryOf}
 use Rattle.records.specs.Gathered.{IsRaw, pairOf, given}
 use Rattle.records.proofs.ByteLaws.{zero-byte, zero-one, zero-split, plus-zero-field}
 
@@ -54,14 +54,8 @@ module _ (s : List ℕ) (r : RawRecord) (h : IsRaw s r) where
   kind-is-not : (kind : ℕ) → (r .kind ≡ kind → ⊥) → eqb (byteAt s 0) kind ≡ false
   kind-is-not kind n = ne-eqb (byteAt s 0) kind (λ e. n (ap (λ (q : RawRecord). q .kind) (h .same) ∙ e))
 
-  first-is : isPlusZero (r .first) ≡ areZero 8 s 8
-  first-is = ap (λ (q : RawRecord). isPlusZero (q .first)) (h .same) ∙ plus-zero-field s 8 (h .bytes)
-
-  second-is : isPlusZero (r .second) ≡ areZero 8 s 16
-  second-is = ap (λ (q : RawRecord). isPlusZero (q .second)) (h .same) ∙ plus-zero-field s 16 (h .bytes)
-
-  third-is : isPlusZero (r .third) ≡ areZero 8 s 24
-  third-is = ap (λ (q : RawRecord). isPlusZero (q .third)) (h .same) ∙ plus-zero-field s 24 (h .bytes)
+  field-is : (field : RawRecord → Float) (at : ℕ) → field (rawIn s) ≡ numberIn s at → isPlusZero (field r) ≡ areZero 8 s at
+  field-is field at e = ap (λ (q : RawRecord). isPlusZero (field q)) (h .same) ∙ ap isPlusZero e ∙ plus-zero-field s at (h .bytes)
 
   -- The bytes that no kind uses: byte 2, byte 3, the third field.
   abbrev pub lastZero : Bool
@@ -80,7 +74,7 @@ module _ (s : List ℕ) (r : RawRecord) (h : IsRaw s r) where
   last-zero-3 e n = rw (two-zero, eq-eqb (r .byte_2) 0 e, ne-eqb (r .byte_3) 0 n)
 
   pub last-zero-third : r .byte_2 ≡ 0 → r .byte_3 ≡ 0 → lastZero ≡ isPlusZero (r .third)
-  last-zero-third e f = rw (two-zero, eq-eqb (r .byte_2) 0 e, eq-eqb (r .byte_3) 0 f) (sym third-is)
+  last-zero-third e f = rw (two-zero, eq-eqb (r .byte_2) 0 e, eq-eqb (r .byte_3) 0 f) (sym (field-is (λ (q : RawRecord). q .third) 24 refl))
 
   -- A hyperbolic record has no other bytes that must be zero.
   pub no-hyperbolic : (r .kind ≡ 1 → ⊥) → isHyperbolic s ≡ false
@@ -110,7 +104,9 @@ module _ (s : List ℕ) (r : RawRecord) (h : IsRaw s r) where
 
   -- A hold has all three fields.
   fields-zero : areZero 24 s 8 ≡ (isPlusZero (r .first) && (isPlusZero (r .second) && areZero 8 s 24))
-  fields-zero = rw (first-is, second-is) (zero-split 8 16 s 8 ∙ ap (λ (t : Bool). areZero 8 s 8 && t) (zero-split 8 8 s 16))
+  fields-zero =
+      rw (field-is (λ (q : RawRecord). q .first) 8 refl, field-is (λ (q : RawRecord). q .second) 16 refl)
+      (zero-split 8 16 s 8 ∙ ap (λ (t : Bool). areZero 8 s 8 && t) (zero-split 8 8 s 16))
 
   pub no-hold : (r .kind ≡ 3 → ⊥) → isHold s ≡ false
   no-hold n = rw (kind-is-not 3 n)

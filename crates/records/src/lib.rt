@@ -10,7 +10,7 @@ ghost use Rattle.records.specs.declared.LogEntry.the-variants as entry;
 ghost use Rattle.records.specs.Bytes.{byteAt, numberIn, areZero};
 ghost use Rattle.records.specs.LogRecords.{logBytes, rawRecordOf, isHyperbolic, isGrid, isHold, logRecordOf, isPlace, placed, logEntryOf};
 ghost use Rattle.records.specs.ChainTables.{chainBytes, isTable, oneTo, chainCountOf, placeAt, chainAt, chainOf};
-ghost use Rattle.records.specs.Jobs.{jobOf};
+ghost use Rattle.records.specs.Jobs.{jobBytes, jobOf};
 ghost use Rattle.records.specs.Writing.{numbersFit, placeFits, chainFits, refusalOf, usedOf, inMetres, recordBytes, bufferOf};
 ghost use Rattle.records.specs.Gathered.{IsRaw, pairOf, given};
 use chart::Chain;
@@ -228,7 +228,7 @@ fn gathered(s: &[u8]) -> RawRecord
     }
 }
 
-// Any number, the lowest byte first.
+// The line number: any value, the lowest byte first.
 fn line_number(s: &[u8]) -> u32
     requires { ⌜ length (now s) ≡ logBytes ⌝ }
     ensures { λ r. ⌜ r ≡ fieldAt 4 (now (s .entry)) 4 ⌝ }
@@ -377,7 +377,7 @@ fn is_place(x: i64, y: i64) -> bool
     })
 }
 
-// Whether so many bytes are 1 to 16 whole chains.
+// Whether these bytes are 1 to 16 whole chains.
 fn is_table(s: &[u8]) -> bool
     ensures { λ r. ⌜ r ≡ isTable (now (s .entry)) ⌝ }
 {
@@ -422,7 +422,7 @@ fn place_at(s: &[u8], at: usize) -> Place
 
 // The bytes of a job that must be zero.
 fn job_zeros(s: &[u8]) -> bool
-    requires { ⌜ length (now s) ≡ 32 ⌝ }
+    requires { ⌜ length (now s) ≡ jobBytes ⌝ }
     ensures { λ r. ⌜ r ≡ (areZero 3 (now (s .entry)) 9 && areZero 8 (now (s .entry)) 24) ⌝ }
 {
     if s[9] != 0 {
@@ -566,7 +566,7 @@ fn clear(buffer: &mut [u8])
 
 // The bytes of a record in a buffer that is clear.
 fn put(buffer: &mut [u8], d: Draft)
-    requires { ⌜ (now buffer ≡ replicate 32 0) × (d .kind < 256) × (d .chain < 256) ⌝ }
+    requires { ⌜ (now buffer ≡ replicate logBytes 0) × (d .kind < 256) × (d .chain < 256) ⌝ }
     ensures { λ _. ⌜ now (buffer .exit) ≡ recordBytes d ⌝ }
 {
     let x = in_metres(d.x);
