@@ -1,0 +1,105 @@
+-- The printed line of a record, and the whole output of the program as bytes (01, The program).
+use Prim.Native.Nat.{ℕ, zero, suc, _+_, _-_, _/_}
+use mathlib.Core.Bool.{Bool, cond}
+use mathlib.Core.List.{List, [], _∷_, _++_}
+use lib.Dec.{eqb, ltb}
+use lib.ListN.{length, take, drop}
+use Rattle.chart.specs.declared.Place.{Place}
+use Rattle.records.specs.declared.Job.{Job}
+use Rattle.records.specs.declared.JobAnswer.{JobAnswer}
+use Rattle.records.specs.declared.JobAnswer.the-variants as job
+use Rattle.records.specs.declared.ChainCount.{ChainCount}
+use Rattle.records.specs.declared.ChainCount.the-variants as count
+use Rattle.records.specs.LogRecords.{logBytes, rawIn}
+use Rattle.records.specs.ChainTables.{chainCountOf}
+use Rattle.records.specs.Jobs.{jobOf}
+use Rattle.listing.specs.declared.Carried.{Carried}
+use Rattle.listing.specs.declared.Carried.the-variants as carried
+use Rattle.listing.specs.declared.Listed.{Listed}
+use Rattle.listing.specs.declared.Listed.the-variants as listed
+use Rattle.listing.specs.Texts.{digitsOf, spaced, bytesIn}
+use Rattle.listing.specs.Answers.{RecordAnswer, Fix, Grid, Hold, Refused, answerOf, placesOf, carriedBy}
+
+-- What stands first in a record's line: its line number, or a dash where the record is too short to have one.
+unfoldable pub headOf : List ℕ → List ℕ
+headOf s = cond (eqb (length s) logBytes) (digitsOf (rawIn s .line)) (bytesIn "-")
+
+-- Easting and northing of each place.
+unfoldable pub placesText : List Place → List ℕ
+placesText [] = []
+placesText (p ∷ ps) = spaced (p .easting) ++ (spaced (p .northing) ++ placesText ps)
+
+-- What follows: the word; the count of places, or the number of the refusal; the visits; the places.
+unfoldable pub answerText : RecordAnswer → List ℕ
+answerText (Fix visits ps) = bytesIn " FIX" ++ (spaced (length ps) ++ (spaced visits ++ placesText ps))
+answerText (Grid p) = bytesIn " GRID" ++ (spaced 1 ++ (spaced 0 ++ placesText (p ∷ [])))
+answerText (Hold p) = bytesIn " HOLD" ++ (spaced 1 ++ (spaced 0 ++ placesText (p ∷ [])))
+answerText (Refused number visits) = bytesIn " REFUSED" ++ (spaced number ++ spaced visits)
+
+-- A record's line.
+abbrev pub lineOf : List ℕ → RecordAnswer → List ℕ
+lineOf s a = headOf s ++ (answerText a ++ bytesIn "\n")
+
+-- Some text of a listing, and the place that is carried on from it.
+pub record Part : Type 0 where
+  pub text : List ℕ
+  pub carried : Carried
+
+-- A line before the rest.
+abbrev pub lineBefore : List ℕ → Part → Part
+lineBefore line rest = record { text = line ++ rest .text; carried = rest .carried }
+
+-- What the first record of a log answers, and its line. A short one answers 1.
+abbrev pub firstAnswer : Job → List ℕ → Carried → List ℕ → RecordAnswer
+firstAnswer j table before log = answerOf j table before (take logBytes log)
+
+abbrev pub firstLine : Job → List ℕ → Carried → List ℕ → List ℕ
+firstLine j table before log = lineOf (take logBytes log) (firstAnswer j table before log)
+
+-- The lines of the first n records, each answered with the place that the one before it carries.
+unfoldable pub linesFrom : ℕ → Job → List ℕ → Carried → List ℕ → Part
+linesFrom zero j table before log = record { text = []; carried = before }
+linesFrom (suc n) j table before log =
+    lineBefore (firstLine j table before log) (linesFrom n j table (carriedBy (firstAnswer j table before log)) (drop logBytes log))
+
+-- How many records a log has, a short last one among them.
+abbrev pub recordsIn : List ℕ → ℕ
+recordsIn log = (length log + (logBytes - 1)) / logBytes
+
+-- The lines of a log.
+abbrev pub linesOf : Job → List ℕ → Carried → List ℕ → Part
+linesOf j table before log = linesFrom (recordsIn log) j table before log
+
+-- The only line where the job or the table is refused.
+abbrev pub noticeOf : List ℕ → ℕ → Part
+noticeOf word number = record { text = word ++ (bytesIn " REFUSED" ++ (spaced number ++ bytesIn "\n")); carried = carried.Nothing }
+
+-- The listing by the job and the count of chains: the job's refusal, then the table's, then the lines.
+unfoldable pub listingBy : JobAnswer → ChainCount → List ℕ → List ℕ → Carried → Part
+listingBy (job.Refused number) chains table log before = noticeOf (bytesIn "JOB") number
+listingBy (job.Job j) (count.Refused number) table log before = noticeOf (bytesIn "CHAIN") number
+listingBy (job.Job j) (count.Chains n) table log before = linesOf j table before log
+
+-- The listing of a log, or of a further part of one, by the bytes of job, table and log and the place carried to it.
+unfoldable pub listingFrom : List ℕ → List ℕ → List ℕ → Carried → Part
+listingFrom job table log before = listingBy (jobOf job) (chainCountOf table) table log before
+
+-- The whole output of the program for the bytes of job.dat, chain.dat and lay.dat.
+unfoldable pub listingOf : List ℕ → List ℕ → List ℕ → List ℕ
+listingOf job table log = listingFrom job table log carried.Nothing .text
+
+-- No line has more bytes than this.
+abbrev pub longestLine : ℕ
+longestLine = 5_700
+
+-- A buffer of so many bytes has room for the longest line for each whole record of a log, and for one more.
+abbrev pub hasRoom : ℕ → List ℕ → Bool
+hasRoom bytes log = ltb (length log / logBytes) (bytes / longestLine)
+
+-- What is answered of a listing put into such a buffer, and what the buffer then holds: the text, and behind it what it held
+-- before. Without the room, 9, and the buffer as it was.
+unfoldable pub listedIn : ℕ → List ℕ → Part → Listed
+listedIn bytes log p = cond (hasRoom bytes log) (listed.Text (length (p .text)) (p .carried)) (listed.Refused 9)
+
+unfoldable pub bufferWith : List ℕ → List ℕ → Part → List ℕ
+bufferWith out log p = cond (hasRoom (length out) log) (p .text ++ drop (length (p .text)) out) out

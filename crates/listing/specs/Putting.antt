@@ -1,0 +1,68 @@
+-- How the code puts text into a buffer: what its private functions promise each other. No public promise rests on it.
+use Prim.Native.Nat.{ℕ, _+_, _*_, _≤_}
+use mathlib.Core.Path.{_≡_}
+use mathlib.Core.List.{List, [], _∷_, _++_}
+use lib.ListN.{length, take, drop}
+use Rattle.search.specs.Answers.{entriesOf}
+use Rattle.listing.specs.declared.Word.{Word}
+use Rattle.listing.specs.declared.Word.the-variants as word
+use Rattle.listing.specs.declared.Told.{Told}
+use Rattle.listing.specs.declared.Listed.{Listed}
+use Rattle.listing.specs.declared.Listed.the-variants as listed
+use Rattle.listing.specs.Texts.{bytesIn, spaced}
+use Rattle.listing.specs.Answers.{RecordAnswer, Fix, Grid, Hold, Refused, programRoom, placesOf}
+use Rattle.listing.specs.Listings.{Part}
+
+-- A text was put into a buffer from `at` on, up to `end`, and nothing else in it changed.
+pub record Put (before : List ℕ) (at : ℕ) (text now : List ℕ) (end : ℕ) : Type 0 where
+  pub fits : at + length text ≤ length before
+  pub end-is : end ≡ at + length text
+  pub now-is : now ≡ take at before ++ (text ++ drop (at + length text) before)
+
+-- A listing was put at the start of a buffer, and this is answered of it.
+pub record Gives (before : List ℕ) (p : Part) (now : List ℕ) (answer : Listed) : Type 0 where
+  pub answer-is : answer ≡ listed.Text (length (p .text)) (p .carried)
+  pub now-is : now ≡ p .text ++ drop (length (p .text)) before
+
+-- The entries of the program's list: two to a place.
+abbrev pub listEntries : ℕ
+listEntries = 2 * programRoom
+
+-- The entries of a list, each behind a space.
+unfoldable pub entriesText : List ℕ → List ℕ
+entriesText [] = []
+entriesText (n ∷ ns) = spaced n ++ entriesText ns
+
+-- The word of a line.
+unfoldable pub wordText : Word → List ℕ
+wordText word.Fix = bytesIn " FIX"
+wordText word.Grid = bytesIn " GRID"
+wordText word.Hold = bytesIn " HOLD"
+wordText word.Refused = bytesIn " REFUSED"
+
+-- An answer's word, the two numbers behind it, and its places, in figures and a list.
+unfoldable pub wordOf : RecordAnswer → Word
+wordOf (Fix visits places) = word.Fix
+wordOf (Grid p) = word.Grid
+wordOf (Hold p) = word.Hold
+wordOf (Refused number visits) = word.Refused
+
+unfoldable pub figureOf : RecordAnswer → ℕ
+figureOf (Fix visits places) = length places
+figureOf (Grid p) = 1
+figureOf (Hold p) = 1
+figureOf (Refused number visits) = number
+
+unfoldable pub visitsOf : RecordAnswer → ℕ
+visitsOf (Fix visits places) = visits
+visitsOf (Grid p) = 0
+visitsOf (Hold p) = 0
+visitsOf (Refused number visits) = visits
+
+pub record Tells (a : RecordAnswer) (t : Told) (list : List ℕ) : Type 0 where
+  pub word : t .word ≡ wordOf a
+  pub figure : t .figure ≡ figureOf a
+  pub visits : t .visits ≡ visitsOf a
+  pub count : t .count ≡ length (placesOf a)
+  pub few : t .count ≤ programRoom
+  pub entries : take (2 * t .count) list ≡ entriesOf (placesOf a)

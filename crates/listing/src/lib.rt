@@ -1,0 +1,349 @@
+// The listing of a log as text: what each record answers, its line, and the lines of a whole log or of parts of it.
+ghost use mathlib.Core.Path.{_≡_};
+ghost use mathlib.Core.List.{List, _∷_, []};
+ghost use Prim.Native.Nat.{ℕ, _+_, _*_, _/_, _≤_, _<_, min};
+ghost use lib.ListN.{length, take};
+ghost use Rattle.chart.specs.declared.Place.{Place};
+ghost use Rattle.search.specs.Answers.{Outcome, entriesOf, searchFigures};
+ghost use Rattle.records.specs.declared.JobAnswer.the-variants as job;
+ghost use Rattle.records.specs.Bytes.{byteAt};
+ghost use Rattle.records.specs.LogRecords.{logBytes};
+ghost use Rattle.records.specs.ChainTables.{chainCountOf};
+ghost use Rattle.listing.specs.Texts.{digitsOf, spaced};
+ghost use Rattle.listing.specs.Answers.{RecordAnswer, Refused, fixBy, holdOf, answerOf, searched, carriedBy, only};
+ghost use Rattle.listing.specs.Listings.{headOf, lineOf, linesOf, noticeOf, listingBy, listingFrom, longestLine, listedIn, bufferWith};
+ghost use Rattle.listing.specs.Putting.{Put, Gives, Tells, listEntries, wordText, entriesText};
+use chart::Place;
+use records::ChainCount;
+use records::Job;
+use records::JobAnswer;
+use records::LogEntry;
+use records::NamedChain;
+use records::RawAnswer;
+use search::SearchFigures;
+
+// The place that a record hands on to the next one, for a hold.
+pub enum Carried {
+    Place(Place),
+    Nothing,
+}
+
+// A listing in a buffer: how many bytes of text there are, and the place carried on from its last record. Or the number of
+// a refusal.
+pub enum Listed {
+    Text { length: usize, carried: Carried },
+    Refused(u32),
+}
+
+enum Word {
+    Fix,
+    Grid,
+    Hold,
+    Refused,
+}
+
+// What a record answers, its places in a list. The figure is their count or the number of the refusal.
+struct Told {
+    word: Word,
+    figure: u64,
+    visits: u64,
+    count: usize,
+}
+
+// Where the text of the lines so far ends, and the place carried on.
+struct Standing {
+    end: usize,
+    carried: Carried,
+}
+
+const LOG_BYTES: usize = 32;
+
+const LONGEST_LINE: usize = 5_700;
+
+// Puts the listing of a log at the start of a buffer, or that of a further part of a log, with the place carried to it. The
+// buffer must have room for the longest line, 5,700 bytes, for each whole record of the log and for one more; else 9.
+pub fn list(out: &mut [u8], job: &[u8], table: &[u8], log: &[u8], before: Carried) -> Listed
+    ensures answer { λ r. ⌜ r ≡ listedIn (length (now (out .entry))) (now (log .entry)) (listingFrom (now (job .entry)) (now (table .entry)) (now (log .entry)) before) ⌝ }
+    ensures out { λ _. ⌜ now (out .exit) ≡ bufferWith (now (out .entry)) (now (log .entry)) (listingFrom (now (job .entry)) (now (table .entry)) (now (log .entry)) before) ⌝ }
+{
+    if out.len() / LONGEST_LINE <= log.len() / LOG_BYTES {
+        return Listed::Refused(9);
+    }
+    match records::job_of(job) {
+        JobAnswer::Job(j) => by_job(out, j, table, log, before),
+        JobAnswer::Refused(number) => notice(out, b"JOB", number),
+    }
+}
+
+fn by_job(out: &mut [u8], j: Job, table: &[u8], log: &[u8], before: Carried) -> Listed
+    requires { ⌜ length (now log) / logBytes < length (now out) / longestLine ⌝ }
+    ensures { λ r. ⌜ Gives (now (out .entry)) (listingBy (job.Job j) (chainCountOf (now (table .entry))) (now (table .entry)) (now (log .entry)) before) (now (out .exit)) r ⌝ }
+{
+    match records::chain_count(table) {
+        ChainCount::Chains(_) => lines(out, j, table, log, before),
+        ChainCount::Refused(number) => notice(out, b"CHAIN", number),
+    }
+}
+
+// The only line where job or table is refused.
+fn notice(out: &mut [u8], word: &[u8], number: u32) -> Listed
+    requires { ⌜ (length (now word) ≤ 5) × (longestLine ≤ length (now out)) ⌝ }
+    ensures { λ r. ⌜ Gives (now (out .entry)) (noticeOf (now (word .entry)) number) (now (out .exit)) r ⌝ }
+{
+    let a = put_text(out, 0, word);
+    let b = put_text(out, a, b" REFUSED");
+    let c = put_figure(out, b, number as u64);
+    let length = put_text(out, c, b"\n");
+    Listed::Text {
+        length,
+        carried: Carried::Nothing,
+    }
+}
+
+// The program's list has room for 256 places, two entries each.
+fn lines(out: &mut [u8], j: Job, table: &[u8], log: &[u8], before: Carried) -> Listed
+    requires { ⌜ length (now log) / logBytes < length (now out) / longestLine ⌝ }
+    ensures { λ r. ⌜ Gives (now (out .entry)) (linesOf j (now (table .entry)) before (now (log .entry))) (now (out .exit)) r ⌝ }
+{
+    let mut list = [0u32; 512];
+    let mut carried = before;
+    let mut length = 0;
+    let mut done = 0;
+    while done < log.len() {
+        let next = record_end(done, log.len());
+        let r = one(out, length, &mut list, j, table, &log[done..next], carried);
+        length = r.end;
+        carried = r.carried;
+        done = next;
+    }
+    Listed::Text { length, carried }
+}
+
+// Where the record that begins at done ends: the last may be short.
+fn record_end(done: usize, length: usize) -> usize
+    requires { ⌜ done < length ⌝ }
+    ensures { λ r. ⌜ r ≡ min (done + logBytes) length ⌝ }
+{
+    if length - done < LOG_BYTES {
+        return length;
+    }
+    done + LOG_BYTES
+}
+
+// The line of one record.
+fn one(
+    out: &mut [u8],
+    at: usize,
+    list: &mut [u32],
+    j: Job,
+    table: &[u8],
+    s: &[u8],
+    before: Carried,
+) -> Standing
+    requires { ⌜ (length (now list) ≡ listEntries) × (at + longestLine ≤ length (now out)) ⌝ }
+    ensures line { λ r. ⌜ Put (now (out .entry)) at (lineOf (now (s .entry)) (answerOf j (now (table .entry)) before (now (s .entry)))) (now (out .exit)) (r .end) ⌝ }
+    ensures carried { λ r. ⌜ r .carried ≡ carriedBy (answerOf j (now (table .entry)) before (now (s .entry))) ⌝ }
+{
+    let t = answer(list, j, table, s, before);
+    let end = put_line(out, at, list, s, t);
+    let carried = carry(list, t.count);
+    Standing { end, carried }
+}
+
+// What a record answers. Its places go to the list.
+fn answer(list: &mut [u32], j: Job, table: &[u8], s: &[u8], before: Carried) -> Told
+    requires { ⌜ length (now list) ≡ listEntries ⌝ }
+    ensures { λ r. ⌜ Tells (answerOf j (now (table .entry)) before (now (s .entry))) r (now (list .exit)) ⌝ }
+{
+    match records::log_entry(s) {
+        LogEntry::Readings { a, b } => fix(list, j, records::chain_of(table, chain_byte(s)), a, b),
+        LogEntry::Place(p) => single(list, Word::Grid, p),
+        LogEntry::Hold => hold(list, before),
+        LogEntry::Refused(number) => refused(number, 0),
+    }
+}
+
+fn chain_byte(s: &[u8]) -> u32
+    ensures { λ r. ⌜ r ≡ byteAt (now (s .entry)) 1 ⌝ }
+{
+    if s.len() < 2 {
+        return 0;
+    }
+    s[1] as u32
+}
+
+fn fix(list: &mut [u32], j: Job, chain: NamedChain, a: i64, b: i64) -> Told
+    requires { ⌜ length (now list) ≡ listEntries ⌝ }
+    ensures { λ r. ⌜ Tells (fixBy j a b chain) r (now (list .exit)) ⌝ }
+{
+    match chain {
+        NamedChain::Chain(c) => found(search::as_figures(search::search(
+            list,
+            c,
+            a,
+            b,
+            j.window,
+            j.tolerance,
+            j.allowance,
+        ))),
+        NamedChain::Refused(number) => refused(number, 0),
+    }
+}
+
+// A search's figures, its places in a list.
+fn found(f: SearchFigures) -> Told
+    ensures { λ r. ⌜ ((o : Outcome) (list : List ℕ) → f ≡ searchFigures (o .answer) → f .count ≡ length (o .places) → take (2 * f .count) list ≡ entriesOf (o .places) → Tells (searched o) r list) ⌝ }
+{
+    if f.refusal != 0 {
+        return refused(f.refusal, f.visits);
+    }
+    Told {
+        word: Word::Fix,
+        figure: f.count as u64,
+        visits: f.visits,
+        count: f.count,
+    }
+}
+
+// A hold repeats the place carried to it.
+fn hold(list: &mut [u32], before: Carried) -> Told
+    requires { ⌜ length (now list) ≡ listEntries ⌝ }
+    ensures { λ r. ⌜ Tells (holdOf before) r (now (list .exit)) ⌝ }
+{
+    match before {
+        Carried::Place(p) => single(list, Word::Hold, p),
+        Carried::Nothing => refused(11, 0),
+    }
+}
+
+fn single(list: &mut [u32], word: Word, p: Place) -> Told
+    requires { ⌜ length (now list) ≡ listEntries ⌝ }
+    ensures told { λ r. ⌜ r ≡ record { word = word; figure = 1; visits = 0; count = 1 } ⌝ }
+    ensures list { λ _. ⌜ take 2 (now (list .exit)) ≡ p .easting ∷ p .northing ∷ [] ⌝ }
+{
+    list[0] = p.easting;
+    list[1] = p.northing;
+    Told {
+        word,
+        figure: 1,
+        visits: 0,
+        count: 1,
+    }
+}
+
+fn refused(number: u32, visits: u64) -> Told
+    ensures { λ r. ⌜ ((list : List ℕ) → Tells (Refused number visits) r list) ⌝ }
+{
+    Told {
+        word: Word::Refused,
+        figure: number as u64,
+        visits,
+        count: 0,
+    }
+}
+
+// The place carried on: that of an answer with exactly one.
+fn carry(list: &[u32], count: usize) -> Carried
+    requires { ⌜ length (now list) ≡ listEntries ⌝ }
+    ensures { λ r. ⌜ ((ps : List Place) → count ≡ length ps → take (2 * count) (now (list .entry)) ≡ entriesOf ps → r ≡ only ps) ⌝ }
+{
+    if count != 1 {
+        return Carried::Nothing;
+    }
+    Carried::Place(Place {
+        easting: list[0],
+        northing: list[1],
+    })
+}
+
+fn put_line(out: &mut [u8], at: usize, list: &[u32], s: &[u8], t: Told) -> usize
+    requires { ⌜ (2 * t .count ≤ length (now list)) × (t .count ≤ 256) × (at + longestLine ≤ length (now out)) ⌝ }
+    ensures { λ r. ⌜ ((a : RecordAnswer) → Tells a t (now (list .entry)) → Put (now (out .entry)) at (lineOf (now (s .entry)) a) (now (out .exit)) r) ⌝ }
+{
+    let a = put_head(out, at, s);
+    let w = t.word;
+    let b = put_word(out, a, w);
+    let c = put_figure(out, b, t.figure);
+    let d = put_figure(out, c, t.visits);
+    let e = put_entries(out, d, list, 2 * t.count);
+    put_text(out, e, b"\n")
+}
+
+// The line number, or a dash where the record is too short to have one.
+fn put_head(out: &mut [u8], at: usize, s: &[u8]) -> usize
+    requires { ⌜ at + 10 ≤ length (now out) ⌝ }
+    ensures { λ r. ⌜ Put (now (out .entry)) at (headOf (now (s .entry))) (now (out .exit)) r ⌝ }
+{
+    match records::raw_record(s) {
+        RawAnswer::Record(r) => put_number(out, at, r.line as u64),
+        RawAnswer::Refused(_) => put_text(out, at, b"-"),
+    }
+}
+
+fn put_word(out: &mut [u8], at: usize, w: Word) -> usize
+    requires { ⌜ at + 8 ≤ length (now out) ⌝ }
+    ensures { λ r. ⌜ Put (now (out .entry)) at (wordText w) (now (out .exit)) r ⌝ }
+{
+    match w {
+        Word::Fix => put_text(out, at, b" FIX"),
+        Word::Grid => put_text(out, at, b" GRID"),
+        Word::Hold => put_text(out, at, b" HOLD"),
+        Word::Refused => put_text(out, at, b" REFUSED"),
+    }
+}
+
+// The first entries of a list.
+fn put_entries(out: &mut [u8], at: usize, list: &[u32], count: usize) -> usize
+    requires { ⌜ (count ≤ length (now list)) × (at + 11 * count ≤ length (now out)) ⌝ }
+    ensures { λ r. ⌜ Put (now (out .entry)) at (entriesText (take count (now (list .entry)))) (now (out .exit)) r ⌝ }
+{
+    let mut end = at;
+    let mut i = 0;
+    while i < count {
+        end = put_figure(out, end, list[i] as u64);
+        i += 1;
+    }
+    end
+}
+
+// A number behind a space.
+fn put_figure(out: &mut [u8], at: usize, n: u64) -> usize
+    requires { ⌜ at + length (spaced n) ≤ length (now out) ⌝ }
+    ensures { λ r. ⌜ Put (now (out .entry)) at (spaced n) (now (out .exit)) r ⌝ }
+{
+    let a = put_text(out, at, b" ");
+    put_number(out, a, n)
+}
+
+// A number in decimal, its first digits first.
+fn put_number(out: &mut [u8], at: usize, n: u64) -> usize
+    requires { ⌜ at + length (digitsOf n) ≤ length (now out) ⌝ }
+    ensures { λ r. ⌜ Put (now (out .entry)) at (digitsOf n) (now (out .exit)) r ⌝ }
+{
+    if n < 10 {
+        return put_digit(out, at, n);
+    }
+    let a = put_number(out, at, n / 10);
+    put_digit(out, a, n % 10)
+}
+
+fn put_digit(out: &mut [u8], at: usize, digit: u64) -> usize
+    requires { ⌜ (digit < 10) × (at < length (now out)) ⌝ }
+    ensures { λ r. ⌜ Put (now (out .entry)) at ((48 + digit) ∷ []) (now (out .exit)) r ⌝ }
+{
+    out[at] = 48 + digit as u8;
+    at + 1
+}
+
+// Some bytes, as they are.
+fn put_text(out: &mut [u8], at: usize, s: &[u8]) -> usize
+    requires { ⌜ at + length (now s) ≤ length (now out) ⌝ }
+    ensures { λ r. ⌜ Put (now (out .entry)) at (now (s .entry)) (now (out .exit)) r ⌝ }
+{
+    let mut i = 0;
+    while i < s.len() {
+        out[at + i] = s[i];
+        i += 1;
+    }
+    at + s.len()
+}
