@@ -3,6 +3,7 @@ use Prim.Native.Nat.{ℕ, _+_, _*_, _≤_}
 use mathlib.Core.Path.{_≡_}
 use mathlib.Core.List.{List, [], _∷_, _++_}
 use lib.ListN.{length, take, drop}
+use Rattle.chart.specs.declared.Place.{Place}
 use Rattle.search.specs.Answers.{entriesOf}
 use Rattle.listing.specs.declared.Word.{Word}
 use Rattle.listing.specs.declared.Word.the-variants as word
@@ -27,6 +28,12 @@ pub record Gives (before : List ℕ) (p : Part) (now : List ℕ) (answer : Liste
 -- The entries of the program's list: two to a place.
 abbrev pub listEntries : ℕ
 listEntries = 2 * programRoom
+
+-- A list begins with these places, so many, and not more than there is room for.
+pub record Begins (places : List Place) (n : ℕ) (list : List ℕ) : Type 0 where
+  pub count : n ≡ length places
+  pub few : n ≤ programRoom
+  pub entries : take (2 * n) list ≡ entriesOf places
 
 -- The entries of a list, each behind a space.
 unfoldable pub entriesText : List ℕ → List ℕ
@@ -63,6 +70,4 @@ pub record Tells (a : RecordAnswer) (t : Told) (list : List ℕ) : Type 0 where
   pub word : t .word ≡ wordOf a
   pub figure : t .figure ≡ figureOf a
   pub visits : t .visits ≡ visitsOf a
-  pub count : t .count ≡ length (placesOf a)
-  pub few : t .count ≤ programRoom
-  pub entries : take (2 * t .count) list ≡ entriesOf (placesOf a)
+  pub places : Begins (placesOf a) (t .count) list

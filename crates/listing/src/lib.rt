@@ -4,15 +4,15 @@ ghost use mathlib.Core.List.{List, _∷_, []};
 ghost use Prim.Native.Nat.{ℕ, _+_, _*_, _/_, _≤_, _<_, min};
 ghost use lib.ListN.{length, take};
 ghost use Rattle.chart.specs.declared.Place.{Place};
-ghost use Rattle.search.specs.Answers.{Outcome, entriesOf, searchFigures};
+ghost use Rattle.search.specs.Answers.{Outcome, searchFigures};
 ghost use Rattle.records.specs.declared.JobAnswer.the-variants as job;
 ghost use Rattle.records.specs.Bytes.{byteAt};
 ghost use Rattle.records.specs.LogRecords.{logBytes};
 ghost use Rattle.records.specs.ChainTables.{chainCountOf};
 ghost use Rattle.listing.specs.Texts.{digitsOf, spaced};
-ghost use Rattle.listing.specs.Answers.{RecordAnswer, Refused, fixBy, holdOf, answerOf, searched, carriedBy, only};
+ghost use Rattle.listing.specs.Answers.{RecordAnswer, Refused, fixBy, holdOf, answerOf, searched, carriedBy, only, programRoom};
 ghost use Rattle.listing.specs.Listings.{headOf, lineOf, linesOf, noticeOf, listingBy, listingFrom, longestLine, listedIn, bufferWith};
-ghost use Rattle.listing.specs.Putting.{Put, Gives, Tells, listEntries, wordText, entriesText};
+ghost use Rattle.listing.specs.Putting.{Put, Gives, Begins, Tells, listEntries, wordText, entriesText};
 use chart::Place;
 use records::ChainCount;
 use records::Job;
@@ -192,7 +192,7 @@ fn fix(list: &mut [u32], j: Job, chain: NamedChain, a: i64, b: i64) -> Told
 
 // A search's figures, its places in a list.
 fn found(f: SearchFigures) -> Told
-    ensures { λ r. ⌜ ((o : Outcome) (list : List ℕ) → f ≡ searchFigures (o .answer) → f .count ≡ length (o .places) → take (2 * f .count) list ≡ entriesOf (o .places) → Tells (searched o) r list) ⌝ }
+    ensures { λ r. ⌜ ((o : Outcome) (list : List ℕ) → f ≡ searchFigures (o .answer) → Begins (o .places) (f .count) list → Tells (searched o) r list) ⌝ }
 {
     if f.refusal != 0 {
         return refused(f.refusal, f.visits);
@@ -245,7 +245,7 @@ fn refused(number: u32, visits: u64) -> Told
 // The place carried on: that of an answer with exactly one.
 fn carry(list: &[u32], count: usize) -> Carried
     requires { ⌜ length (now list) ≡ listEntries ⌝ }
-    ensures { λ r. ⌜ ((ps : List Place) → count ≡ length ps → take (2 * count) (now (list .entry)) ≡ entriesOf ps → r ≡ only ps) ⌝ }
+    ensures { λ r. ⌜ ((ps : List Place) → Begins ps count (now (list .entry)) → r ≡ only ps) ⌝ }
 {
     if count != 1 {
         return Carried::Nothing;
@@ -257,7 +257,7 @@ fn carry(list: &[u32], count: usize) -> Carried
 }
 
 fn put_line(out: &mut [u8], at: usize, list: &[u32], s: &[u8], t: Told) -> usize
-    requires { ⌜ (2 * t .count ≤ length (now list)) × (t .count ≤ 256) × (at + longestLine ≤ length (now out)) ⌝ }
+    requires { ⌜ (length (now list) ≡ listEntries) × (t .count ≤ programRoom) × (at + longestLine ≤ length (now out)) ⌝ }
     ensures { λ r. ⌜ ((a : RecordAnswer) → Tells a t (now (list .entry)) → Put (now (out .entry)) at (lineOf (now (s .entry)) a) (now (out .exit)) r) ⌝ }
 {
     let a = put_head(out, at, s);

@@ -1,16 +1,21 @@
 -- What each end of a search lists and tells.
 use Prim.Native.Nat.{ℕ, _≤_}
 use mathlib.Core.Path.{_≡_, refl, subst, subst⁻¹}
-use mathlib.Core.Bool.{Bool, true, false}
+use mathlib.Core.Bool.{Bool, true, false, cond}
 use mathlib.Core.List.{List, [], _∷_, List·Memᴰ·not-nil}
 use native.Mathlib.Omega.{arith}
 use borrow.Author.Tests.{eqb-false}
+use lib.Dec.{leb, eqb}
 use lib.ListN.{length}
+use Rattle.chart.specs.Chains.{isSound}
 use Rattle.chart.specs.declared.Place.{Place}
 use Rattle.search.specs.declared.Window.{Window}
-use Rattle.search.specs.Windows.{IsCellIn}
-use Rattle.search.specs.Questions.{Question, matches}
-use Rattle.search.specs.Answers.{Outcome, gone, searchFigures}
+use Rattle.search.specs.declared.Answer.{Answer}
+use Rattle.search.specs.declared.Answer.the-variants.{ReadingTooLarge, Unsound, BadWindow, BadTolerance, NoRoom, AllowanceUsed}
+use Rattle.search.specs.Windows.{isWindow, IsCellIn}
+use Rattle.search.specs.Questions.{Question, mostTolerance, noneTooLarge, matches}
+use Rattle.search.specs.Walk.{Standing, start, visit}
+use Rattle.search.specs.Answers.{Outcome, refused, gone, ended, unless, searchOf, searchFigures}
 use Rattle.search.specs.Cells.{chartNumber, Rises, matchingIn, visitsIn, Listed}
 use Rattle.search.proofs.CellLaws.{matching-all}
 use Rattle.search.proofs.Order.{matching-rises}
@@ -41,6 +46,37 @@ pub gone-small : (ps : List Place) (v : ℕ) → searchFigures (gone ps v .answe
 unfolding searchFigures
 gone-small [] v = omega arith
 gone-small (p ∷ ps) v = omega arith
+
+-- An outcome whose count is that of its places.
+abbrev Counts : Outcome → Type 0
+Counts o = searchFigures (o .answer) .count ≡ length (o .places)
+
+either-counts : (b : Bool) (x y : Outcome) → Counts x → Counts y → Counts (cond b x y)
+either-counts true x y h k = h
+either-counts false x y h k = k
+
+test-counts : (b : Bool) (a : Answer) (rest : Unit {0} → Outcome) → Counts (refused a) → Counts (rest tt) → Counts (unless b a rest)
+test-counts true a rest h k = k
+test-counts false a rest h k = h
+
+end-counts : (s : Standing) → Counts (ended s)
+unfolding ended searchFigures
+end-counts s =
+    either-counts (eqb (s .stop) 10) (refused (AllowanceUsed (s .visits))) _ refl
+    (either-counts (eqb (s .stop) 9) (refused (NoRoom (s .visits))) _ refl (gone-counts (s .places)))
+  where
+    gone-counts : (ps : List Place) → Counts (gone ps (s .visits))
+    gone-counts [] = refl
+    gone-counts (p ∷ ps) = refl
+
+-- Every search has such an outcome.
+pub search-counts : (q : Question) (w : Window) → Counts (searchOf q w)
+unfolding searchOf searchFigures
+search-counts q w =
+    test-counts (noneTooLarge (q .wanted)) ReadingTooLarge _ refl
+    (test-counts (isSound (q .chain)) Unsound _ refl
+    (test-counts (isWindow w) BadWindow _ refl
+    (test-counts (leb (q .tolerance) mostTolerance) BadTolerance _ refl (end-counts (visit q (w .k) (w .corner) start)))))
 
 module _ (q : Question) (w : Window) where
   -- Whatever the end, what is listed is among the matching cells.

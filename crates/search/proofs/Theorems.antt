@@ -21,7 +21,7 @@ use Rattle.search.proofs.CellLaws.{those-none, cell-inside, matching-al
 use Rattle.search.proofs.Order.{rising-only}
 use Rattle.search.proofs.Counting.{at-most}
 use Rattle.search.proofs.Outcomes.{ample-complete, short-full, ending}
-use Rattle.search.proofs.Telling.{gone-places, gone-visits, gone-count, gone-small, places-of, rises-of, none-of, unmatched, spent-of}
+use Rattle.search.proofs.Telling.{gone-places, gone-visits, gone-count, gone-small, search-counts, places-of, rises-of, none-of, unmatched, spent-of}
 
 module _ (q : Question) (w : Window) where
   -- No cell is listed that does not lie in the window and match, whatever the room and the allowance.
@@ -71,6 +71,10 @@ module _ (q : Question) (w : Window) where
   pub places-are-counted : Accepted q w → AmpleRoom q w → AmpleAllowance q w → figuresIn q w .count ≡ length (matchingIn q w)
   places-are-counted a room enough =
       ap (λ (x : Outcome). searchFigures (x .answer) .count) (ample-complete q w a enough room) ∙ gone-count (matchingIn q w) (visitsIn q w)
+
+  -- The count is that of the places listed, whatever is answered.
+  pub listed-are-counted : figuresIn q w .count ≡ length (searchOf q w .places)
+  listed-are-counted = search-counts q w
 
   -- An allowance of (4^(k + 1) - 1) / 3 is ample in every window of side 2^k.
   pub always-enough : mostVisits (w .k) ≤ q .allowance → AmpleAllowance q w

@@ -1,0 +1,4 @@
+-- What follows from the definitions of the listing.
+pub mod Digits
+mod PutLaws
+mod TellLaws

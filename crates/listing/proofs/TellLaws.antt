@@ -1,0 +1,128 @@
+-- What a record answers, told in figures with its places in a list.
+use Prim.Native.Nat.{ℕ, _+_, _-_, _*_, _≤_}
+use mathlib.Core.Path.{_≡_, refl, sym, ap, ap₂, _∙_, subst, subst⁻¹}
+use mathlib.Core.Bool.{Bool, true, false}
+use mathlib.Core.List.{List, [], _∷_, _++_}
+use native.Mathlib.Omega.{arith}
+use borrow.Author.Tests.{eq-eqb, ne-eqb}
+use lib.Dec.{eqb}
+use lib.IntN.{ℤ}
+use lib.ListN.{length, getD, take, set, replicate, length-append}
+use lib.Seq.{take-at, getD-take, take-suc-set}
+use Rattle.chart.specs.declared.Place.{Place}
+use Rattle.search.specs.declared.SearchFigures.{SearchFigures}
+use Rattle.search.specs.Answers.{Outcome, entriesOf, listOf, searchFigures}
+use Rattle.records.specs.declared.Job.{Job}
+use Rattle.records.specs.declared.LogEntry.the-variants as entry
+use Rattle.records.specs.Bytes.{byteAt}
+use Rattle.records.specs.LogRecords.{logEntryOf}
+use Rattle.records.specs.ChainTables.{chainOf}
+use Rattle.listing.specs.declared.Carried.{Carried}
+use Rattle.listing.specs.declared.Carried.the-variants as carried
+use Rattle.listing.specs.declared.Word.the-variants as word
+use Rattle.listing.specs.declared.Told.{Told}
+use Rattle.listing.specs.Answers.{RecordAnswer, Fix, Grid, Hold, Refused, searched, fixBy, holdOf, answerBy, answerOf, placesOf, only}
+use Rattle.listing.specs.Putting.{Begins, Tells, listEntries, wordOf, figureOf, visitsOf}
+
+-- A list that begins with one place, or with none.
+one-first : (p : Place) (l : List ℕ) → take 2 l ≡ p .easting ∷ p .northing ∷ [] → Begins (p ∷ []) 1 l
+unfolding entriesOf
+one-first p l e = record { count = refl; few = omega arith; entries = e }
+
+none-first : (l : List ℕ) → Begins [] 0 l
+unfolding entriesOf
+none-first l = record { count = refl; few = omega arith; entries = refl }
+
+-- What is told of a refused answer, and of one with a single place.
+pub refused-tells : (number visits : ℕ) (l : List ℕ) → Tells (Refused number visits) (record { word = word.Refused; figure = number; visits = visits; count = 0 }) l
+unfolding wordOf figureOf visitsOf placesOf
+refused-tells number visits l = record { word = refl; figure = refl; visits = refl; places = none-first l }
+
+pub grid-tells : (p : Place) (l : List ℕ) → take 2 l ≡ p .easting ∷ p .northing ∷ [] → Tells (Grid p) (record { word = word.Grid; figure = 1; visits = 0; count = 1 }) l
+unfolding wordOf figureOf visitsOf placesOf
+grid-tells p l e = record { word = refl; figure = refl; visits = refl; places = one-first p l e }
+
+pub hold-tells : (p : Place) (l : List ℕ) → take 2 l ≡ p .easting ∷ p .northing ∷ [] → Tells (Hold p) (record { word = word.Hold; figure = 1; visits = 0; count = 1 }) l
+unfolding wordOf figureOf visitsOf placesOf
+hold-tells p l e = record { word = refl; figure = refl; visits = refl; places = one-first p l e }
+
+-- The places of a list, two entries each.
+pub length-entries : (ps : List Place) → length (entriesOf ps) ≡ 2 * length ps
+unfolding entriesOf
+length-entries [] = refl
+length-entries (p ∷ ps) = omega (arith, length-entries ps)
+
+-- The list of a search begins with its places.
+pub search-first : (ps : List Place) (count : ℕ) (l : List ℕ) → count ≡ length ps → length l ≡ listEntries → l ≡ listOf listEntries ps → Begins ps count l
+unfolding listOf
+search-first ps count l n size e =
+    let rest : List ℕ = replicate (listEntries - 2 * length ps) 0 in
+    record {
+      count = n;
+      few = omega (arith, n, size, ap length e, length-append (entriesOf ps) rest, length-entries ps);
+      entries =
+          ap₂ (λ (m : ℕ) (x : List ℕ). take (2 * m) x) n e
+          ∙ take-at (entriesOf ps) rest (2 * length ps) (length-entries ps);
+    }
+
+-- The only place of a list, by its entries.
+pub only-none : (ps : List Place) → (length ps ≡ 1 → ⊥) → carried.Nothing ≡ only ps
+unfolding only
+only-none [] h = refl
+only-none (p ∷ []) h = absurd (h refl)
+only-none (p ∷ q ∷ ps) h = refl
+
+pub only-one : (ps : List Place) (count : ℕ) (l : List ℕ) → count ≡ 1 → Begins ps count l → carried.Place (record { easting = getD l 0 0; northing = getD l 1 0 }) ≡ only ps
+unfolding only entriesOf
+only-one [] count l h b = absurd (omega (arith, h, b .count))
+only-one (p ∷ []) count l h b =
+    let e : take 2 l ≡ p .easting ∷ p .northing ∷ [] = subst (λ (n : ℕ). take (2 * n) l ≡ entriesOf (p ∷ [])) h (b .entries) in
+    ap₂ (λ (x y : ℕ). carried.Place (record { easting = x; northing = y }))
+    (sym (getD-take 2 l 0 0 (omega arith)) ∙ ap (λ (x : List ℕ). getD x 0 0) e)
+    (sym (getD-take 2 l 1 0 (omega arith)) ∙ ap (λ (x : List ℕ). getD x 1 0) e)
+only-one (p ∷ q ∷ ps) count l h b = absurd (omega (arith, h, b .count))
+
+-- Two entries put first stand first.
+pub two-first : (l : List ℕ) (e n : ℕ) → 2 ≤ length l → take 2 (set (set l 0 e) 1 n) ≡ e ∷ n ∷ []
+two-first [] e n h = absurd (omega (arith, h))
+two-first (a ∷ []) e n h = absurd (omega (arith, h))
+two-first (a ∷ b ∷ l) e n h = refl
+
+-- What a search's figures tell, its places in a list.
+pub search-tells : (o : Outcome) (f : SearchFigures) (l : List ℕ) → f ≡ searchFigures (o .answer) → Begins (o .places) (f .count) l → f .refusal ≡ 0 → Tells (searched o) (record { word = word.Fix; figure = f .count; visits = f .visits; count = f .count }) l
+unfolding searched wordOf figureOf visitsOf placesOf
+search-tells o f l e places none =
+    let passed : eqb (searchFigures (o .answer) .refusal) 0 ≡ true = eq-eqb _ 0 (sym (ap (λ (x : SearchFigures). x .refusal) e) ∙ none) in
+    rw passed
+    (record { word = refl; figure = places .count; visits = ap (λ (x : SearchFigures). x .visits) e; places = places })
+
+pub search-refused : (o : Outcome) (f : SearchFigures) → f ≡ searchFigures (o .answer) → (f .refusal ≡ 0 → ⊥) → Refused (f .refusal) (f .visits) ≡ searched o
+unfolding searched
+search-refused o f e some =
+    let failed : eqb (searchFigures (o .answer) .refusal) 0 ≡ false = ne-eqb _ 0 (λ z. some (ap (λ (x : SearchFigures). x .refusal) e ∙ z)) in
+    rw failed (ap (λ (x : SearchFigures). Refused (x .refusal) (x .visits)) e)
+
+-- What answers the same is told the same.
+pub tells-as : {a b : RecordAnswer} {t : Told} {l : List ℕ} → a ≡ b → Tells a t l → Tells b t l
+tells-as {a} {b} {t} {l} e h = subst (λ (x : RecordAnswer). Tells x t l) e h
+
+pub told-as : {a : RecordAnswer} {t u : Told} {l : List ℕ} → t ≡ u → Tells a u l → Tells a t l
+told-as {a} {t} {u} {l} e h = subst⁻¹ (λ (x : Told). Tells a x l) e h
+
+-- What a record answers, by its entry.
+module _ (j : Job) (table : List ℕ) (before : Carried) (s : List ℕ) where
+  pub answer-fix : (a b : ℤ) → logEntryOf s ≡ entry.Readings a b → fixBy j a b (chainOf table (byteAt s 1)) ≡ answerOf j table before s
+  unfolding answerOf answerBy
+  answer-fix a b e = sym (ap (answerBy j (chainOf table (byteAt s 1)) before) e)
+
+  pub answer-grid : (p : Place) → logEntryOf s ≡ entry.Place p → Grid p ≡ answerOf j table before s
+  unfolding answerOf answerBy
+  answer-grid p e = sym (ap (answerBy j (chainOf table (byteAt s 1)) before) e)
+
+  pub answer-hold : logEntryOf s ≡ entry.Hold → holdOf before ≡ answerOf j table before s
+  unfolding answerOf answerBy
+  answer-hold e = sym (ap (answerBy j (chainOf table (byteAt s 1)) before) e)
+
+  pub answer-refused : (number : ℕ) → logEntryOf s ≡ entry.Refused number → Refused number 0 ≡ answerOf j table before s
+  unfolding answerOf answerBy
+  answer-refused number e = sym (ap (answerBy j (chainOf table (byteAt s 1)) before) e)
