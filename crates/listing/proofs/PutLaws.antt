@@ -6,7 +6,10 @@ use native.Mathlib.Omega.{arith}
 use native.Mathlib.Numerals.{add-one}
 use lib.ListN.{length, getD, take, drop, set, take-append-drop, length-append, length-drop}
 use lib.Seq.{length-take-le, take-at, drop-append-add, drop-drop, set-split, take-suc}
-use Rattle.listing.specs.Putting.{Put}
+use Rattle.listing.specs.declared.Carried.{Carried}
+use Rattle.listing.specs.declared.Listed.the-variants as listed
+use Rattle.listing.specs.Listings.{Part}
+use Rattle.listing.specs.Putting.{Put, Gives}
 
 -- What stands before the end of a text that was put.
 front : (o : List ℕ) (at : ℕ) (x : List ℕ) → at + length x ≤ length o → length (take at o ++ x) ≡ at + length x
@@ -43,6 +46,10 @@ put-then {o} {at} {x} {o′} {end} {y} {o″} {end′} p q =
           ∙ ap (λ (z : List ℕ). take at o ++ z) (sym (append-assoc x y tail));
     }
 
+-- It ends no farther on than the text is long.
+pub end-within : {o : List ℕ} {at : ℕ} {x o′ : List ℕ} {end most : ℕ} → Put o at x o′ end → length x ≤ most → end ≤ at + most
+end-within p h = omega (arith, p .end-is, h)
+
 -- No text.
 pub put-none : (o : List ℕ) (at : ℕ) → at ≤ length o → Put o at [] o at
 put-none o at h =
@@ -69,3 +76,16 @@ put-more o at s o′ i h p room =
     let behind : at + i + 1 ≡ at + (i + 1) = omega arith in
     subst (λ (n : ℕ). Put o at (take (i + 1) s) (set o′ (at + i) (getD s i 0)) n) behind
     (subst⁻¹ (λ (x : List ℕ). Put o at x (set o′ (at + i) (getD s i 0)) (at + i + 1)) all (put-then p (put-one o′ (at + i) (getD s i 0) room)))
+
+-- Text that is the same is put the same.
+pub put-as : {o : List ℕ} {at : ℕ} {x y o′ : List ℕ} {end : ℕ} → x ≡ y → Put o at x o′ end → Put o at y o′ end
+put-as {o} {at} {x} {y} {o′} {end} e p = subst (λ (z : List ℕ). Put o at z o′ end) e p
+
+-- Text put at the start of a buffer is a listing in it.
+pub put-first : {o : List ℕ} {p : Part} {o′ : List ℕ} {end : ℕ} (place : Carried) → place ≡ p .carried → Put o 0 (p .text) o′ end → Gives o p o′ (listed.Text end place)
+put-first {o} {p} {o′} {end} place e h =
+    let none : 0 + length (p .text) ≡ length (p .text) = omega arith in
+    record {
+      answer-is = ap₂ listed.Text (h .end-is ∙ none) e;
+      now-is = h .now-is ∙ ap (λ (n : ℕ). p .text ++ drop n o) none;
+    }

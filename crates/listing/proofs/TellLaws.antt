@@ -10,10 +10,17 @@ use lib.IntN.{ℤ}
 use lib.ListN.{length, getD, take, set, replicate, length-append}
 use lib.Seq.{take-at, getD-take, take-suc-set}
 use Rattle.chart.specs.declared.Place.{Place}
+use Rattle.chart.specs.declared.Chain.{Chain}
+use Rattle.search.specs.declared.Window.{Window}
+use Rattle.search.specs.declared.Answer.{Answer}
 use Rattle.search.specs.declared.SearchFigures.{SearchFigures}
-use Rattle.search.specs.Answers.{Outcome, entriesOf, listOf, searchFigures}
+use Rattle.search.specs.Questions.{Question, questionOf}
+use Rattle.search.specs.Answers.{Outcome, searchOf, entriesOf, listOf, searchFigures, figuresIn}
+use Rattle.search.proofs.Theorems.{listed-are-counted}
 use Rattle.records.specs.declared.Job.{Job}
 use Rattle.records.specs.declared.LogEntry.the-variants as entry
+use Rattle.records.specs.declared.NamedChain.{NamedChain}
+use Rattle.records.specs.declared.NamedChain.the-variants as named
 use Rattle.records.specs.Bytes.{byteAt}
 use Rattle.records.specs.LogRecords.{logEntryOf}
 use Rattle.records.specs.ChainTables.{chainOf}
@@ -102,12 +109,39 @@ search-refused o f e some =
     let failed : eqb (searchFigures (o .answer) .refusal) 0 ≡ false = ne-eqb _ 0 (λ z. some (ap (λ (x : SearchFigures). x .refusal) e ∙ z)) in
     rw failed (ap (λ (x : SearchFigures). Refused (x .refusal) (x .visits)) e)
 
+-- The same of a search with the program's list.
+pub found-tells : (q : Question) (w : Window) (a : Answer) (f : SearchFigures) (t : Told) (l : List ℕ) →
+    f ≡ searchFigures a → a ≡ searchOf q w .answer → l ≡ listOf listEntries (searchOf q w .places) → length l ≡ listEntries →
+    ((o : Outcome) (l : List ℕ) → f ≡ searchFigures (o .answer) → Begins (o .places) (f .count) l → Tells (searched o) t l) →
+    Tells (searched (searchOf q w)) t l
+found-tells q w a f t l figures answer list size told =
+    let e : f ≡ figuresIn q w = figures ∙ ap searchFigures answer in
+    told (searchOf q w) l e
+    (search-first (searchOf q w .places) (f .count) l (ap (λ (x : SearchFigures). x .count) e ∙ listed-are-counted q w) size list)
+
 -- What answers the same is told the same.
 pub tells-as : {a b : RecordAnswer} {t : Told} {l : List ℕ} → a ≡ b → Tells a t l → Tells b t l
 tells-as {a} {b} {t} {l} e h = subst (λ (x : RecordAnswer). Tells x t l) e h
 
 pub told-as : {a : RecordAnswer} {t u : Told} {l : List ℕ} → t ≡ u → Tells a u l → Tells a t l
 told-as {a} {t} {u} {l} e h = subst⁻¹ (λ (x : Told). Tells a x l) e h
+
+-- A fix by a chain of the table.
+pub fix-tells : (j : Job) (chain : NamedChain) (c : Chain) (a b a′ b′ : ℤ) (n : ℕ) → chain ≡ named.Chain c → a′ ≡ a → b′ ≡ b → n ≡ listEntries →
+    let o = searchOf (questionOf c a′ b′ (j .tolerance) (j .allowance) n) (j .window) in
+    (answer : Answer) (f : SearchFigures) (t : Told) (l : List ℕ) →
+    f ≡ searchFigures answer → answer ≡ o .answer → l ≡ listOf n (o .places) → length l ≡ listEntries →
+    ((o : Outcome) (l : List ℕ) → f ≡ searchFigures (o .answer) → Begins (o .places) (f .count) l → Tells (searched o) t l) →
+    Tells (fixBy j a b chain) t l
+unfolding fixBy
+fix-tells j chain c a b a′ b′ n chained first second entries answer f t l figures answered list size told =
+    let asked : ℤ → ℤ → ℕ → Question = λ x y m. questionOf c x y (j .tolerance) (j .allowance) m in
+    let same : asked a′ b′ n ≡ asked a b listEntries = ap₂ (λ (x y : ℤ). asked x y n) first second ∙ ap (asked a b) entries in
+    tells-as (ap (λ (q : Question). searched (searchOf q (j .window))) same ∙ sym (ap (fixBy j a b) chained))
+    (found-tells (asked a′ b′ n) (j .window) answer f t l figures answered (list ∙ ap (λ (m : ℕ). listOf m (searchOf (asked a′ b′ n) (j .window) .places)) entries) size told)
+
+pub fix-same : (j : Job) (a b a′ b′ : ℤ) (x y : NamedChain) → a′ ≡ a → b′ ≡ b → x ≡ y → fixBy j a′ b′ x ≡ fixBy j a b y
+fix-same j a b a′ b′ x y first second e = ap₂ (λ (u v : ℤ). fixBy j u v x) first second ∙ ap (fixBy j a b) e
 
 -- What a record answers, by its entry.
 module _ (j : Job) (table : List ℕ) (before : Carried) (s : List ℕ) where

@@ -106,12 +106,26 @@ fn lines(out: &mut [u8], j: Job, table: &[u8], log: &[u8], before: Carried) -> L
     ensures { λ r. ⌜ Gives (now (out .entry)) (linesOf j (now (table .entry)) before (now (log .entry))) (now (out .exit)) r ⌝ }
 {
     let mut list = [0u32; 512];
+    each_line(out, &mut list, j, table, log, before)
+}
+
+fn each_line(
+    out: &mut [u8],
+    list: &mut [u32],
+    j: Job,
+    table: &[u8],
+    log: &[u8],
+    before: Carried,
+) -> Listed
+    requires { ⌜ (length (now list) ≡ listEntries) × (length (now log) / logBytes < length (now out) / longestLine) ⌝ }
+    ensures { λ r. ⌜ Gives (now (out .entry)) (linesOf j (now (table .entry)) before (now (log .entry))) (now (out .exit)) r ⌝ }
+{
     let mut carried = before;
     let mut length = 0;
     let mut done = 0;
     while done < log.len() {
         let next = record_end(done, log.len());
-        let r = one(out, length, &mut list, j, table, &log[done..next], carried);
+        let r = one(out, length, list, j, table, &log[done..next], carried);
         length = r.end;
         carried = r.carried;
         done = next;
@@ -272,7 +286,8 @@ fn put_line(out: &mut [u8], at: usize, list: &[u32], s: &[u8], t: Told) -> usize
 // The line number, or a dash where the record is too short to have one.
 fn put_head(out: &mut [u8], at: usize, s: &[u8]) -> usize
     requires { ⌜ at + 10 ≤ length (now out) ⌝ }
-    ensures { λ r. ⌜ Put (now (out .entry)) at (headOf (now (s .entry))) (now (out .exit)) r ⌝ }
+    ensures text { λ r. ⌜ Put (now (out .entry)) at (headOf (now (s .entry))) (now (out .exit)) r ⌝ }
+    ensures end { λ r. ⌜ r ≤ at + 10 ⌝ }
 {
     match records::raw_record(s) {
         RawAnswer::Record(r) => put_number(out, at, r.line as u64),
@@ -282,7 +297,8 @@ fn put_head(out: &mut [u8], at: usize, s: &[u8]) -> usize
 
 fn put_word(out: &mut [u8], at: usize, w: Word) -> usize
     requires { ⌜ at + 8 ≤ length (now out) ⌝ }
-    ensures { λ r. ⌜ Put (now (out .entry)) at (wordText w) (now (out .exit)) r ⌝ }
+    ensures text { λ r. ⌜ Put (now (out .entry)) at (wordText w) (now (out .exit)) r ⌝ }
+    ensures end { λ r. ⌜ r ≤ at + 8 ⌝ }
 {
     match w {
         Word::Fix => put_text(out, at, b" FIX"),
@@ -295,7 +311,8 @@ fn put_word(out: &mut [u8], at: usize, w: Word) -> usize
 // The first entries of a list.
 fn put_entries(out: &mut [u8], at: usize, list: &[u32], count: usize) -> usize
     requires { ⌜ (count ≤ length (now list)) × (at + 11 * count ≤ length (now out)) ⌝ }
-    ensures { λ r. ⌜ Put (now (out .entry)) at (entriesText (take count (now (list .entry)))) (now (out .exit)) r ⌝ }
+    ensures text { λ r. ⌜ Put (now (out .entry)) at (entriesText (take count (now (list .entry)))) (now (out .exit)) r ⌝ }
+    ensures end { λ r. ⌜ r ≤ at + 11 * count ⌝ }
 {
     let mut end = at;
     let mut i = 0;

@@ -1,0 +1,100 @@
+-- What a listing is worth: it may be made in parts, and what it is for an empty log, a short last record, a refused job or
+-- table, and a hold. These are theorems on the definitions by which the functions of `listing` answer.
+use Prim.Native.Nat.{ℕ, _%_, _≤_, _<_}
+use mathlib.Core.Path.{_≡_, refl, ap, ap₂, _∙_}
+use mathlib.Core.List.{List, [], _∷_, _++_}
+use lib.ListN.{length}
+use Rattle.chart.specs.declared.Place.{Place}
+use Rattle.records.specs.declared.Job.{Job}
+use Rattle.records.specs.declared.JobAnswer.{JobAnswer}
+use Rattle.records.specs.declared.JobAnswer.the-variants as answer
+use Rattle.records.specs.declared.ChainCount.{ChainCount}
+use Rattle.records.specs.declared.ChainCount.the-variants as count
+use Rattle.records.specs.declared.LogEntry.the-variants as entry
+use Rattle.records.specs.LogRecords.{logBytes, logEntryOf}
+use Rattle.records.specs.ChainTables.{chainCountOf}
+use Rattle.records.specs.Jobs.{jobOf}
+use Rattle.listing.specs.declared.Carried.{Carried}
+use Rattle.listing.specs.declared.Carried.the-variants as carried
+use Rattle.listing.specs.Texts.{spaced, bytesIn}
+use Rattle.listing.specs.Answers.{Fix, Grid, Hold, Refused, holdOf, answerBy, answerOf, placesOf, only, carriedBy}
+use Rattle.listing.specs.Listings.{Part, linesFrom, listingBy, listingFrom, listingOf}
+use Rattle.listing.proofs.Parts.{joined, short-line, listing-lines, listing-joined}
+
+-- Here the job and the table are accepted.
+module _ (job table : List ℕ) (j : Job) (n : ℕ)
+    (good : jobOf job ≡ answer.Job j) (known : chainCountOf table ≡ count.Chains n) where
+  -- Listing a log in parts of whole records, with the carried place handed on, is listing it whole: so the program may
+  -- stream.
+  pub in-parts : (before : Carried) (a b : List ℕ) → length a % logBytes ≡ 0 →
+      listingFrom job table (a ++ b) before
+      ≡ joined (listingFrom job table a before) (listingFrom job table b (listingFrom job table a before .carried))
+  in-parts = listing-joined job table j n good known
+
+  -- So the whole output is that of the first part, and behind it what the place carried makes of the rest.
+  pub then-the-rest : (a b : List ℕ) → length a % logBytes ≡ 0 →
+      listingOf job table (a ++ b)
+      ≡ listingOf job table a ++ listingFrom job table b (listingFrom job table a carried.Nothing .carried) .text
+  unfolding listingOf
+  then-the-rest a b h = ap (λ (p : Part). p .text) (in-parts carried.Nothing a b h)
+
+  -- Nothing is printed for an empty log.
+  pub empty-log : listingOf job table [] ≡ []
+  unfolding listingOf linesFrom
+  empty-log = ap (λ (p : Part). p .text) (listing-lines job table j n good known [] carried.Nothing)
+
+  -- A log may end in 1 to 31 bytes behind its whole records: they have a line of their own, with a dash.
+  pub short-tail : (a b : List ℕ) → length a % logBytes ≡ 0 → 1 ≤ length b → length b < logBytes →
+      listingOf job table (a ++ b) ≡ listingOf job table a ++ bytesIn "- REFUSED 1 0\n"
+  short-tail a b h some few =
+      let after = listingFrom job table a carried.Nothing .carried in
+      then-the-rest a b h
+      ∙ ap (λ (t : List ℕ). listingOf job table a ++ t)
+      (ap (λ (p : Part). p .text) (listing-lines job table j n good known b after) ∙ short-line j table after b some few)
+
+-- A refused job prints its refusal and nothing else, whatever the table and the log.
+pub job-first : (job table log : List ℕ) (number : ℕ) → jobOf job ≡ answer.Refused number →
+    listingOf job table log ≡ bytesIn "JOB REFUSED" ++ (spaced number ++ bytesIn "\n")
+unfolding listingOf listingFrom listingBy bytesIn
+job-first job table log number e =
+    ap (λ (t : JobAnswer). listingBy t (chainCountOf table) table log carried.Nothing .text) e
+
+-- An accepted job and a refused table print the refusal of the table.
+pub then-chain : (job table log : List ℕ) (j : Job) (number : ℕ) →
+    jobOf job ≡ answer.Job j → chainCountOf table ≡ count.Refused number →
+    listingOf job table log ≡ bytesIn "CHAIN REFUSED" ++ (spaced number ++ bytesIn "\n")
+unfolding listingOf listingFrom listingBy bytesIn
+then-chain job table log j number good e =
+    ap₂ (λ (t : JobAnswer) (c : ChainCount). listingBy t c table log carried.Nothing .text) good e
+
+-- What a record hands on to a hold behind it. One that is refused hands on nothing.
+pub refused-carries : (number visits : ℕ) → carriedBy (Refused number visits) ≡ carried.Nothing
+unfolding placesOf only
+refused-carries number visits = refl
+
+-- A fix hands on a place exactly if that is its only one.
+pub fix-carries : (visits : ℕ) (ps : List Place) (p : Place) →
+    (carriedBy (Fix visits ps) ≡ carried.Place p → ps ≡ p ∷ []) × (ps ≡ p ∷ [] → carriedBy (Fix visits ps) ≡ carried.Place p)
+unfolding placesOf only
+fix-carries visits [] p = ((λ e. cc), (λ e. cc))
+fix-carries visits (q ∷ []) p = ((λ e. cc), (λ e. cc))
+fix-carries visits (q ∷ r ∷ ps) p = ((λ e. cc), (λ e. cc))
+
+-- A grid record and a hold hand on their place.
+pub grid-carries : (p : Place) → carriedBy (Grid p) ≡ carried.Place p
+unfolding placesOf only
+grid-carries p = refl
+
+pub hold-carries : (p : Place) → carriedBy (Hold p) ≡ carried.Place p
+unfolding placesOf only
+hold-carries p = refl
+
+-- A hold repeats the place carried to it, and where nothing is carried it is refused by 11.
+pub hold-repeats : (j : Job) (table s : List ℕ) (p : Place) → logEntryOf s ≡ entry.Hold →
+    answerOf j table (carried.Place p) s ≡ Hold p
+unfolding answerOf answerBy holdOf
+hold-repeats j table s p e = rw e
+
+pub hold-alone : (j : Job) (table s : List ℕ) → logEntryOf s ≡ entry.Hold → answerOf j table carried.Nothing s ≡ Refused 11 0
+unfolding answerOf answerBy holdOf
+hold-alone j table s e = rw e

@@ -1,0 +1,80 @@
+-- `listing::put_head` meets its contract: the line number of a whole record, or the dash.
+use Prim.Native.Nat.{_≤_}
+use mathlib.Core.Path.{sym, _∙_}
+use native.Mathlib.Omega.{arith}
+use borrow.Author.Needs.{needs}
+use lib.ListN.{length}
+use Rattle.listing.specs.Texts.{digitsOf, bytesIn}
+use Rattle.listing.proofs.Digits.{digits-32}
+use Rattle.listing.proofs.PutLaws.{put-as, end-within}
+use Rattle.listing.proofs.LineLaws.{head-line, head-dash}
+use Rattle.listing.proofs.put_head.Statement.{statement}
+use Rattle.listing.proofs.put_head.Tie as tie
+
+raw-record-requires : tie.Need-raw-record-requires
+raw-record-requires c κs = search needs
+
+enum-known-r : tie.Need-enum-known-r
+enum-known-r c = search needs
+
+cast-put-number : tie.Need-cast-put-number
+cast-put-number c = search needs
+
+-- A line number has at most ten digits.
+line-short : (c : tie.After-struct-known) → length (digitsOf (c .before .before .before .r .given .0 .0 .line)) ≤ 10
+line-short c = digits-32 _ (search (needs, c .struct-known .given))
+
+put-number-requires : tie.Need-put-number-requires
+put-number-requires c κs =
+    let start = c .before .before .before .before .before .before .before .before in
+    omega (arith, start .pre, line-short c)
+
+enum-told : tie.Need-enum-told
+enum-told c = search needs
+
+slice-aggregate-put-text : tie.Need-slice-aggregate-put-text
+slice-aggregate-put-text c = search needs
+
+put-text-requires : tie.Need-put-text-requires
+put-text-requires c κs = search needs
+
+same-length : tie.Need-same-length
+same-length c = search needs
+
+returns : tie.Need-returns
+returns c =
+    let put = c .before .before in
+    let read = put .before .before .before .before .before .before in
+    let number = put .put-number .ensures in (
+      put-as (head-line _ _ (sym (read .raw-record .ensures) ∙ put .before .before .before .before .r .given .1)) number,
+      omega (arith, number .end-is, line-short (put .before)),
+    )
+
+same-length-2 : tie.Need-same-length-2
+same-length-2 c = search needs
+
+returns-2 : tie.Need-returns-2
+unfolding bytesIn
+returns-2 c =
+    let put = c .before .before in
+    let told = put .before .before .before in
+    let dash = put .put-text .ensures in (
+      put-as (head-dash _ _ (sym (told .before .before .raw-record .ensures) ∙ told .enum-told .given .1)) dash,
+      end-within dash (omega arith),
+    )
+
+pub put-head-spec : {M : Type 1} → statement M
+put-head-spec =
+    tie.close
+    (tie.spec
+    raw-record-requires
+    enum-known-r
+    cast-put-number
+    put-number-requires
+    enum-told
+    slice-aggregate-put-text
+    put-text-requires
+    same-length
+    returns
+    same-length-2
+    returns-2)
