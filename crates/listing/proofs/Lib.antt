@@ -5,4 +5,6 @@ mod Parts
 mod PutLaws
 mod TellLaws
 mod LineLaws
+mod EachLaws
+mod ListingLaws
 mod Worked

@@ -17,11 +17,7 @@ use Rattle.records.specs.Jobs.{jobOf}
 use Rattle.listing.specs.declared.Carried.{Carried}
 use Rattle.listing.specs.Texts.{lastDigits, digitsOf, bytesIn}
 use Rattle.listing.specs.Answers.{Refused, answerBy, answerOf, carriedBy}
-use Rattle.listing.specs.Listings.{headOf, answerText, Part, lineBefore, firstAnswer, firstLine, linesFrom, recordsIn, linesOf, listingBy, listingFrom}
-
--- One part behind another.
-abbrev pub joined : Part → Part → Part
-joined p q = record { text = p .text ++ q .text; carried = q .carried }
+use Rattle.listing.specs.Listings.{headOf, answerText, Part, lineBefore, joined, firstAnswer, firstLine, linesFrom, recordsIn, linesOf, listingBy, listingFrom}
 
 line-joined : (line : List ℕ) (p q : Part) → lineBefore line (joined p q) ≡ joined (lineBefore line p) q
 line-joined line p q = λ i. record { text = sym (append-assoc line (p .text) (q .text)) i; carried = q .carried }

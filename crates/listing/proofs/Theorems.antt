@@ -18,8 +18,8 @@ use Rattle.listing.specs.declared.Carried.{Carried}
 use Rattle.listing.specs.declared.Carried.the-variants as carried
 use Rattle.listing.specs.Texts.{spaced, bytesIn}
 use Rattle.listing.specs.Answers.{Fix, Grid, Hold, Refused, holdOf, answerBy, answerOf, placesOf, only, carriedBy}
-use Rattle.listing.specs.Listings.{Part, linesFrom, listingBy, listingFrom, listingOf}
-use Rattle.listing.proofs.Parts.{joined, short-line, listing-lines, listing-joined}
+use Rattle.listing.specs.Listings.{Part, joined, linesFrom, listingBy, listingFrom, listingOf}
+use Rattle.listing.proofs.Parts.{short-line, listing-lines, listing-joined}
 
 -- Here the job and the table are accepted.
 module _ (job table : List ℕ) (j : Job) (n : ℕ)

@@ -49,6 +49,10 @@ pub record Part : Type 0 where
 abbrev pub lineBefore : List ℕ → Part → Part
 lineBefore line rest = record { text = line ++ rest .text; carried = rest .carried }
 
+-- One part behind another.
+abbrev pub joined : Part → Part → Part
+joined first second = record { text = first .text ++ second .text; carried = second .carried }
+
 -- What the first record of a log answers, and its line. A short one answers 1.
 abbrev pub firstAnswer : Job → List ℕ → Carried → List ℕ → RecordAnswer
 firstAnswer j table before log = answerOf j table before (take logBytes log)
@@ -88,9 +92,9 @@ listingFrom job table log before = listingBy (jobOf job) (chainCountOf table) ta
 unfoldable pub listingOf : List ℕ → List ℕ → List ℕ → List ℕ
 listingOf job table log = listingFrom job table log carried.Nothing .text
 
--- No line has more bytes than this.
+-- No line has more bytes: 256 places take at most 22 each, and what stands before them and the newline less than 128.
 abbrev pub longestLine : ℕ
-longestLine = 5_700
+longestLine = 5_760
 
 -- A buffer of so many bytes has room for the longest line for each whole record of a log, and for one more.
 abbrev pub hasRoom : ℕ → List ℕ → Bool

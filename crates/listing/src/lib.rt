@@ -58,10 +58,10 @@ struct Standing {
 
 const LOG_BYTES: usize = 32;
 
-const LONGEST_LINE: usize = 5_700;
+const LONGEST_LINE: usize = 5_760;
 
 // Puts the listing of a log at the start of a buffer, or that of a further part of a log, with the place carried to it. The
-// buffer must have room for the longest line, 5,700 bytes, for each whole record of the log and for one more; else 9.
+// buffer must have room for the longest line, 5,760 bytes, for each whole record of the log and for one more; else 9.
 pub fn list(out: &mut [u8], job: &[u8], table: &[u8], log: &[u8], before: Carried) -> Listed
     ensures answer { λ r. ⌜ r ≡ listedIn (length (now (out .entry))) (now (log .entry)) (listingFrom (now (job .entry)) (now (table .entry)) (now (log .entry)) before) ⌝ }
     ensures out { λ _. ⌜ now (out .exit) ≡ bufferWith (now (out .entry)) (now (log .entry)) (listingFrom (now (job .entry)) (now (table .entry)) (now (log .entry)) before) ⌝ }
@@ -156,6 +156,7 @@ fn one(
 ) -> Standing
     requires { ⌜ (length (now list) ≡ listEntries) × (at + longestLine ≤ length (now out)) ⌝ }
     ensures line { λ r. ⌜ Put (now (out .entry)) at (lineOf (now (s .entry)) (answerOf j (now (table .entry)) before (now (s .entry)))) (now (out .exit)) (r .end) ⌝ }
+    ensures end { λ r. ⌜ r .end ≤ at + longestLine ⌝ }
     ensures carried { λ r. ⌜ r .carried ≡ carriedBy (answerOf j (now (table .entry)) before (now (s .entry))) ⌝ }
 {
     let t = answer(list, j, table, s, before);
@@ -272,7 +273,8 @@ fn carry(list: &[u32], count: usize) -> Carried
 
 fn put_line(out: &mut [u8], at: usize, list: &[u32], s: &[u8], t: Told) -> usize
     requires { ⌜ (length (now list) ≡ listEntries) × (t .count ≤ programRoom) × (at + longestLine ≤ length (now out)) ⌝ }
-    ensures { λ r. ⌜ ((a : RecordAnswer) → Tells a t (now (list .entry)) → Put (now (out .entry)) at (lineOf (now (s .entry)) a) (now (out .exit)) r) ⌝ }
+    ensures text { λ r. ⌜ ((a : RecordAnswer) → Tells a t (now (list .entry)) → Put (now (out .entry)) at (lineOf (now (s .entry)) a) (now (out .exit)) r) ⌝ }
+    ensures end { λ r. ⌜ r ≤ at + longestLine ⌝ }
 {
     let a = put_head(out, at, s);
     let w = t.word;
@@ -310,7 +312,7 @@ fn put_word(out: &mut [u8], at: usize, w: Word) -> usize
 
 // The first entries of a list.
 fn put_entries(out: &mut [u8], at: usize, list: &[u32], count: usize) -> usize
-    requires { ⌜ (count ≤ length (now list)) × (at + 11 * count ≤ length (now out)) ⌝ }
+    requires { ⌜ (count ≤ length (now list)) × (at + 11 * count + 10 ≤ length (now out)) ⌝ }
     ensures text { λ r. ⌜ Put (now (out .entry)) at (entriesText (take count (now (list .entry)))) (now (out .exit)) r ⌝ }
     ensures end { λ r. ⌜ r ≤ at + 11 * count ⌝ }
 {
@@ -325,8 +327,9 @@ fn put_entries(out: &mut [u8], at: usize, list: &[u32], count: usize) -> usize
 
 // A number behind a space.
 fn put_figure(out: &mut [u8], at: usize, n: u64) -> usize
-    requires { ⌜ at + length (spaced n) ≤ length (now out) ⌝ }
-    ensures { λ r. ⌜ Put (now (out .entry)) at (spaced n) (now (out .exit)) r ⌝ }
+    requires { ⌜ at + 21 ≤ length (now out) ⌝ }
+    ensures text { λ r. ⌜ Put (now (out .entry)) at (spaced n) (now (out .exit)) r ⌝ }
+    ensures end { λ r. ⌜ r ≤ at + 21 ⌝ }
 {
     let a = put_text(out, at, b" ");
     put_number(out, a, n)

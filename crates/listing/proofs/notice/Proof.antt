@@ -5,7 +5,6 @@ use native.Mathlib.Omega.{arith}
 use borrow.Author.Needs.{needs}
 use Rattle.listing.specs.declared.Carried.the-variants as carried
 use Rattle.listing.specs.Texts.{bytesIn}
-use Rattle.listing.proofs.Digits.{digits-32}
 use Rattle.listing.proofs.PutLaws.{put-then, put-first}
 use Rattle.listing.proofs.notice.Statement.{statement}
 use Rattle.listing.proofs.notice.Tie as tie
@@ -25,7 +24,7 @@ put-figure-requires c κs =
     let first = second .before .before .before .before .before in
     let start = first .before .before .before .before in
     let e : second .put-text2 .result ≡ first .put-text .result + 8 = second .put-text2 .ensures .end-is in
-    omega (arith, start .pre, digits-32 (start .args .number) (start .fits .number .fits), e, first .put-text .ensures .end-is, first .put-text .kept .0, second .put-text2 .kept .0)
+    omega (arith, start .pre, e, first .put-text .ensures .end-is, first .put-text .kept .0, second .put-text2 .kept .0)
 
 slice-aggregate-put-text-2 : tie.Need-slice-aggregate-put-text-2
 slice-aggregate-put-text-2 c = search needs
@@ -37,7 +36,7 @@ put-text-requires-3 c κs =
     let first = second .before .before .before .before .before in
     let start = first .before .before .before .before in
     let e : second .put-text2 .result ≡ first .put-text .result + 8 = second .put-text2 .ensures .end-is in
-    omega (arith, start .pre, digits-32 (start .args .number) (start .fits .number .fits), e, first .put-text .ensures .end-is, third .put-figure .ensures .end-is, first .put-text .kept .0, second .put-text2 .kept .0, third .put-figure .kept .0)
+    omega (arith, start .pre, e, first .put-text .ensures .end-is, third .put-figure .ensures .1, first .put-text .kept .0, second .put-text2 .kept .0, third .put-figure .kept .0)
 
 same-length : tie.Need-same-length
 same-length c = search needs
@@ -50,7 +49,7 @@ returns c =
     let second = third .before .before .before .before in
     let first = second .before .before .before .before .before in
     put-first carried.Nothing refl
-    (put-then (first .put-text .ensures) (put-then (second .put-text2 .ensures) (put-then (third .put-figure .ensures) (fourth .put-text3 .ensures))))
+    (put-then (first .put-text .ensures) (put-then (second .put-text2 .ensures) (put-then (third .put-figure .ensures .0) (fourth .put-text3 .ensures))))
 
 pub notice-spec : {M : Type 1} → statement M
 notice-spec =

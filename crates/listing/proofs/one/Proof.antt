@@ -1,11 +1,7 @@
+-- `listing::one` meets its contract: the answer, its line, and the place that it carries.
 use borrow.Author.Needs.{needs}
 use Rattle.listing.proofs.one.Statement.{statement}
 use Rattle.listing.proofs.one.Tie as tie
-use Rattle.listing.proofs.one.Reads as reads
-use Rattle.listing.proofs.one.Lts as lts
-use Rattle.listing.proofs.answer.Reads as answer-reads
-use Rattle.listing.proofs.carry.Reads as carry-reads
-use Rattle.listing.proofs.put_line.Reads as put-line-reads
 
 answer-requires : tie.Need-answer-requires
 answer-requires c κs = search needs
@@ -23,7 +19,10 @@ same-length-2 : tie.Need-same-length-2
 same-length-2 c = search needs
 
 returns : tie.Need-returns
-returns c = ?
+returns c =
+    let put = c .before .before .before .before in
+    let told = put .before .before .before .before .before .answer .ensures in
+    (put .put-line .ensures .0 _ told, (put .put-line .ensures .1, c .carry .ensures _ (told .places)))
 
 pub one-spec : {M : Type 1} → statement M
 one-spec =

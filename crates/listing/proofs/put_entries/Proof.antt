@@ -38,8 +38,7 @@ put-figure-requires : tie.Need-put-figure-requires Inv-loop μ-loop
 put-figure-requires c κs =
     let loop = c .before .before .before .loop in
     let start = c .before .before .before .before .before .before in
-    let n = getD (start .args .list .now) (loop .i) 0 in
-    omega (arith, start .pre .1, loop .inv .2, put-length (loop .inv .0), digits-32 n (c .shared-slice-known2 .given (loop .i) .fits))
+    omega (arith, start .pre .1, loop .inv .2, put-length (loop .inv .0))
 
 add-i : tie.Need-add-i Inv-loop μ-loop
 add-i c = omega arith
@@ -55,9 +54,9 @@ loop-again c =
     let start = at-loop .before .before .before in
     let l = start .args .list .now in
     let n = getD l (loop .i) 0 in (
-      put-as (entries-more l (loop .i) (omega (arith, start .pre .0))) (put-then (loop .inv .0) (put .put-figure .ensures)),
+      put-as (entries-more l (loop .i) (omega (arith, start .pre .0))) (put-then (loop .inv .0) (put .put-figure .ensures .0)),
       omega arith,
-      omega (arith, loop .inv .2, put .put-figure .ensures .end-is, digits-32 n (put .before .shared-slice-known2 .given (loop .i) .fits)),
+      omega (arith, loop .inv .2, put .put-figure .ensures .0 .end-is, digits-32 n (put .before .shared-slice-known2 .given (loop .i) .fits)),
     )
 
 same-length : tie.Need-same-length Inv-loop μ-loop

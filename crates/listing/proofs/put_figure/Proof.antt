@@ -1,5 +1,9 @@
 -- `listing::put_figure` meets its contract: a space, then the number.
+use Prim.Native.Nat.{_+_}
+use mathlib.Core.Path.{_≡_}
+use native.Mathlib.Omega.{arith}
 use borrow.Author.Needs.{needs}
+use Rattle.listing.proofs.Digits.{digits-64}
 use Rattle.listing.proofs.PutLaws.{put-then}
 use Rattle.listing.proofs.put_figure.Statement.{statement}
 use Rattle.listing.proofs.put_figure.Tie as tie
@@ -11,14 +15,23 @@ put-text-requires : tie.Need-put-text-requires
 put-text-requires c κs = search needs
 
 put-number-requires : tie.Need-put-number-requires
-put-number-requires c κs = search needs
+put-number-requires c κs =
+    let first = c .before .before .before in
+    let start = first .before .before .before .before in
+    let space : first .put-text .result ≡ start .args .at + 1 = first .put-text .ensures .end-is in
+    omega (arith, start .pre, space, first .put-text .kept .0, digits-64 (start .args .n) (start .fits .n .fits))
 
 same-length : tie.Need-same-length
 same-length c = search needs
 
 returns : tie.Need-returns
 returns c =
-    put-then (c .before .before .before .before .before .before .put-text .ensures) (c .before .before .put-number .ensures)
+    let second = c .before .before in
+    let first = second .before .before .before .before in
+    let start = first .before .before .before .before in
+    let space : first .put-text .result ≡ start .args .at + 1 = first .put-text .ensures .end-is in
+    let number = second .put-number .ensures in
+    (put-then (first .put-text .ensures) number, omega (arith, space, number .end-is, digits-64 (start .args .n) (start .fits .n .fits)))
 
 pub put-figure-spec : {M : Type 1} → statement M
 put-figure-spec =

@@ -1,0 +1,54 @@
+-- A listing by its job and its table, and what is answered of it in a buffer.
+use Prim.Native.Nat.{ℕ, _/_, _≤_, _<_}
+use mathlib.Core.Path.{_≡_, refl, sym, ap, subst}
+use mathlib.Core.List.{List}
+use borrow.Author.Tests.{lt-ltb, le-ltb}
+use lib.ListN.{length}
+use Rattle.records.specs.declared.Job.{Job}
+use Rattle.records.specs.declared.JobAnswer.{JobAnswer}
+use Rattle.records.specs.declared.JobAnswer.the-variants as job
+use Rattle.records.specs.declared.ChainCount.{ChainCount}
+use Rattle.records.specs.declared.ChainCount.the-variants as count
+use Rattle.records.specs.LogRecords.{logBytes}
+use Rattle.records.specs.ChainTables.{chainCountOf}
+use Rattle.records.specs.Jobs.{jobOf}
+use Rattle.listing.specs.declared.Carried.{Carried}
+use Rattle.listing.specs.declared.Listed.{Listed}
+use Rattle.listing.specs.declared.Listed.the-variants as listed
+use Rattle.listing.specs.Texts.{bytesIn}
+use Rattle.listing.specs.Listings.{Part, linesOf, noticeOf, listingBy, listingFrom, longestLine, listedIn, bufferWith}
+use Rattle.listing.specs.Putting.{Gives}
+
+-- The same listing is given the same.
+pub gives-as : {o : List ℕ} {p q : Part} {o′ : List ℕ} {a : Listed} → p ≡ q → Gives o p o′ a → Gives o q o′ a
+gives-as {o} {p} {q} {o′} {a} e h = subst (λ (x : Part). Gives o x o′ a) e h
+
+module _ (table log : List ℕ) (before : Carried) where
+  -- With a job, by the count of chains.
+  pub by-chains : (j : Job) (n : ℕ) → chainCountOf table ≡ count.Chains n → linesOf j table before log ≡ listingBy (job.Job j) (chainCountOf table) table log before
+  unfolding listingBy
+  by-chains j n e = sym (ap (λ (c : ChainCount). listingBy (job.Job j) c table log before) e)
+
+  pub no-chains : (j : Job) (n : ℕ) → chainCountOf table ≡ count.Refused n → noticeOf (bytesIn "CHAIN") n ≡ listingBy (job.Job j) (chainCountOf table) table log before
+  unfolding listingBy
+  no-chains j n e = sym (ap (λ (c : ChainCount). listingBy (job.Job j) c table log before) e)
+
+  -- By the job.
+  pub by-job : (s : List ℕ) (j : Job) → jobOf s ≡ job.Job j → listingBy (job.Job j) (chainCountOf table) table log before ≡ listingFrom s table log before
+  unfolding listingFrom
+  by-job s j e = sym (ap (λ (a : JobAnswer). listingBy a (chainCountOf table) table log before) e)
+
+  pub no-job : (s : List ℕ) (n : ℕ) → jobOf s ≡ job.Refused n → noticeOf (bytesIn "JOB") n ≡ listingFrom s table log before
+  unfolding listingFrom listingBy
+  no-job s n e = sym (ap (λ (a : JobAnswer). listingBy a (chainCountOf table) table log before) e)
+
+module _ (out log : List ℕ) (p : Part) where
+  -- With room, what is given; without, 9.
+  pub with-room : length log / logBytes < length out / longestLine → (out′ : List ℕ) (a : Listed) → Gives out p out′ a →
+      (a ≡ listedIn (length out) log p) × (out′ ≡ bufferWith out log p)
+  unfolding listedIn bufferWith
+  with-room h out′ a g = rw (lt-ltb (length log / logBytes) (length out / longestLine) h) (g .answer-is, g .now-is)
+
+  pub without-room : length out / longestLine ≤ length log / logBytes → (listed.Refused 9 ≡ listedIn (length out) log p) × (out ≡ bufferWith out log p)
+  unfolding listedIn bufferWith
+  without-room h = rw (le-ltb (length log / logBytes) (length out / longestLine) h) (refl, refl)
