@@ -1,0 +1,2 @@
+-- The law on the length of a listing's text.
+mod TextLaws
