@@ -1,5 +1,6 @@
 # What the tests share: counting, asking a program, and running one of target/bin on this machine.
 set -euo pipefail
+. tests/program.bash
 passed=0
 
 # pass_if WORDS TEST...: counts the test where it holds, and ends with the words where it does not.
@@ -24,15 +25,4 @@ ask() {
     pass_if "the input of run_$1 has the requests that have a reason" cmp -s "$requests" "crates/run_$1/stdin"
     python3 "tests/$1.py" stdout <"$requests" >"$wanted"
     pass_if "its output is what must be printed of them" cmp -s "$wanted" "crates/run_$1/stdout"
-}
-
-# Programs are for x86-64. They run under the toolchain's own loader and C library, which `rt doc` leads to, and where the
-# machine is another one under the toolchain's emulator.
-program() {
-    local kit tools emulator
-    kit=$(cd "$(dirname "$(rt doc)")/.." && pwd -P)
-    tools=$kit/on/$(uname -m)/toolchain
-    emulator=$tools/bin/qemu-x86_64
-    [ -x "$emulator" ] || emulator=
-    ${emulator:+"$emulator"} "$tools/lib/ld-linux-x86-64.so.2" --library-path "$tools/lib" "target/bin/$1"
 }
