@@ -1,0 +1,524 @@
+#!/usr/bin/env python3
+"""Listings of lay logs as document 01 says, in whole numbers, and folders to list.
+
+    listing.py list FOLDER             the listing of the job.dat, chain.dat and lay.dat in a folder
+    listing.py examples FOLDER         writes the folders of examples/ into a folder
+    listing.py cases FOLDER            writes folders that have a reason
+    listing.py edges FOLDER            writes folders whose logs end about the edges of the program's buffers
+    listing.py long FOLDER             writes folders of long logs, and of long lines
+    listing.py random SEED FOLDER      writes 200 folders at random
+    listing.py memory FOLDER PROGRAM   the most memory, in kilobytes, that a program held when it had listed most of a folder
+
+A folder that is written has the three files, or those that its case has, and in `listing` what must be printed of them.
+Records, tables and jobs are read as records.py reads them, and searches answered as search.py answers them.
+"""
+import fcntl
+import os
+import random
+import subprocess
+import sys
+from functools import lru_cache
+from importlib import util
+from itertools import chain, islice
+from typing import NamedTuple
+
+sys.dont_write_bytecode = True
+
+
+def beside_this(name):
+    """What another file of this folder defines. Called with no words, as here, it ends once all is defined."""
+    path = os.path.join(os.path.dirname(os.path.abspath(__file__)), name)
+    spec = util.spec_from_file_location(name, path)
+    module = util.module_from_spec(spec)
+    words, sys.argv = sys.argv, [path]
+    try:
+        spec.loader.exec_module(module)
+    except SystemExit:
+        pass
+    sys.argv = words
+    return module
+
+
+records = beside_this("records.py")
+search = beside_this("search.py")
+EAST, NORTH = records.EAST, records.NORTH
+flat = chain.from_iterable
+FILES = "job.dat", "chain.dat", "lay.dat"
+ROOM = 256
+
+
+class Folder(NamedTuple):
+    """The bytes of the three files; None where a file is missing."""
+
+    job: bytes
+    table: bytes
+    log: bytes
+
+
+class Answer(NamedTuple):
+    """What a record answers. The figure is the count of places, or the number of the refusal."""
+
+    word: str
+    figure: int
+    visits: int
+    places: list
+
+
+def given(word, places, visits=0):
+    return Answer(word, len(places), visits, places)
+
+
+def refused(number, visits=0):
+    return Answer("REFUSED", number, visits, [])
+
+
+def after(word, told):
+    words = told.split()
+    return words[words.index(word) + 1 :]
+
+
+def pairs(words):
+    numbers = [int(word) for word in words]
+    return list(zip(numbers[0::2], numbers[1::2]))
+
+
+searched = lru_cache(maxsize=None)(search.answer)
+
+
+def fix(question, table, number, wanted):
+    stations = after("chain", records.table_told(number, table))
+    if stations[0] == "refused":
+        return refused(int(stations[1]))
+    master, a, b = pairs(stations)
+    refusal, visits, places = searched(question._replace(master=master, a=a, b=b, wanted=wanted))
+    return refused(refusal, visits) if refusal else given("FIX", places, visits)
+
+
+def answer(question, table, held, record):
+    """What a record answers; `held` has the place that a hold repeats, or nothing."""
+    what, *rest = after("entry", records.entry_told(record))
+    if what == "refused":
+        return refused(int(rest[0]))
+    if what == "hold":
+        return given("HOLD", held) if held else refused(11)
+    (numbers,) = pairs(rest)
+    return given("GRID", [numbers]) if what == "place" else fix(question, table, record[1], numbers)
+
+
+def records_of(log):
+    return (log[at : at + 32] for at in range(0, len(log), 32))
+
+
+def lines(question, table, log):
+    held = []
+    for record in records_of(log):
+        a = answer(question, table, held, record)
+        held = a.places if len(a.places) == 1 else []
+        line = int.from_bytes(record[4:8], "little") if len(record) == 32 else "-"
+        yield " ".join(map(str, (line, a.word, a.figure, a.visits, *flat(a.places))))
+
+
+def listing(folder):
+    """The lines of a folder's listing."""
+    job, table, log = (content or b"" for content in folder)
+    numbers = after("job", records.job_told(job))
+    if numbers[0] == "refused":
+        return [f"JOB REFUSED {numbers[1]}"]
+    count = after("count", records.table_told(1, table))
+    if count[0] == "refused":
+        return [f"CHAIN REFUSED {count[1]}"]
+    easting, northing, k, tolerance, allowance = map(int, numbers)
+    question = search.P4._replace(
+        corner=(easting, northing), k=k, tolerance=tolerance, allowance=allowance, entries=2 * ROOM
+    )
+    return list(lines(question, table, log))
+
+
+# Folders to list. A record that gives readings or a place is made from centimetres.
+
+
+def readings_record(number, wanted, line=0):
+    return records.log(1, number, line, wanted[0] / 100, wanted[1] / 100)
+
+
+def place_record(place, line):
+    return records.grid(place[0] / 100, place[1] / 100, line=line)
+
+
+def job_of(question):
+    """The job that asks a search's question."""
+    return records.job(*question.corner, question.k, tolerance=question.tolerance, allowance=question.allowance)
+
+
+def table_of(*questions):
+    """The chains of searches, numbered from 1."""
+    return b"".join(records.chain_of(q.master, q.a, q.b) for q in questions)
+
+
+def numbered(*log):
+    """A log of these records with line numbers from 1, whatever numbers they had."""
+    return b"".join(record[:4] + line.to_bytes(4, "little") + record[8:] for line, record in enumerate(log, 1))
+
+
+P4 = search.P4
+FIX, GRID, HOLD = records.SOUND
+THREE = Folder(job_of(P4), table_of(P4), FIX + GRID + HOLD)
+# 01's first record, in a window that is its first place alone: one place.
+ONE = P4._replace(k=0)
+REFUSED = records.log(kind=9)
+
+
+def three(**changes):
+    return THREE._replace(**changes)
+
+
+def by_job(**changes):
+    """01's log under another job."""
+    return three(job=records.job(**changes))
+
+
+def asking(*questions, log=None):
+    """A record for each search, all of one job; each names its own chain."""
+    log = log or numbered(*(readings_record(i, q.wanted) for i, q in enumerate(questions, 1)))
+    return Folder(job_of(questions[0]), table_of(*questions), log)
+
+
+def double_crossing():
+    """Stations in a line, which see a place and its mirror image; those of source document 002; three about the place."""
+    window = {"corner": (47_499_999, 497_945_629), "k": 24, "allowance": 10_000}
+    line = search.LINE._replace(wanted=(894427, 698348), **window)
+    paper = search.PAPER._replace(wanted=(12205441, 9172617), **window)
+    about = line._replace(master=(50_000_000, 495_000_000), a=(45_000_000, 505_000_000), b=(55_000_000, 505_000_000))
+    about = about._replace(wanted=search.readings(about, (50_100_000, 500_200_000)))
+    log = (
+        readings_record(1, line.wanted),
+        HOLD,
+        readings_record(3, about.wanted),
+        HOLD,
+        readings_record(2, paper.wanted),
+        HOLD,
+    )
+    return asking(line, paper, about, log=numbered(*log))
+
+
+def every_refusal():
+    """Chain 1 takes more visits than are allowed, in chain 2 all cells read the same, 3 is well placed, 4 is not sound."""
+    slow = P4._replace(corner=(29984, 39984), k=5, allowance=500)
+    far = slow._replace(master=(30000, 900_000_000), a=(30000, 900_100_000), b=(31000, 900_000_000))
+    good = slow._replace(master=(30000, 20000), a=(10000, 50000), b=(50000, 50000))
+    unsound = good._replace(b=good.a)
+    seen = search.readings(good, (30003, 39991))
+    log = (
+        readings_record(3, seen),
+        HOLD,
+        records.log(kind=4),
+        HOLD,
+        records.hold(third=records.MINUS),
+        records.log(chain=3, first=records.NAN),
+        records.grid(first=-0.01),
+        readings_record(5, seen),
+        readings_record(4, seen),
+        readings_record(3, (0, 0)),
+        readings_record(2, (100_000, 0)),
+        readings_record(1, P4.wanted),
+        GRID,
+        HOLD,
+    )
+    return asking(slow, far, good, unsound, log=numbered(*log) + HOLD[:20])
+
+
+def examples():
+    yield "three_records", THREE
+    yield "double_crossing", double_crossing()
+    yield "every_refusal", every_refusal()
+    yield "refused_job", by_job(easting=EAST)
+
+
+def lengths():
+    for n in 0, 1, 8, 31, 32, 33, 63, 64, 65, 95, 97, 127:
+        yield f"log_of_{n}_bytes", three(log=(THREE.log + FIX)[:n])
+    for n in 0, 1, 31, 33, 64:
+        yield f"job_of_{n}_bytes", three(job=(THREE.job + THREE.job)[:n])
+    for n in 0, 1, 23, 24, 25, 47, 48, 383, 384, 385, 407, 408, 768:
+        yield f"table_of_{n}_bytes", three(table=(THREE.table * 32)[:n])
+
+
+def missing():
+    for gone in (0,), (1,), (2,), (0, 1), (0, 2), (1, 2), (0, 1, 2):
+        names = "_".join(FILES[i].split(".")[0] for i in gone)
+        yield f"no_{names}", Folder(*(None if i in gone else s for i, s in enumerate(THREE)))
+
+
+def jobs():
+    """Limits of a job, and faults together; the job is told before the table, and a refused one lists nothing."""
+    yield "k_24", by_job(k=24)
+    yield "k_25", by_job(k=25)
+    yield "k_255", by_job(k=255)
+    for k in 0, 1:
+        yield f"easting_at_its_end_k_{k}", by_job(easting=EAST, k=k)
+        yield f"northing_at_its_end_k_{k}", by_job(northing=NORTH, k=k)
+    yield "corner_beyond_32_bits", by_job(easting=2**32 - 1)
+    for tolerance in 1, 100_000, 100_001, 2**32 - 1:
+        yield f"tolerance_{tolerance}", by_job(tolerance=tolerance)
+    for allowance in 0, 1, 4, 5, 2**32 + 4, 2**63, 2**64 - 1:
+        yield f"allowance_{allowance}", by_job(allowance=allowance)
+    for at in 9, 10, 11, 24, 31:
+        yield f"job_byte_{at}", three(job=records.changed(records.job(k=25), at, 1))
+    yield "k_and_tolerance", by_job(k=25, tolerance=100_001)
+    yield "bad_job_and_table", by_job(k=25)._replace(table=b"")
+    yield "bad_job_and_short_log", by_job(k=25)._replace(log=FIX[:31])
+    yield "bad_table_and_short_log", three(table=b"1", log=FIX[:31])
+    yield "bad_table_and_no_log", three(table=b"1", log=None)
+
+
+def tables():
+    """Every chain number against tables of one chain, of two and of sixteen; chains that are not sound."""
+    log = b"".join(records.log(chain=n, line=n) for n in range(256))
+    yield "numbers_in_a_table_of_1", three(log=log)
+    yield "numbers_in_a_table_of_2", three(table=records.PAIR, log=log)
+    yield "numbers_in_a_table_of_16", three(table=THREE.table * 16, log=log)
+    yield "sixteen_chains", three(table=records.LONG[: 24 * 16], log=log)
+    nothing = bytes(24)
+    yield "first_unsound", three(table=nothing + THREE.table, log=log)
+    yield "last_unsound", three(table=THREE.table + nothing, log=log)
+    yield "all_unsound", three(table=nothing * 16, log=log)
+    yield "none_named", three(table=nothing, log=GRID + HOLD)
+    for station in range(3):
+        for name, place in ("east", (EAST + 1, 7)), ("north", (7, NORTH + 1)), ("same", records.FIRST[station - 1]):
+            yield f"station_{station}_{name}", three(table=records.moved(records.FIRST, station, place))
+
+
+def holds():
+    """A hold after every kind of answer, twice in a row, and after two that differ."""
+    bad_hold = records.hold(chain=1)
+    fixes_two = numbered(HOLD, HOLD, GRID, HOLD, HOLD, bad_hold, HOLD, GRID, bad_hold, HOLD, FIX, HOLD, HOLD, REFUSED, HOLD)
+    yield "hold_after_two_places", three(log=fixes_two)
+    fixes_one = numbered(HOLD, FIX, HOLD, HOLD, FIX, REFUSED, HOLD, FIX, GRID, HOLD, GRID, FIX, HOLD, FIX, bad_hold, HOLD)
+    yield "hold_after_one_place", asking(ONE, log=fixes_one)
+    nothing = readings_record(1, (0, 0))
+    faults = nothing, records.log(chain=2), records.grid(first=-0.01), records.log(first=records.NAN), REFUSED
+    after_faults = numbered(*flat((GRID, fault, HOLD) for fault in faults))
+    yield "hold_after_a_fault", asking(ONE, log=after_faults)
+    yield "hold_at_the_end", three(log=GRID + HOLD + HOLD[:31])
+    yield "hold_alone", three(log=HOLD)
+    for allowance in 0, 4:
+        yield f"hold_after_10_allowance_{allowance}", asking(P4._replace(allowance=allowance), log=GRID + FIX + HOLD)
+    yield "hold_after_9", asking(P4._replace(k=5, tolerance=100_000, allowance=2000), log=GRID + FIX + HOLD)
+
+
+def rooms():
+    """As many places as the program has room for, and one more: whole windows, and cells of a window."""
+    for k in 3, 4, 5:
+        yield f"whole_window_k_{k}", asking(P4._replace(k=k, tolerance=100_000, allowance=2000))
+    yield "places_256", asking(P4._replace(corner=(29994, 39976), k=5, tolerance=6, allowance=2000))
+    yield "places_257", asking(P4._replace(wanted=(-10000, -20001), corner=(29978, 39979), k=5, tolerance=5, allowance=2000))
+    # the last visit allowed finds the list full, and one visit less does not get there
+    for allowance in 346, 347:
+        yield f"room_or_allowance_{allowance}", asking(P4._replace(k=5, tolerance=100_000, allowance=allowance))
+    corner = EAST + 1 - 16, NORTH + 1 - 16
+    yield "longest_line", asking(longest_line(corner), log=b"".join(readings_record(1, (0, 0), 2**32 - 1) for _ in "12"))
+
+
+def longest_line(corner):
+    return P4._replace(
+        master=(EAST, NORTH), a=(EAST - 1, NORTH), b=(EAST, NORTH - 1), corner=corner, k=4, tolerance=100_000, allowance=341
+    )
+
+
+def searches():
+    """01's P4 to P9 with a hold after each, and the crossings and points whose places and visits are known."""
+    for i, q in enumerate(search.examples()):
+        yield f"search_{i}", asking(q, log=readings_record(1, q.wanted, 7) + HOLD)
+    for i, (q, wanted, corner, k, _, visits) in enumerate(search.CROSSINGS):
+        q = q._replace(wanted=wanted, corner=corner, k=k)
+        yield f"crossing_{i}", asking(q._replace(allowance=visits))
+        yield f"crossing_{i}_stopped", asking(q._replace(allowance=visits - 1))
+
+
+def numbers():
+    """Line numbers and places with every count of digits; then all records that records.py has a reason for, as one log."""
+    edges = sorted({n for i in range(10) for n in (10**i - 1, 10**i)} | {2**31, 2**32 - 1})
+    sized = (place_record((min(n, EAST), min(n, NORTH)), n) for n in edges)
+    yield "digits", three(log=b"".join(sized) + b"".join(records.hold(line=n) for n in edges))
+    yield "same_line_number", three(log=(GRID + HOLD + FIX) * 3)
+    parts = records.examples, records.kinds, records.numbers, records.zeros, records.limits, records.roundings
+    asked = (request[1] for part in parts for request in part() if request[0] == "L")
+    yield "records", three(table=records.PAIR, log=b"".join(asked))
+    swept = (request[1] for request in records.sweep() if request[0] == "L")
+    yield "every_byte", three(table=records.PAIR, log=b"".join(swept))
+
+
+CASES = lengths, missing, jobs, tables, holds, rooms, searches, numbers
+
+
+def cases():
+    return flat(part() for part in CASES)
+
+
+# Long logs
+
+
+def part_ends():
+    """Places without end, all different, with a hold after every sixteenth record; what goes before the hold takes turns."""
+    i = 0
+    while True:
+        last = place_record((i, 3 * i), i), records.hold(line=i), REFUSED, FIX, records.log(first=-99.99)
+        if i % 16 == 0:
+            yield records.hold(line=i)
+        elif i % 16 == 15:
+            yield last[i // 16 % 5]
+        else:
+            yield place_record((i, 3 * i), i)
+        i += 1
+
+
+def part_log(count):
+    return b"".join(islice(part_ends(), count))
+
+
+# P4 has two places for one of the readings above, and one for the other.
+PARTS = asking(P4)
+
+
+def edges():
+    """Logs that end at a part of 16 records or a buffer of 2,048, and a byte or a record to either side."""
+    log = part_log(3 * 2048)
+    ends = (1, 2, 127, 128, 129, 255, 256)
+    for end in (512 * n for n in ends):
+        for length in end - 32, end - 1, end, end + 1, end + 32:
+            yield f"bytes_{length}", PARTS._replace(log=log[:length])
+    yield "five_buffers", PARTS._replace(log=part_log(5 * 2048 + 2))
+
+
+def long():
+    yield "records_8000", PARTS._replace(log=part_log(8_000))
+    yield "records_100000", PARTS._replace(log=part_log(100_000) + b"\3")
+    far = longest_line((EAST + 1 - 16, NORTH + 1 - 16))
+    near = far._replace(wanted=(0, 1))
+    lines = (readings_record(1, q.wanted, 7**i % 2**32) for i in range(150) for q in (far, near))
+    # a line of another length after each few makes the long ones begin anywhere
+    mixed = (r if i % 3 else r + place_record((i, i), 11**i % 2**32) for i, r in enumerate(lines))
+    yield "long_lines", asking(far, log=b"".join(mixed))
+
+
+# Folders at random
+
+
+def on_chart(place):
+    return min(place[0], EAST), min(place[1], NORTH)
+
+
+def drawn_readings(draw, question, chains):
+    """Readings that a place of the window, or one near it, may have; and the number of their chain."""
+    number = draw.randrange(len(chains))
+    c = chains[number]
+    near = on_chart(question.corner)
+    place = draw.choice((near, search.beside(draw, near, 2 ** min(question.k, 24))))
+    noise = draw.choice((0, 0, question.tolerance))
+    wanted = tuple(x + draw.randint(-noise, noise) for x in search.readings(c, place))
+    return number + 1, draw.choice((wanted, wanted, question.wanted))
+
+
+def drawn_chain(draw, question):
+    reach = draw.choice((40, 1_000, 100_000, 10**7, NORTH))
+    near = on_chart(question.corner)
+    return question._replace(**{station: search.beside(draw, near, reach) for station in ("master", "a", "b")})
+
+
+def drawn_record(draw, fixes):
+    line = draw.choice((draw.randrange(100), draw.getrandbits(32)))
+    number, wanted = draw.choice(fixes)
+    return draw.choice(
+        (
+            lambda: readings_record(number, wanted, line),
+            lambda: readings_record(number, wanted, line),
+            lambda: place_record((draw.randint(0, EAST), draw.randint(0, NORTH)), line),
+            lambda: records.hold(line=line),
+            lambda: records.hold(line=line),
+            lambda: records.drawn_log(draw) if draw.random() < 0.5 else records.hold(chain=draw.randrange(2), line=line),
+        )
+    )()
+
+
+def drawn_folder(draw):
+    question = search.drawn(draw)
+    # more than this takes long where cells are many and few are dropped
+    most = 2**64 - 1 if question.k < 6 else 4000
+    _, visits, _ = searched(question._replace(allowance=4000, entries=2 * ROOM))
+    allowance = draw.choice((visits, max(0, visits - 1), draw.randint(0, 50), most, most))
+    question = question._replace(allowance=allowance)
+    count = draw.choice((1, 2, 3, 16))
+    chains = [question] + [drawn_chain(draw, question) for _ in range(count - 1)]
+    draw.shuffle(chains)
+    fixes = [(chains.index(question) + 1, question.wanted)] + [drawn_readings(draw, question, chains) for _ in range(3)]
+    log = b"".join(drawn_record(draw, fixes) for _ in range(draw.choice((0, 1, 5, 20, 40))))
+    folder = Folder(job_of(question), table_of(*chains), log)
+    if draw.random() < 0.2:
+        at = draw.randrange(3)
+        folder = Folder(*(records.damaged(draw, s) if i == at else s for i, s in enumerate(folder)))
+    if draw.random() < 0.1:
+        folder = folder._replace(log=folder.log + bytes(draw.randrange(1, 32)))
+    return folder
+
+
+def at_random(seed):
+    draw = random.Random(seed)
+    for i in range(200):
+        yield f"{i:03}", drawn_folder(draw)
+
+
+# Files
+
+
+def write(place, folders):
+    for name, folder in folders:
+        path = os.path.join(place, name)
+        os.makedirs(path, exist_ok=True)
+        for file, content in zip(FILES, folder):
+            if content is not None:
+                with open(os.path.join(path, file), "wb") as f:
+                    f.write(content)
+        with open(os.path.join(path, "listing"), "w") as f:
+            f.writelines(line + "\n" for line in listing(folder))
+
+
+def content_of(path):
+    try:
+        with open(path, "rb") as f:
+            return f.read()
+    except FileNotFoundError:
+        return None
+
+
+def memory(folder, program):
+    """What is not yet read of the listing is more than a pipe holds, so the program waits while it is looked at. The figure
+    is its own, from /proc: what a parent is told of its child's memory counts the parent's own before the program began."""
+    pipe, unread = 65536, 131072
+    size = os.path.getsize(os.path.join(folder, "listing"))
+    running = subprocess.Popen(program, cwd=folder, stdout=subprocess.PIPE)
+    fcntl.fcntl(running.stdout, fcntl.F_SETPIPE_SZ, pipe)
+    running.stdout.read(size - unread)
+    with open(f"/proc/{running.pid}/status") as f:
+        held = [line.split()[1] for line in f if line.startswith("VmHWM:")]
+    running.stdout.read()
+    running.wait()
+    return held[0] if held else sys.exit("the program ended early")
+
+
+def main(words):
+    writers = {"examples": examples, "cases": cases, "edges": edges, "long": long}
+    if words[:1] == ["list"] and len(words) == 2:
+        folder = Folder(*(content_of(os.path.join(words[1], file)) for file in FILES))
+        sys.stdout.writelines(line + "\n" for line in listing(folder))
+    elif words[:1] == ["random"] and len(words) == 3:
+        write(words[2], at_random(int(words[1])))
+    elif words[:1] == ["memory"] and len(words) >= 3:
+        print(memory(words[1], words[2:]))
+    elif len(words) == 2 and words[0] in writers:
+        write(words[1], writers[words[0]]())
+    else:
+        sys.exit(__doc__)
+
+
+if __name__ == "__main__":
+    main(sys.argv[1:])
