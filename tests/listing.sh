@@ -1,0 +1,278 @@
+#!/usr/bin/env bash
+# What laylist prints of folders, against document 01's listing and limits, byte by byte, and against a lister of its own
+# (listing.py); how it ends where a file cannot be read or its listing not be written; and the examples, by `list`. A seed
+# other than the gate's may be given.
+cd "$(dirname "$0")/.." && . tests/common.bash
+seed=${1:-20261115}
+folders=$(mktemp -d)
+trap 'rm -rf "$folders"' EXIT
+folder=$folders/folder printed=$folders/printed said=$folders/said
+
+# bytes HEXADECIMAL: the bytes themselves
+bytes() { printf "$(sed 's/[^ ][^ ]/\\x&/g; s/ //g' <<<"$1")"; }
+
+# put JOB TABLE LOG: makes the folder anew, of files with these bytes; a file given as `none` is missing
+put() {
+    local file
+    rm -rf "$folder"
+    mkdir "$folder"
+    for file in job chain lay; do
+        [ "$1" = none ] || bytes "$1" >"$folder/$file.dat"
+        shift
+    done
+}
+
+# run FOLDER: what is printed, what is said on standard error, and in `status` how it ended
+run() {
+    status=0
+    (cd "$1" && program laylist) >"$printed" 2>"$said" || status=$?
+}
+
+ended_well() { [ "$status" -eq 0 ] && [ ! -s "$said" ]; }
+
+# prints LINES: that these were printed, to the byte, and no others
+prints() { ended_well && cmp -s "$printed" <(printf "${1:+%s\n}" "$1"); }
+
+# listed JOB TABLE LOG LINES: that such a folder has this listing
+listed() {
+    put "$1" "$2" "$3"
+    run "$folder"
+    pass_if "job $1, table $2, log $3: $(cat "$printed" "$said"), not $4" prints "$4"
+}
+
+# agrees FOLDER: that its listing is the one in its file
+agrees() {
+    run "$1"
+    ended_well && cmp -s "$printed" "$1/listing" || {
+        cat "$said"
+        diff "$1/listing" "$printed" | head -n 4 | cut -c 1-200
+        return 1
+    }
+}
+
+# all_agree VERB...: that of every folder that listing.py writes
+all_agree() {
+    local made=$folders/$1 each
+    mkdir "$made"
+    python3 tests/listing.py "$@" "$made"
+    for each in "$made"/*; do
+        pass_if "$1: the folder $(basename "$each")" agrees "$each"
+    done
+}
+
+# 01's chain, its job, and its log of three records, whose whole output stands there.
+job='30750000 409c0000 01 000000 00000000 6400000000000000 0000000000000000'
+table='00000000 00000000 30750000 00000000 00000000 409c0000'
+fix='01 01 0000 01000000 00000000000059c0 00000000000069c0 0000000000000000'
+grid='02 00 0000 02000000 5c8fc2f528c07240 0000000000007940 0000000000000000'
+hold='03 00 0000 03000000 0000000000000000 0000000000000000 0000000000000000'
+listed "$job" "$table" "$fix$grid$hold" \
+    '1 FIX 2 5 30000 40000 30001 40001
+2 GRID 1 0 30001 40000
+3 HOLD 1 0 30001 40000'
+
+# Jobs: k 24 and 25; the easting and the northing at their ends with k 0 and k 1; tolerances; bytes that must be zero, beside
+# other faults; k and tolerance both at fault; a length beside 32.
+held='2 GRID 1 0 30001 40000
+3 HOLD 1 0 30001 40000'
+while IFS=: read -r asked answer; do
+    [ "$answer" != ' passes' ] || answer=$held
+    listed "$asked" "$table" "$grid$hold" "${answer# }"
+done <<'END'
+30750000 409c0000 18 000000 00000000 6400000000000000 0000000000000000: passes
+30750000 409c0000 19 000000 00000000 6400000000000000 0000000000000000: JOB REFUSED 6
+00e1f505 409c0000 00 000000 00000000 6400000000000000 0000000000000000: passes
+00e1f505 409c0000 01 000000 00000000 6400000000000000 0000000000000000: JOB REFUSED 6
+30750000 00ca9a3b 00 000000 00000000 6400000000000000 0000000000000000: passes
+30750000 00ca9a3b 01 000000 00000000 6400000000000000 0000000000000000: JOB REFUSED 6
+30750000 409c0000 01 000000 a0860100 6400000000000000 0000000000000000: passes
+30750000 409c0000 01 000000 a1860100 6400000000000000 0000000000000000: JOB REFUSED 7
+30750000 409c0000 19 000000 a1860100 6400000000000000 0000000000000000: JOB REFUSED 6
+30750000 409c0000 19 000001 a1860100 6400000000000000 0000000000000000: JOB REFUSED 2
+30750000 409c0000 01 000000 00000000 6400000000000000 0000000000000080: JOB REFUSED 2
+30750000 409c0000 01 000000 00000000 6400000000000000 00000000000000: JOB REFUSED 1
+30750000 409c0000 01 000000 00000000 6400000000000000 0000000000000000 00: JOB REFUSED 1
+END
+
+# Tables of no bytes, of 23 and 25, of 16 chains, of a byte more and of 17. A bad job is told before a bad table.
+printf -v sixteen "$table%.0s" {1..16}
+listed "$job" '' "$grid$hold" 'CHAIN REFUSED 1'
+listed "$job" "${table%??}" "$grid$hold" 'CHAIN REFUSED 1'
+listed "$job" "$table 00" "$grid$hold" 'CHAIN REFUSED 1'
+listed "$job" "$sixteen" "$grid$hold" "$held"
+listed "$job" "$sixteen 00" "$grid$hold" 'CHAIN REFUSED 1'
+listed "$job" "$sixteen$table" "$grid$hold" 'CHAIN REFUSED 1'
+listed "${job/ 01 / 19 }" "$table 00" "$grid$hold" 'JOB REFUSED 6'
+
+# Files that are missing.
+listed none "$table" "$grid$hold" 'JOB REFUSED 1'
+listed "$job" none "$grid$hold" 'CHAIN REFUSED 1'
+listed "$job" "$table" none ''
+listed none none none 'JOB REFUSED 1'
+
+# Logs of 0, 1, 31, 32 and 33 bytes, and one whose second record is short.
+listed "$job" "$table" '' ''
+listed "$job" "$table" '01' '- REFUSED 1 0'
+listed "$job" "$table" "${grid%??}" '- REFUSED 1 0'
+listed "$job" "$table" "$grid" '2 GRID 1 0 30001 40000'
+listed "$job" "$table" "$grid 03" '2 GRID 1 0 30001 40000
+- REFUSED 1 0'
+listed "$job" "$table" "$grid${hold%??}" '2 GRID 1 0 30001 40000
+- REFUSED 1 0'
+
+# Single records: eastings of -0.001 m and -0.01 m; the greatest line number, also where the record is refused; chains that
+# are not in the table; a kind that is not known, and a number that is NaN.
+while IFS=: read -r record answer; do
+    listed "$job" "$table" "$record" "${answer# }"
+done <<'END'
+02 00 0000 02000000 fca9f1d24d6250bf 0000000000007940 0000000000000000: 2 GRID 1 0 0 40000
+02 00 0000 02000000 7b14ae47e17a84bf 0000000000007940 0000000000000000: 2 REFUSED 4 0
+02 00 0000 ffffffff 5c8fc2f528c07240 0000000000007940 0000000000000000: 4294967295 GRID 1 0 30001 40000
+04 00 0000 ffffffff 5c8fc2f528c07240 0000000000007940 0000000000000000: 4294967295 REFUSED 2 0
+02 00 0000 00000000 0000000080842e41 00000000d0126341 0000000000000000: 0 GRID 1 0 100000000 1000000000
+01 00 0000 01000000 00000000000059c0 00000000000069c0 0000000000000000: 1 REFUSED 5 0
+01 02 0000 01000000 00000000000059c0 00000000000069c0 0000000000000000: 1 REFUSED 5 0
+01 ff 0000 01000000 00000000000059c0 00000000000069c0 0000000000000000: 1 REFUSED 5 0
+01 01 0000 01000000 000000000000f87f 00000000000069c0 0000000000000000: 1 REFUSED 3 0
+01 01 0000 01000000 0000000000000000 0000000000000000 0000000000000000: 1 REFUSED 8 1
+01 01 0000 01000000 00000000000059c0 00000000000069c0 0000000000000080: 1 REFUSED 2 0
+END
+
+# An unsound chain matters only where a record names it.
+listed "$job" "00000000 00000000 00000000 00000000 00000000 409c0000 $table" "$grid$fix${fix/01 01/01 02}" \
+    '2 GRID 1 0 30001 40000
+1 REFUSED 5 0
+1 FIX 2 5 30000 40000 30001 40001'
+
+# A hold as the first record, after a grid record, after holds, after two places, after one place (k 0), after a refusal.
+listed "$job" "$table" "$hold" '3 REFUSED 11 0'
+listed "$job" "$table" "$grid$hold$hold$fix$hold$hold" \
+    '2 GRID 1 0 30001 40000
+3 HOLD 1 0 30001 40000
+3 HOLD 1 0 30001 40000
+1 FIX 2 5 30000 40000 30001 40001
+3 REFUSED 11 0
+3 REFUSED 11 0'
+listed "${job/ 01 / 00 }" "$table" "$grid$fix$hold${grid/02/04}$hold" \
+    '2 GRID 1 0 30001 40000
+1 FIX 1 1 30000 40000
+3 HOLD 1 0 30000 40000
+2 REFUSED 2 0
+3 REFUSED 11 0'
+
+# Allowances of 0, 4 and 5 for 01's first record. Then windows of which every cell matches: 256 cells and 1,024, the latter
+# with an allowance for as far as the list goes and with one less.
+listed "${job/ 64/ 00}" "$table" "$fix$hold" '1 REFUSED 10 0
+3 REFUSED 11 0'
+listed "${job/ 64/ 04}" "$table" "$fix" '1 REFUSED 10 4'
+listed "${job/ 64/ 05}" "$table" "$fix" '1 FIX 2 5 30000 40000 30001 40001'
+listed '30750000 409c0000 05 000000 a0860100 5b01000000000000 0000000000000000' "$table" "$fix" '1 REFUSED 9 347'
+listed '30750000 409c0000 05 000000 a0860100 5a01000000000000 0000000000000000' "$table" "$fix" '1 REFUSED 10 346'
+put '30750000 409c0000 04 000000 a0860100 5501000000000000 0000000000000000' "$table" "$fix"
+run "$folder"
+pass_if '256 places are a fix' ended_well
+pass_if '256 places are counted, and 341 visits' [ "$(cut -d ' ' -f 1-6 "$printed")" = '1 FIX 256 341 30000 40000' ]
+pass_if '256 places are all printed' [ "$(wc -w <"$printed")" -eq 516 ]
+pass_if '256 places differ' [ "$(cut -d ' ' -f 5- "$printed" | tr ' ' '\n' | paste - - | sort -u | wc -l)" -eq 256 ]
+
+# Folders that have a reason, and folders whose logs end about the edges of the buffers: the program reads 65,536 bytes of
+# the log at a time and lists them in parts of 512.
+all_agree cases
+all_agree edges
+
+# Long logs: 100,000 records, and lines of up to 256 places, which go over the edges of what is written at a time.
+all_agree long
+
+# The log need not fit into memory. A pipe that is not read holds the program near the end of its listing, and /proc tells
+# the most memory that it has held; that works under the emulator as well, whose own memory is in both figures. The longer
+# log has 2,900 kilobytes more, and its listing 2,500.
+memory_of() { python3 tests/listing.py memory "$folders/long/$1" "${loader[@]}" "$repository/target/bin/laylist"; }
+few=$(memory_of records_8000)
+many=$(memory_of records_100000)
+pass_if "a log of 100,000 records takes $many kB, one of 8,000 takes $few" [ $((many - few)) -lt 1000 ]
+
+# A log that comes in pieces ends where it ends and not after the first piece.
+put "$job" "$table" none
+mkfifo "$folder/lay.dat"
+for piece in "${fix:0:5}" "${fix:5}" "$grid${hold:0:11}" "${hold:11}$hold" "$hold 03"; do
+    bytes "$piece"
+    sleep 0.05
+done >"$folder/lay.dat" &
+feeder=$!
+run "$folder"
+pass_if "a log in pieces: $(cat "$printed" "$said")" prints '1 FIX 2 5 30000 40000 30001 40001
+2 GRID 1 0 30001 40000
+3 HOLD 1 0 30001 40000
+3 HOLD 1 0 30001 40000
+3 HOLD 1 0 30001 40000
+- REFUSED 1 0'
+kill "$feeder" 2>/dev/null || true
+
+# fails_by NAME: that it ended with 1 and told of NAME, and of nothing else
+fails_by() { [ "$status" -eq 1 ] && [[ "$(<"$said")" == "$1: "?* ]] && [ "$(wc -l <"$said")" -eq 1 ]; }
+
+# A folder in place of a file cannot be read, and neither can memory where there is none.
+for file in job.dat chain.dat lay.dat; do
+    for unreadable in mkdir 'ln -s /proc/self/mem'; do
+        put "$job" "$table" "$fix$grid$hold"
+        rm "$folder/$file"
+        $unreadable "$folder/$file"
+        run "$folder"
+        pass_if "$unreadable $file is told: $(cat "$said")" fails_by "$file"
+        pass_if "$unreadable $file: nothing is printed" [ ! -s "$printed" ]
+    done
+done
+
+# A listing that cannot be written is told, whether it is short or long or the refusal of a job.
+unwritten() {
+    status=0
+    (cd "$1" && program laylist) 2>"$said" >/dev/full || status=$?
+    pass_if "$1 on a full device: $(cat "$said")" fails_by 'standard output'
+    status=0
+    (cd "$1" && program laylist >&-) 2>"$said" || status=$?
+    pass_if "$1 with standard output closed: $(cat "$said")" fails_by 'standard output'
+}
+unwritten examples/three_records
+unwritten examples/refused_job
+unwritten "$folders/long/records_100000"
+
+# The examples: their files are those that listing.py makes, and `list` lists them as they say.
+mkdir "$folders/examples"
+python3 tests/listing.py examples "$folders/examples"
+examples=$(ls "$folders/examples")
+pass_if 'every example is one of listing.py' [ "$(cd examples && ls -d */)" = "$(sed 's,$,/,' <<<"$examples")" ]
+for name in $examples; do
+    for file in job.dat chain.dat lay.dat listing; do
+        pass_if "examples/$name/$file" cmp "examples/$name/$file" "$folders/examples/$name/$file"
+    done
+    bash list "examples/$name" >"$printed"
+    pass_if "bash list examples/$name" cmp "$printed" "examples/$name/listing"
+    pass_if "examples/README.md has $name" grep -qF "[$name]($name/README.md)" examples/README.md
+done
+pass_if 'the example of three records is 01'"'"'s' [ "$(<examples/three_records/listing)" = \
+    '1 FIX 2 5 30000 40000 30001 40001
+2 GRID 1 0 30001 40000
+3 HOLD 1 0 30001 40000' ]
+
+# `list` from another folder, with a folder named from there; it ends as laylist ends, and says in a line what is wrong.
+(cd examples/every_refusal && bash ../../list ../three_records) >"$printed"
+pass_if 'list from another folder' cmp "$printed" examples/three_records/listing
+put "$job" "$table" none
+mkdir "$folder/lay.dat"
+status=0
+bash list "$folder" >"$printed" 2>"$said" || status=$?
+pass_if 'list ends as laylist ends' fails_by lay.dat
+# misused WORDS...: that `list` ends with 2, a line of its own, and no listing
+misused() {
+    status=0
+    bash list "$@" >"$printed" 2>"$said" || status=$?
+    [ "$status" -eq 2 ] && [ ! -s "$printed" ] && [ "$(wc -l <"$said")" -eq 1 ] && grep -q '^list: ' "$said"
+}
+pass_if 'list without a folder' misused
+pass_if 'list with two folders' misused examples/three_records examples/refused_job
+pass_if 'list with a folder that does not exist' misused "$folders/nowhere"
+pass_if 'list with a file' misused examples/README.md
+
+# 200 folders at random.
+all_agree random "$seed"
+done_testing
