@@ -315,14 +315,14 @@ def rooms():
     # the last visit allowed finds the list full, and one visit less does not get there
     for allowance in 346, 347:
         yield f"room_or_allowance_{allowance}", asking(P4._replace(k=5, tolerance=100_000, allowance=allowance))
-    corner = EAST + 1 - 16, NORTH + 1 - 16
-    yield "longest_line", asking(longest_line(corner), log=b"".join(readings_record(1, (0, 0), 2**32 - 1) for _ in "12"))
+    q = longest_line()
+    yield "longest_line", asking(q, log=readings_record(1, q.wanted, 2**32 - 1) * 2)
 
 
-def longest_line(corner):
-    return P4._replace(
-        master=(EAST, NORTH), a=(EAST - 1, NORTH), b=(EAST, NORTH - 1), corner=corner, k=4, tolerance=100_000, allowance=341
-    )
+def longest_line():
+    """01's chain moved so that its window lies in the far corner of the chart, all of whose cells match."""
+    q = P4._replace(master=(EAST - 30008, NORTH - 40008), a=(EAST - 8, NORTH - 40008), b=(EAST - 30008, NORTH - 8))
+    return q._replace(corner=(EAST - 15, NORTH - 15), k=4, tolerance=9, allowance=341)
 
 
 def searches():
@@ -393,12 +393,17 @@ def edges():
 def long():
     yield "records_8000", PARTS._replace(log=part_log(8_000))
     yield "records_100000", PARTS._replace(log=part_log(100_000) + b"\3")
-    far = longest_line((EAST + 1 - 16, NORTH + 1 - 16))
-    near = far._replace(wanted=(0, 1))
-    lines = (readings_record(1, q.wanted, 7**i % 2**32) for i in range(150) for q in (far, near))
-    # a line of another length after each few makes the long ones begin anywhere
-    mixed = (r if i % 3 else r + place_record((i, i), 11**i % 2**32) for i, r in enumerate(lines))
-    yield "long_lines", asking(far, log=b"".join(mixed))
+    yield "long_lines", long_lines()
+
+
+def long_lines():
+    """The longest lines one after the other, then lines of all lengths in no order, which begin and end anywhere."""
+    draw = random.Random(1)
+    q = longest_line()
+    slides = [0] * 48 + [draw.randint(0, 16) for _ in range(700)]
+    sides = ((q.wanted[0] + slide, q.wanted[1] - slide) for slide in slides)
+    numbers = (2**32 - 1 if i < 48 else draw.getrandbits(draw.choice((4, 16, 32))) for i in range(len(slides)))
+    return asking(q, log=b"".join(readings_record(1, wanted, line) for wanted, line in zip(sides, numbers)))
 
 
 # Folders at random
@@ -490,17 +495,25 @@ def content_of(path):
         return None
 
 
+# fcntl has the name of this only in later versions
+SET_PIPE_SIZE = 1031
+
+
 def memory(folder, program):
-    """What is not yet read of the listing is more than a pipe holds, so the program waits while it is looked at. The figure
-    is its own, from /proc: what a parent is told of its child's memory counts the parent's own before the program began."""
+    """What is not yet read of the listing is more than the pipe holds, so the program waits while it is looked at. The
+    figure is from /proc, and so its own: what a parent is told of a child's memory counts the parent's as well, as it was
+    when the child began."""
     pipe, unread = 65536, 131072
     size = os.path.getsize(os.path.join(folder, "listing"))
-    running = subprocess.Popen(program, cwd=folder, stdout=subprocess.PIPE)
-    fcntl.fcntl(running.stdout, fcntl.F_SETPIPE_SZ, pipe)
-    running.stdout.read(size - unread)
-    with open(f"/proc/{running.pid}/status") as f:
-        held = [line.split()[1] for line in f if line.startswith("VmHWM:")]
-    running.stdout.read()
+    ours, theirs = os.pipe()
+    fcntl.fcntl(theirs, SET_PIPE_SIZE, pipe)
+    running = subprocess.Popen(program, cwd=folder, stdout=theirs)
+    os.close(theirs)
+    with open(ours, "rb") as listed:
+        listed.read(size - unread)
+        with open(f"/proc/{running.pid}/status") as f:
+            held = [line.split()[1] for line in f if line.startswith("VmHWM:")]
+        listed.read()
     running.wait()
     return held[0] if held else sys.exit("the program ended early")
 

@@ -236,6 +236,9 @@ unwritten examples/three_records
 unwritten examples/refused_job
 unwritten "$folders/long/records_100000"
 
+# lists FOLDER FILE: that `list` prints of the folder what the file has
+lists() { bash "$repository/list" "$1" >"$printed" && cmp "$printed" "$2"; }
+
 # The examples: their files are those that listing.py makes, and `list` lists them as they say.
 mkdir "$folders/examples"
 python3 tests/listing.py examples "$folders/examples"
@@ -245,8 +248,7 @@ for name in $examples; do
     for file in job.dat chain.dat lay.dat listing; do
         pass_if "examples/$name/$file" cmp "examples/$name/$file" "$folders/examples/$name/$file"
     done
-    bash list "examples/$name" >"$printed"
-    pass_if "bash list examples/$name" cmp "$printed" "examples/$name/listing"
+    pass_if "bash list examples/$name" lists "examples/$name" "examples/$name/listing"
     pass_if "examples/README.md has $name" grep -qF "[$name]($name/README.md)" examples/README.md
 done
 pass_if 'the example of three records is 01'"'"'s' [ "$(<examples/three_records/listing)" = \
@@ -255,8 +257,9 @@ pass_if 'the example of three records is 01'"'"'s' [ "$(<examples/three_records/
 3 HOLD 1 0 30001 40000' ]
 
 # `list` from another folder, with a folder named from there; it ends as laylist ends, and says in a line what is wrong.
-(cd examples/every_refusal && bash ../../list ../three_records) >"$printed"
-pass_if 'list from another folder' cmp "$printed" examples/three_records/listing
+cd examples/every_refusal
+pass_if 'list from another folder' lists ../three_records ../three_records/listing
+cd "$repository"
 put "$job" "$table" none
 mkdir "$folder/lay.dat"
 status=0
