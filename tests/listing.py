@@ -178,7 +178,7 @@ def by_job(**changes):
 
 
 def asking(*questions, log=None):
-    """A record for each search, all of one job; each names its own chain."""
+    """Searches of one job, each with a chain of its own; the log has a record for each unless it is given."""
     log = log or numbered(*(readings_record(i, q.wanted) for i, q in enumerate(questions, 1)))
     return Folder(job_of(questions[0]), table_of(*questions), log)
 
