@@ -18,29 +18,13 @@ import random
 import subprocess
 import sys
 from functools import lru_cache
-from importlib import util
 from itertools import chain, islice
 from typing import NamedTuple
 
 sys.dont_write_bytecode = True
+import records
+import search
 
-
-def beside_this(name):
-    """What another file of this folder defines. Called with no words, as here, it ends once all is defined."""
-    path = os.path.join(os.path.dirname(os.path.abspath(__file__)), name)
-    spec = util.spec_from_file_location(name, path)
-    module = util.module_from_spec(spec)
-    words, sys.argv = sys.argv, [path]
-    try:
-        spec.loader.exec_module(module)
-    except SystemExit:
-        pass
-    sys.argv = words
-    return module
-
-
-records = beside_this("records.py")
-search = beside_this("search.py")
 EAST, NORTH = records.EAST, records.NORTH
 flat = chain.from_iterable
 FILES = "job.dat", "chain.dat", "lay.dat"

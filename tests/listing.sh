@@ -208,8 +208,8 @@ pass_if "a log in pieces: $(cat "$printed" "$said")" prints '1 FIX 2 5 30000 400
 - REFUSED 1 0'
 kill "$feeder" 2>/dev/null || true
 
-# fails_by NAME: that it ended with 1 and told of NAME, and of nothing else
-fails_by() { [ "$status" -eq 1 ] && [[ "$(<"$said")" == "$1: "?* ]] && [ "$(wc -l <"$said")" -eq 1 ]; }
+# tells NAME: that it told of NAME, and of nothing else
+tells() { [[ "$(<"$said")" == "$1: "?* ]] && [ "$(wc -l <"$said")" -eq 1 ]; }
 
 # A folder in place of a file cannot be read, and neither can memory where there is none.
 for file in job.dat chain.dat lay.dat; do
@@ -218,19 +218,17 @@ for file in job.dat chain.dat lay.dat; do
         rm "$folder/$file"
         $unreadable "$folder/$file"
         run "$folder"
-        pass_if "$unreadable $file is told: $(cat "$said")" fails_by "$file"
+        pass_if "$unreadable $file is told: $(cat "$said")" tells "$file"
         pass_if "$unreadable $file: nothing is printed" [ ! -s "$printed" ]
     done
 done
 
 # A listing that cannot be written is told, whether it is short or long or the refusal of a job.
 unwritten() {
-    status=0
-    (cd "$1" && program laylist) 2>"$said" >/dev/full || status=$?
-    pass_if "$1 on a full device: $(cat "$said")" fails_by 'standard output'
-    status=0
-    (cd "$1" && program laylist >&-) 2>"$said" || status=$?
-    pass_if "$1 with standard output closed: $(cat "$said")" fails_by 'standard output'
+    (cd "$1" && program laylist) 2>"$said" >/dev/full
+    pass_if "$1 on a full device: $(cat "$said")" tells 'standard output'
+    (cd "$1" && program laylist >&-) 2>"$said"
+    pass_if "$1 with standard output closed: $(cat "$said")" tells 'standard output'
 }
 unwritten examples/three_records
 unwritten examples/refused_job
@@ -256,7 +254,8 @@ pass_if 'the example of three records is 01'"'"'s' [ "$(<examples/three_records/
 2 GRID 1 0 30001 40000
 3 HOLD 1 0 30001 40000' ]
 
-# `list` from another folder, with a folder named from there; it ends as laylist ends, and says in a line what is wrong.
+# `list` from another folder, with a folder named from there; it ends with 1 where laylist tells of something, and says in a
+# line what is wrong.
 cd examples/every_refusal
 pass_if 'list from another folder' lists ../three_records ../three_records/listing
 cd "$repository"
@@ -264,7 +263,8 @@ put "$job" "$table" none
 mkdir "$folder/lay.dat"
 status=0
 bash list "$folder" >"$printed" 2>"$said" || status=$?
-pass_if 'list ends as laylist ends' fails_by lay.dat
+pass_if 'list tells what laylist tells' tells lay.dat
+pass_if 'and ends with 1' [ "$status" -eq 1 ]
 # misused WORDS...: that `list` ends with 2, a line of its own, and no listing
 misused() {
     status=0
