@@ -1,5 +1,5 @@
 -- Text put into a buffer: nothing, one byte, and one text after the other.
-use Prim.Native.Nat.{ℕ, suc, _+_, _≤_, _<_}
+use Prim.Native.Nat.{ℕ, _+_, _^_, _≤_, _<_}
 use mathlib.Core.Path.{_≡_, refl, sym, ap, ap₂, _∙_, subst, subst⁻¹}
 use mathlib.Core.List.{List, [], _∷_, _++_, append-assoc}
 use native.Mathlib.Omega.{arith}
@@ -8,8 +8,10 @@ use lib.ListN.{length, getD, take, drop, set, take-append-drop, length-append, l
 use lib.Seq.{length-take-le, take-at, drop-append-add, drop-drop, set-split, take-suc}
 use Rattle.listing.specs.declared.Carried.{Carried}
 use Rattle.listing.specs.declared.Listed.the-variants as listed
+use Rattle.listing.specs.Texts.{digitsOf}
 use Rattle.listing.specs.Listings.{Part}
 use Rattle.listing.specs.Putting.{Put, Gives}
+use Rattle.listing.proofs.Digits.{digits-32}
 
 -- What stands before the end of a text that was put.
 front : (o : List ℕ) (at : ℕ) (x : List ℕ) → at + length x ≤ length o → length (take at o ++ x) ≡ at + length x
@@ -49,6 +51,10 @@ put-then {o} {at} {x} {o′} {end} {y} {o″} {end′} p q =
 -- It ends no farther on than the text is long.
 pub end-within : {o : List ℕ} {at : ℕ} {x o′ : List ℕ} {end most : ℕ} → Put o at x o′ end → length x ≤ most → end ≤ at + most
 end-within p h = omega (arith, p .end-is, h)
+
+-- Room for ten bytes is room for a number of 32 bits.
+pub room-32 : (at room : ℕ) {n : ℕ} → n < 2 ^ 32 → at + 10 ≤ room → at + length (digitsOf n) ≤ room
+room-32 at room {n} small h = omega (arith, digits-32 n small, h)
 
 -- No text.
 pub put-none : (o : List ℕ) (at : ℕ) → at ≤ length o → Put o at [] o at

@@ -1,5 +1,6 @@
 -- `listing::list` meets its contract: 9 without the room, else the job's refusal or the listing by the job.
 use mathlib.Core.Path.{sym, _∙_}
+use native.Mathlib.Omega.{arith}
 use borrow.Author.Needs.{needs}
 use Rattle.listing.specs.Texts.{bytesIn}
 use Rattle.listing.proofs.ListingLaws.{gives-as, by-job, no-job, with-room, without-room}
@@ -7,7 +8,7 @@ use Rattle.listing.proofs.list.Statement.{statement}
 use Rattle.listing.proofs.list.Tie as tie
 
 returns : tie.Need-returns
-returns c = without-room _ _ _ (c .if1 .taken)
+returns c = without-room _ _ _ (omega (arith, c .if1 .taken))
 
 job-of-requires : tie.Need-job-of-requires
 job-of-requires c κs = search needs

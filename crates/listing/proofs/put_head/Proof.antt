@@ -1,12 +1,12 @@
 -- `listing::put_head` meets its contract: the line number of a whole record, or the dash.
-use Prim.Native.Nat.{_≤_}
+use Prim.Native.Nat.{_^_, _<_}
 use mathlib.Core.Path.{sym, _∙_}
 use native.Mathlib.Omega.{arith}
 use borrow.Author.Needs.{needs}
 use lib.ListN.{length}
-use Rattle.listing.specs.Texts.{digitsOf, bytesIn}
+use Rattle.listing.specs.Texts.{bytesIn}
 use Rattle.listing.proofs.Digits.{digits-32}
-use Rattle.listing.proofs.PutLaws.{put-as, end-within}
+use Rattle.listing.proofs.PutLaws.{put-as, end-within, room-32}
 use Rattle.listing.proofs.LineLaws.{head-line, head-dash}
 use Rattle.listing.proofs.put_head.Statement.{statement}
 use Rattle.listing.proofs.put_head.Tie as tie
@@ -20,14 +20,14 @@ enum-known-r c = search needs
 cast-put-number : tie.Need-cast-put-number
 cast-put-number c = search needs
 
--- A line number has at most ten digits.
-line-short : (c : tie.After-struct-known) → length (digitsOf (c .before .before .before .r .given .0 .0 .line)) ≤ 10
-line-short c = digits-32 _ (search (needs, c .struct-known .given))
+-- A line number has 32 bits.
+small : (c : tie.After-struct-known) → c .before .before .before .r .given .0 .0 .line < 2 ^ 32
+small c = search (needs, c .struct-known .given)
 
 put-number-requires : tie.Need-put-number-requires
 put-number-requires c κs =
     let start = c .before .before .before .before .before .before .before .before in
-    omega (arith, start .pre, line-short c)
+    room-32 (start .args .at) (length (start .args .out .now)) (omega (arith, small c)) (start .pre)
 
 enum-told : tie.Need-enum-told
 enum-told c = search needs
@@ -47,7 +47,7 @@ returns c =
     let read = put .before .before .before .before .before .before in
     let number = put .put-number .ensures in (
       put-as (head-line _ _ (sym (read .raw-record .ensures) ∙ put .before .before .before .before .r .given .1)) number,
-      omega (arith, number .end-is, line-short (put .before)),
+      end-within number (digits-32 _ (omega (arith, small (put .before)))),
     )
 
 same-length-2 : tie.Need-same-length-2
