@@ -21,6 +21,7 @@ from functools import lru_cache
 from itertools import chain, islice
 from typing import NamedTuple
 
+# The two beside this would else leave compiled files in the tree.
 sys.dont_write_bytecode = True
 import records
 import search

@@ -1,9 +1,8 @@
 -- A line put together: its head, the entries of its list, and what the figures and the list of an answer come to.
-use Prim.Native.Nat.{ℕ, _+_, _*_, _≤_, _<_}
+use Prim.Native.Nat.{ℕ, _+_, _*_, _<_}
 use mathlib.Core.Path.{_≡_, refl, sym, ap, _∙_}
 use mathlib.Core.Bool.{Bool, true, false, cond}
 use mathlib.Core.List.{List, [], _∷_, _++_, append-nil, append-assoc}
-use native.Mathlib.Omega.{arith}
 use native.Mathlib.Numerals.{add-one}
 use lib.Dec.{eqb}
 use lib.ListN.{length, getD, take}
@@ -19,7 +18,7 @@ use Rattle.listing.specs.declared.Told.{Told}
 use Rattle.listing.specs.Texts.{digitsOf, spaced, bytesIn}
 use Rattle.listing.specs.Answers.{RecordAnswer, Fix, Grid, Hold, Refused, placesOf}
 use Rattle.listing.specs.Listings.{headOf, placesText, answerText, lineOf}
-use Rattle.listing.specs.Putting.{Begins, Tells, entriesText, wordText, wordOf, figureOf, visitsOf}
+use Rattle.listing.specs.Putting.{Tells, entriesText, wordText, wordOf, figureOf, visitsOf}
 
 -- The head of a line, by what the raw record says.
 headBy : RawAnswer → List ℕ

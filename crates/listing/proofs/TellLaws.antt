@@ -1,14 +1,14 @@
 -- What a record answers, told in figures with its places in a list.
-use Prim.Native.Nat.{ℕ, _+_, _-_, _*_, _≤_}
+use Prim.Native.Nat.{ℕ, _-_, _*_, _≤_}
 use mathlib.Core.Path.{_≡_, refl, sym, ap, ap₂, _∙_, subst, subst⁻¹}
-use mathlib.Core.Bool.{Bool, true, false}
-use mathlib.Core.List.{List, [], _∷_, _++_}
+use mathlib.Core.Bool.{true, false}
+use mathlib.Core.List.{List, [], _∷_}
 use native.Mathlib.Omega.{arith}
 use borrow.Author.Tests.{eq-eqb, ne-eqb}
 use lib.Dec.{eqb}
 use lib.IntN.{ℤ}
 use lib.ListN.{length, getD, take, set, replicate, length-append}
-use lib.Seq.{take-at, getD-take, take-suc-set}
+use lib.Seq.{take-at, getD-take}
 use Rattle.chart.specs.declared.Place.{Place}
 use Rattle.chart.specs.declared.Chain.{Chain}
 use Rattle.search.specs.declared.Window.{Window}

@@ -5,7 +5,6 @@ use mathlib.Core.Bool.{cond}
 use mathlib.Core.List.{List, [], _∷_}
 use lib.Dec.{eqb}
 use lib.IntN.{ℤ}
-use lib.ListN.{length}
 use Rattle.chart.specs.declared.Place.{Place}
 use Rattle.search.specs.Questions.{questionOf}
 use Rattle.search.specs.Answers.{Outcome, searchOf, searchFigures}
@@ -20,7 +19,7 @@ use Rattle.records.specs.ChainTables.{chainOf}
 use Rattle.listing.specs.declared.Carried.{Carried}
 use Rattle.listing.specs.declared.Carried.the-variants as carried
 
--- A fix has the visits of its search and the places found; a grid record and a hold have their place; a refused record has
+-- What a record answers. A fix has the visits of its search and the places found; a grid record and a hold have their place; a refused record has
 -- the number of the refusal and the visits made.
 pub data RecordAnswer : Type 0 where
   Fix : ℕ → List Place → RecordAnswer

@@ -18,7 +18,7 @@ use Rattle.listing.specs.declared.Carried.the-variants as carried
 use Rattle.listing.specs.declared.Listed.{Listed}
 use Rattle.listing.specs.declared.Listed.the-variants as listed
 use Rattle.listing.specs.Texts.{digitsOf, spaced, bytesIn}
-use Rattle.listing.specs.Answers.{RecordAnswer, Fix, Grid, Hold, Refused, answerOf, placesOf, carriedBy}
+use Rattle.listing.specs.Answers.{RecordAnswer, Fix, Grid, Hold, Refused, answerOf, carriedBy}
 
 -- What stands first in a record's line: its line number, or a dash where the record is too short to have one.
 unfoldable pub headOf : List ℕ → List ℕ

@@ -47,7 +47,7 @@ wordText word.Grid = bytesIn " GRID"
 wordText word.Hold = bytesIn " HOLD"
 wordText word.Refused = bytesIn " REFUSED"
 
--- An answer's word, the two numbers behind it, and its places, in figures and a list.
+-- An answer's word, and the two numbers behind it.
 unfoldable pub wordOf : RecordAnswer → Word
 wordOf (Fix visits places) = word.Fix
 wordOf (Grid p) = word.Grid
@@ -66,6 +66,7 @@ visitsOf (Grid p) = 0
 visitsOf (Hold p) = 0
 visitsOf (Refused number visits) = visits
 
+-- An answer is told: these, with its places in a list.
 pub record Tells (a : RecordAnswer) (t : Told) (list : List ℕ) : Type 0 where
   pub word : t .word ≡ wordOf a
   pub figure : t .figure ≡ figureOf a

@@ -1,4 +1,4 @@
--- Text as bytes: decimal numbers, and the words of a listing, in ASCII (01, The program).
+-- Text as bytes: decimal numbers, and quoted words, in ASCII (01, The program).
 use Prim.Native.Nat.{ℕ, zero, suc, _+_, _/_, _%_}
 use mathlib.Core.Bool.{Bool, true, false}
 use mathlib.Core.List.{List, [], _∷_, _++_}

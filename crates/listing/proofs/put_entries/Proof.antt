@@ -1,10 +1,9 @@
 -- `listing::put_entries` meets its contract: each turn puts one entry more.
 use Prim.Native.Nat.{ℕ, _+_, _-_, _*_, _≤_}
 use mathlib.Core.Path.{_≡_, subst}
-use mathlib.Core.List.{List}
 use native.Mathlib.Omega.{arith}
 use borrow.Author.Needs.{needs}
-use lib.ListN.{length, getD, take}
+use lib.ListN.{getD, take}
 use Rattle.listing.specs.Putting.{Put, entriesText}
 use Rattle.listing.proofs.Digits.{digits-32}
 use Rattle.listing.proofs.PutLaws.{put-length, put-then, put-none, put-as}
