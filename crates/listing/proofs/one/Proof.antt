@@ -1,5 +1,6 @@
 -- `listing::one` meets its contract: the answer, its line, and the place that it carries.
 use borrow.Author.Needs.{needs}
+use Rattle.listing.specs.Answers.{answerOf, placesOf}
 use Rattle.listing.proofs.one.Statement.{statement}
 use Rattle.listing.proofs.one.Tie as tie
 
@@ -21,8 +22,11 @@ same-length-2 c = search needs
 returns : tie.Need-returns
 returns c =
     let put = c .before .before .before .before in
-    let told = put .before .before .before .before .before .answer .ensures in
-    (put .put-line .ensures .0 _ told, (put .put-line .ensures .1, c .carry .ensures _ (told .places)))
+    let told = put .before .before .before .before .before in
+    let a = told .before .before .before .before .before .before .args in
+    let answer = answerOf (a .j) (a .table .now) (a .before) (a .s .now) in
+    let tells = told .answer .ensures in
+    (put .put-line .ensures .0 answer tells, (put .put-line .ensures .1, c .carry .ensures (placesOf answer) (tells .places)))
 
 pub one-spec : {M : Type 1} → statement M
 one-spec =
