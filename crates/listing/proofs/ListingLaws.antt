@@ -8,15 +8,13 @@ use Rattle.records.specs.declared.Job.{Job}
 use Rattle.records.specs.declared.JobAnswer.{JobAnswer}
 use Rattle.records.specs.declared.JobAnswer.the-variants as job
 use Rattle.records.specs.declared.ChainCount.{ChainCount}
-use Rattle.records.specs.declared.ChainCount.the-variants as count
 use Rattle.records.specs.LogRecords.{logBytes}
 use Rattle.records.specs.ChainTables.{chainCountOf}
 use Rattle.records.specs.Jobs.{jobOf}
 use Rattle.listing.specs.declared.Carried.{Carried}
 use Rattle.listing.specs.declared.Listed.{Listed}
 use Rattle.listing.specs.declared.Listed.the-variants as listed
-use Rattle.listing.specs.Texts.{bytesIn}
-use Rattle.listing.specs.Listings.{Part, linesOf, noticeOf, listingBy, listingFrom, longestLine, listedIn, bufferWith}
+use Rattle.listing.specs.Listings.{Part, listingBy, listingFrom, longestLine, listedIn, bufferWith}
 use Rattle.listing.specs.Putting.{Gives}
 
 -- The same listing is given the same.
@@ -24,23 +22,14 @@ pub gives-as : {o : List ℕ} {p q : Part} {o′ : List ℕ} {a : Listed} → p 
 gives-as {o} {p} {q} {o′} {a} e h = subst (λ (x : Part). Gives o x o′ a) e h
 
 module _ (table log : List ℕ) (before : Carried) where
-  -- With a job, by the count of chains.
-  pub by-chains : (j : Job) (n : ℕ) → chainCountOf table ≡ count.Chains n → linesOf j table before log ≡ listingBy (job.Job j) (chainCountOf table) table log before
-  unfolding listingBy
-  by-chains j n e = sym (ap (λ (c : ChainCount). listingBy (job.Job j) c table log before) e)
+  -- With a job, by what the count of chains is.
+  pub by-count : (j : Job) (c : ChainCount) → chainCountOf table ≡ c → listingBy (job.Job j) c table log before ≡ listingBy (job.Job j) (chainCountOf table) table log before
+  by-count j c e = sym (ap (λ (x : ChainCount). listingBy (job.Job j) x table log before) e)
 
-  pub no-chains : (j : Job) (n : ℕ) → chainCountOf table ≡ count.Refused n → noticeOf (bytesIn "CHAIN") n ≡ listingBy (job.Job j) (chainCountOf table) table log before
-  unfolding listingBy
-  no-chains j n e = sym (ap (λ (c : ChainCount). listingBy (job.Job j) c table log before) e)
-
-  -- By the job.
-  pub by-job : (s : List ℕ) (j : Job) → jobOf s ≡ job.Job j → listingBy (job.Job j) (chainCountOf table) table log before ≡ listingFrom s table log before
+  -- By what the job is.
+  pub by-job : (s : List ℕ) (a : JobAnswer) → jobOf s ≡ a → listingBy a (chainCountOf table) table log before ≡ listingFrom s table log before
   unfolding listingFrom
-  by-job s j e = sym (ap (λ (a : JobAnswer). listingBy a (chainCountOf table) table log before) e)
-
-  pub no-job : (s : List ℕ) (n : ℕ) → jobOf s ≡ job.Refused n → noticeOf (bytesIn "JOB") n ≡ listingFrom s table log before
-  unfolding listingFrom listingBy
-  no-job s n e = sym (ap (λ (a : JobAnswer). listingBy a (chainCountOf table) table log before) e)
+  by-job s a e = sym (ap (λ (x : JobAnswer). listingBy x (chainCountOf table) table log before) e)
 
 module _ (out log : List ℕ) (p : Part) where
   -- With room, what is given; without, 9.

@@ -18,7 +18,7 @@ use Rattle.search.specs.Questions.{Question, questionOf}
 use Rattle.search.specs.Answers.{Outcome, searchOf, entriesOf, listOf, searchFigures, figuresIn}
 use Rattle.search.proofs.Theorems.{listed-are-counted}
 use Rattle.records.specs.declared.Job.{Job}
-use Rattle.records.specs.declared.LogEntry.the-variants as entry
+use Rattle.records.specs.declared.LogEntry.{LogEntry}
 use Rattle.records.specs.declared.NamedChain.{NamedChain}
 use Rattle.records.specs.declared.NamedChain.the-variants as named
 use Rattle.records.specs.Bytes.{byteAt}
@@ -28,7 +28,7 @@ use Rattle.listing.specs.declared.Carried.{Carried}
 use Rattle.listing.specs.declared.Carried.the-variants as carried
 use Rattle.listing.specs.declared.Word.the-variants as word
 use Rattle.listing.specs.declared.Told.{Told}
-use Rattle.listing.specs.Answers.{RecordAnswer, Fix, Grid, Hold, Refused, searched, fixBy, holdOf, answerBy, answerOf, placesOf, only}
+use Rattle.listing.specs.Answers.{RecordAnswer, Fix, Grid, Hold, Refused, searched, fixBy, answerBy, answerOf, placesOf, only}
 use Rattle.listing.specs.Putting.{Begins, Tells, listEntries, wordOf, figureOf, visitsOf}
 
 -- A list that begins with one place, or with none.
@@ -45,13 +45,17 @@ pub refused-tells : (number visits : ℕ) (l : List ℕ) → Tells (Refused numb
 unfolding wordOf figureOf visitsOf placesOf
 refused-tells number visits l = record { word = refl; figure = refl; visits = refl; places = none-first l }
 
+single-tells : (a : RecordAnswer) (p : Place) (l : List ℕ) → placesOf a ≡ p ∷ [] → figureOf a ≡ 1 → visitsOf a ≡ 0 → take 2 l ≡ p .easting ∷ p .northing ∷ [] → Tells a (record { word = wordOf a; figure = 1; visits = 0; count = 1 }) l
+single-tells a p l places figure visits e =
+    record { word = refl; figure = sym figure; visits = sym visits; places = subst⁻¹ (λ (ps : List Place). Begins ps 1 l) places (one-first p l e) }
+
 pub grid-tells : (p : Place) (l : List ℕ) → take 2 l ≡ p .easting ∷ p .northing ∷ [] → Tells (Grid p) (record { word = word.Grid; figure = 1; visits = 0; count = 1 }) l
 unfolding wordOf figureOf visitsOf placesOf
-grid-tells p l e = record { word = refl; figure = refl; visits = refl; places = one-first p l e }
+grid-tells p l = single-tells (Grid p) p l refl refl refl
 
 pub hold-tells : (p : Place) (l : List ℕ) → take 2 l ≡ p .easting ∷ p .northing ∷ [] → Tells (Hold p) (record { word = word.Hold; figure = 1; visits = 0; count = 1 }) l
 unfolding wordOf figureOf visitsOf placesOf
-hold-tells p l e = record { word = refl; figure = refl; visits = refl; places = one-first p l e }
+hold-tells p l = single-tells (Hold p) p l refl refl refl
 
 -- The places of a list, two entries each.
 pub length-entries : (ps : List Place) → length (entriesOf ps) ≡ 2 * length ps
@@ -144,19 +148,6 @@ pub fix-same : (j : Job) (a b a′ b′ : ℤ) (x y : NamedChain) → a′ ≡ a
 fix-same j a b a′ b′ x y first second e = ap₂ (λ (u v : ℤ). fixBy j u v x) first second ∙ ap (fixBy j a b) e
 
 -- What a record answers, by its entry.
-module _ (j : Job) (table : List ℕ) (before : Carried) (s : List ℕ) where
-  pub answer-fix : (a b : ℤ) → logEntryOf s ≡ entry.Readings a b → fixBy j a b (chainOf table (byteAt s 1)) ≡ answerOf j table before s
-  unfolding answerOf answerBy
-  answer-fix a b e = sym (ap (answerBy j (chainOf table (byteAt s 1)) before) e)
-
-  pub answer-grid : (p : Place) → logEntryOf s ≡ entry.Place p → Grid p ≡ answerOf j table before s
-  unfolding answerOf answerBy
-  answer-grid p e = sym (ap (answerBy j (chainOf table (byteAt s 1)) before) e)
-
-  pub answer-hold : logEntryOf s ≡ entry.Hold → holdOf before ≡ answerOf j table before s
-  unfolding answerOf answerBy
-  answer-hold e = sym (ap (answerBy j (chainOf table (byteAt s 1)) before) e)
-
-  pub answer-refused : (number : ℕ) → logEntryOf s ≡ entry.Refused number → Refused number 0 ≡ answerOf j table before s
-  unfolding answerOf answerBy
-  answer-refused number e = sym (ap (answerBy j (chainOf table (byteAt s 1)) before) e)
+pub answer-by : (j : Job) (table : List ℕ) (before : Carried) (s : List ℕ) (e : LogEntry) → logEntryOf s ≡ e → answerBy j (chainOf table (byteAt s 1)) before e ≡ answerOf j table before s
+unfolding answerOf
+answer-by j table before s e h = sym (ap (answerBy j (chainOf table (byteAt s 1)) before) h)

@@ -4,7 +4,8 @@ use borrow.Author.Needs.{needs}
 use mir.Syntax.{w64}
 use mir.ValLaws.{toZ-ofZ}
 use Rattle.records.specs.ChainTables.{chainOf}
-use Rattle.listing.proofs.TellLaws.{tells-as, fix-same, told-as, grid-tells, answer-fix, answer-grid, answer-hold, answer-refused}
+use Rattle.listing.specs.Answers.{answerBy}
+use Rattle.listing.proofs.TellLaws.{tells-as, fix-same, told-as, grid-tells, answer-by}
 use Rattle.listing.proofs.answer.Statement.{statement}
 use Rattle.listing.proofs.answer.Tie as tie
 
@@ -45,6 +46,7 @@ same-length : tie.Need-same-length
 same-length c = search needs
 
 returns : tie.Need-returns
+unfolding answerBy
 returns c =
     let call = c .before .before in
     let a = call .before .before .before .before .before in
@@ -55,35 +57,38 @@ returns c =
     let byte = call .before .before .chain-byte .ensures in
     let table = start .args .table .now in
     tells-as (fix-same (start .args .j) _ _ _ _ _ _ (toZ-ofZ w64 _ (record { sfits = told .0 .1 })) (toZ-ofZ w64 _ (record { sfits = told .1 .0 .1 })) (call .before .chain-of .ensures ∙ ap (chainOf table) byte)
-    ∙ answer-fix _ _ _ _ _ _ e) (call .fix .ensures)
+    ∙ answer-by _ _ _ _ _ e) (call .fix .ensures)
 
 same-length-2 : tie.Need-same-length-2
 same-length-2 c = search needs
 
 returns-2 : tie.Need-returns-2
+unfolding answerBy
 returns-2 c =
     let call = c .before .before in
     let p = call .before .before .before in
     let read = p .before .before in
     let start = read .before .before .before .before in
-    tells-as (answer-grid _ _ _ _ _ (sym (read .log-entry .ensures) ∙ p .p .given .1))
+    tells-as (answer-by _ _ _ _ _ (sym (read .log-entry .ensures) ∙ p .p .given .1))
     (told-as (call .single .ensures .0) (grid-tells _ _ (call .single .ensures .1)))
 
 same-length-3 : tie.Need-same-length-3
 same-length-3 c = search needs
 
 returns-3 : tie.Need-returns-3
+unfolding answerBy
 returns-3 c =
     let call = c .before .before in
     let told = call .before .before in
     let read = told .before .before in
-    tells-as (answer-hold _ _ _ _ (sym (read .log-entry .ensures) ∙ told .enum-told .given .1)) (call .hold .ensures)
+    tells-as (answer-by _ _ _ _ _ (sym (read .log-entry .ensures) ∙ told .enum-told .given .1)) (call .hold .ensures)
 
 returns-4 : tie.Need-returns-4
+unfolding answerBy
 returns-4 c =
     let told = c .before .before in
     let read = told .before .before in
-    tells-as (answer-refused _ _ _ _ _ (sym (read .log-entry .ensures) ∙ told .number .given .1)) (c .refused .ensures _)
+    tells-as (answer-by _ _ _ _ _ (sym (read .log-entry .ensures) ∙ told .number .given .1)) (c .refused .ensures _)
 
 pub answer-spec : {M : Type 1} → statement M
 answer-spec =

@@ -2,7 +2,8 @@
 use mathlib.Core.Path.{sym, _∙_}
 use borrow.Author.Needs.{needs}
 use Rattle.listing.specs.Texts.{bytesIn}
-use Rattle.listing.proofs.ListingLaws.{gives-as, by-chains, no-chains}
+use Rattle.listing.specs.Listings.{listingBy}
+use Rattle.listing.proofs.ListingLaws.{gives-as, by-count}
 use Rattle.listing.proofs.by_job.Statement.{statement}
 use Rattle.listing.proofs.by_job.Tie as tie
 
@@ -28,24 +29,25 @@ same-length : tie.Need-same-length
 same-length c = search needs
 
 returns : tie.Need-returns
+unfolding listingBy
 returns c =
     let call = c .before .before in
     let told = call .before .before in
     let read = told .before .before in
     let a = read .before .before .before .before .args in
-    gives-as (by-chains (a .table .now) (a .log .now) (a .before) (a .j) _ (sym (read .chain-count .ensures) ∙ told .enum-told .given .1)) (call .lines .ensures)
+    gives-as (by-count (a .table .now) (a .log .now) (a .before) (a .j) _ (sym (read .chain-count .ensures) ∙ told .enum-told .given .1)) (call .lines .ensures)
 
 same-length-2 : tie.Need-same-length-2
 same-length-2 c = search needs
 
 returns-2 : tie.Need-returns-2
-unfolding bytesIn
+unfolding listingBy bytesIn
 returns-2 c =
     let call = c .before .before in
     let told = call .before .before .before .before in
     let read = told .before .before in
     let a = read .before .before .before .before .args in
-    gives-as (no-chains (a .table .now) (a .log .now) (a .before) (a .j) _ (sym (read .chain-count .ensures) ∙ told .number .given .1)) (call .notice .ensures)
+    gives-as (by-count (a .table .now) (a .log .now) (a .before) (a .j) _ (sym (read .chain-count .ensures) ∙ told .number .given .1)) (call .notice .ensures)
 
 pub by-job-spec : {M : Type 1} → statement M
 by-job-spec =

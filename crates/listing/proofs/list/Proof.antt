@@ -3,7 +3,8 @@ use mathlib.Core.Path.{sym, _∙_}
 use native.Mathlib.Omega.{arith}
 use borrow.Author.Needs.{needs}
 use Rattle.listing.specs.Texts.{bytesIn}
-use Rattle.listing.proofs.ListingLaws.{gives-as, by-job, no-job, with-room, without-room}
+use Rattle.listing.specs.Listings.{listingBy}
+use Rattle.listing.proofs.ListingLaws.{gives-as, by-job, with-room, without-room}
 use Rattle.listing.proofs.list.Statement.{statement}
 use Rattle.listing.proofs.list.Tie as tie
 
@@ -44,14 +45,14 @@ same-length-2 : tie.Need-same-length-2
 same-length-2 c = search needs
 
 returns-3 : tie.Need-returns-3
-unfolding bytesIn
+unfolding listingBy bytesIn
 returns-3 c =
     let call = c .before .before in
     let told = call .before .before .before .before in
     let read = told .before .before in
     let a = read .before .before .before .before .before .before .args in
     with-room _ _ _ (read .before .if1 .left) _ _
-    (gives-as (no-job (a .table .now) (a .log .now) (a .before) (a .job .now) _ (sym (read .job-of .ensures) ∙ told .number .given .1)) (call .notice .ensures))
+    (gives-as (by-job (a .table .now) (a .log .now) (a .before) (a .job .now) _ (sym (read .job-of .ensures) ∙ told .number .given .1)) (call .notice .ensures))
 
 pub list-spec : {M : Type 1} → statement M
 list-spec =
