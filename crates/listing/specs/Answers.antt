@@ -19,8 +19,8 @@ use Rattle.records.specs.ChainTables.{chainOf}
 use Rattle.listing.specs.declared.Carried.{Carried}
 use Rattle.listing.specs.declared.Carried.the-variants as carried
 
--- What a record answers. A fix has the visits of its search and the places found; a grid record and a hold have their place; a refused record has
--- the number of the refusal and the visits made.
+-- What a record answers. A fix has the visits of its search and the places found; a grid record and a hold have their
+-- place; a refused record has the number of the refusal and the visits made.
 pub data RecordAnswer : Type 0 where
   Fix : ℕ → List Place → RecordAnswer
   Grid : Place → RecordAnswer
