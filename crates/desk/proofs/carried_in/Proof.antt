@@ -1,0 +1,17 @@
+-- `desk::carried_in` meets its contract.
+use mathlib.Core.Path.{ap}
+use borrow.Author.Tests.{eq-eqb, ne-eqb}
+use Rattle.desk.specs.Figures.{carriedIn}
+use Rattle.desk.proofs.carried_in.Statement.{statement}
+use Rattle.desk.proofs.carried_in.Tie as tie
+
+returns : tie.Need-returns
+unfolding carriedIn
+returns c = rw (eq-eqb _ _ (c .if1 .taken))
+
+returns-2 : tie.Need-returns-2
+unfolding carriedIn
+returns-2 c = rw (ne-eqb _ _ (c .if1 .left))
+
+pub carried-in-spec : {M : Type 1} → statement M
+carried-in-spec = tie.close (tie.spec returns returns-2)

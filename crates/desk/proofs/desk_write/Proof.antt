@@ -1,0 +1,28 @@
+-- `desk::desk_write` meets its contract: what `write` promises.
+use mathlib.Core.Path.{_≡_, ap, ap₂, _∙_}
+use borrow.Author.Needs.{needs}
+use mir.Syntax.{w64}
+use mir.ValLaws.{toZ-ofZ}
+use Rattle.records.specs.Writing.{refusalOf, bufferOf}
+use Rattle.desk.specs.Figures.{draftBy}
+use Rattle.desk.proofs.desk_write.Statement.{statement}
+use Rattle.desk.proofs.desk_write.Tie as tie
+
+write-requires : tie.Need-write-requires
+write-requires c κs = search needs
+
+same-length : tie.Need-same-length
+same-length c = search needs
+
+returns : tie.Need-returns
+returns c =
+    let start = c .before .before .before .before .before in
+    let d = start .args in
+    let same : draftBy (d .kind) (d .chain) (d .line) _ _ ≡ draftBy (d .kind) (d .chain) (d .line) (d .x) (d .y) =
+    ap₂ (draftBy (d .kind) (d .chain) (d .line)) (toZ-ofZ w64 (d .x) (start .fits .x)) (toZ-ofZ w64 (d .y) (start .fits .y)) in (
+      c .before .before .write .ensures .0 ∙ ap (refusalOf _) same,
+      c .before .before .write .ensures .1 ∙ ap (bufferOf _) same,
+    )
+
+pub desk-write-spec : {M : Type 1} → statement M
+desk-write-spec = tie.close (tie.spec write-requires same-length returns)

@@ -1,0 +1,2 @@
+-- The figures of the library for C.
+pub mod Figures
