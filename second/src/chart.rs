@@ -1,0 +1,194 @@
+//! Places, chains, distances and readings (01, Distance and reading).
+
+use crate::refusals;
+
+pub const MOST_EASTING: u32 = 100_000_000;
+pub const MOST_NORTHING: u32 = 1_000_000_000;
+
+#[derive(Clone, Copy, PartialEq, Eq, Debug)]
+pub struct Place {
+    pub easting: u32,
+    pub northing: u32,
+}
+
+#[derive(Clone, Copy, PartialEq, Eq, Debug)]
+pub struct Chain {
+    pub master: Place,
+    pub a: Place,
+    pub b: Place,
+}
+
+/// What the two slaves read, in centimetres.
+#[derive(Clone, Copy, PartialEq, Eq, Debug)]
+pub struct Readings {
+    pub a: i64,
+    pub b: i64,
+}
+
+pub fn place(easting: u32, northing: u32) -> Place {
+    Place { easting, northing }
+}
+
+pub fn in_range(place: Place) -> bool {
+    place.easting <= MOST_EASTING && place.northing <= MOST_NORTHING
+}
+
+pub fn is_sound(chain: &Chain) -> bool {
+    let distinct = chain.master != chain.a && chain.master != chain.b && chain.a != chain.b;
+    distinct && [chain.master, chain.a, chain.b].into_iter().all(in_range)
+}
+
+/// Sixteen times the root of a leading byte and a half, to begin the root with.
+const FIRST_ROOTS: [u8; 256] = first_roots();
+
+const fn first_roots() -> [u8; 256] {
+    let mut roots = [0; 256];
+    let mut byte = 0;
+    let mut root = 0;
+    while byte < 256 {
+        while (root + 1) * (root + 1) <= 256 * byte + 128 {
+            root += 1;
+        }
+        roots[byte] = root as u8;
+        byte += 1;
+    }
+    roots
+}
+
+/// The whole part of the square root of a number below 2^62: Heron's rule twice upon a guess that is good to a hundredth
+/// part, and then single steps until the squares on both sides fit.
+pub fn root(number: u64) -> u64 {
+    if number == 0 {
+        return 0;
+    }
+    let digits = 64 - number.leading_zeros();
+    let pairs = digits.saturating_sub(7) / 2;
+    let mut guess = (u64::from(FIRST_ROOTS[(number >> (2 * pairs)) as usize]) << pairs) / 16;
+    guess = (guess + number / guess) / 2;
+    guess = (guess + number / guess) / 2;
+    while guess * guess > number {
+        guess -= 1;
+    }
+    while (guess + 1) * (guess + 1) <= number {
+        guess += 1;
+    }
+    guess
+}
+
+/// The same root one binary digit after another, for the sweep that checks the search.
+pub fn root_by_digits(number: u64) -> u64 {
+    let mut root = 0u64;
+    for digit in (0..31).rev() {
+        let higher = root | 1 << digit;
+        if higher * higher <= number {
+            root = higher;
+        }
+    }
+    root
+}
+
+fn squared_distance(one: Place, other: Place) -> u64 {
+    let east = u64::from(one.easting.abs_diff(other.easting));
+    let north = u64::from(one.northing.abs_diff(other.northing));
+    east * east + north * north
+}
+
+/// The readings at a place, with whichever root the caller trusts. Chain and place must be in range.
+pub fn readings_with(root: fn(u64) -> u64, chain: &Chain, place: Place) -> Readings {
+    let range = |station| root(squared_distance(place, station)) as i64;
+    let master = range(chain.master);
+    Readings { a: range(chain.a) - master, b: range(chain.b) - master }
+}
+
+pub fn readings(chain: &Chain, place: Place) -> Readings {
+    readings_with(root, chain, place)
+}
+
+/// The readings expected at a place that somebody asks about: 4 precedes 5.
+pub fn expected(chain: &Chain, place: Place) -> Result<Readings, u32> {
+    if !in_range(place) {
+        return Err(refusals::RANGE);
+    }
+    if !is_sound(chain) {
+        return Err(refusals::CHAIN);
+    }
+    Ok(readings(chain, place))
+}
+
+/// How far the worse of two readings is from what is wanted.
+pub fn miss(found: Readings, wanted: Readings) -> u64 {
+    found.a.abs_diff(wanted.a).max(found.b.abs_diff(wanted.b))
+}
+
+/// A cell's number in chart order: the bits of its offsets in turn, the northing's above the easting's.
+pub fn chart_number(east: u32, north: u32) -> u64 {
+    let bits = |offset: u32| (0..32).map(move |bit| u64::from(offset >> bit & 1) << (2 * bit));
+    bits(east).sum::<u64>() + 2 * bits(north).sum::<u64>()
+}
+
+#[cfg(test)]
+pub mod tests {
+    use super::*;
+
+    /// Chain 1 of 01's examples.
+    pub const CHAIN_1: Chain = Chain {
+        master: Place { easting: 0, northing: 0 },
+        a: Place { easting: 30000, northing: 0 },
+        b: Place { easting: 0, northing: 40000 },
+    };
+
+    fn at(easting: u32, northing: u32) -> (i64, i64) {
+        let found = expected(&CHAIN_1, place(easting, northing)).unwrap();
+        (found.a, found.b)
+    }
+
+    #[test]
+    fn p1_to_p3_the_readings_of_three_places() {
+        assert_eq!(at(30000, 40000), (-10000, -20000));
+        assert_eq!(at(30001, 40000), (-10000, -19999));
+        assert_eq!(at(30000, 40001), (-9999, -20000));
+    }
+
+    #[test]
+    fn each_distance_is_cut_by_itself() {
+        assert_eq!(at(1, 1), (29998, 39998));
+    }
+
+    #[test]
+    fn a_place_is_refused_before_a_chain() {
+        let unsound = Chain { a: CHAIN_1.master, ..CHAIN_1 };
+        let far = place(MOST_EASTING + 1, 0);
+        assert_eq!(expected(&unsound, far), Err(4));
+        assert_eq!(expected(&unsound, place(0, MOST_NORTHING + 1)), Err(4));
+        assert_eq!(expected(&unsound, place(0, 0)), Err(5));
+        assert_eq!(expected(&Chain { b: far, ..CHAIN_1 }, place(0, 0)), Err(5));
+        assert!(expected(&CHAIN_1, place(MOST_EASTING, MOST_NORTHING)).is_ok());
+    }
+
+    #[test]
+    fn roots_about_squares() {
+        for root_of in [root, root_by_digits] {
+            assert_eq!([0, 1, 2, 3, 4, 8, 9].map(root_of), [0, 1, 1, 1, 2, 2, 3]);
+            for side in [10u64, 255, 256, 65_535, 999_999_937, 1_000_000_000, 1_004_987_562] {
+                assert_eq!(root_of(side * side - 1), side - 1);
+                assert_eq!(root_of(side * side), side);
+                assert_eq!(root_of(side * side + 2 * side), side);
+            }
+        }
+    }
+
+    #[test]
+    fn the_two_roots_agree() {
+        let mut number = 1u64;
+        for step in 0..200_000u64 {
+            number = number.wrapping_mul(6_364_136_223_846_793_005).wrapping_add(step);
+            let cut = number >> (2 + step % 62);
+            assert_eq!(root(cut), root_by_digits(cut), "{cut}");
+        }
+    }
+
+    #[test]
+    fn chart_numbers_of_a_small_square() {
+        assert_eq!([(0, 0), (1, 0), (0, 1), (1, 1), (2, 0), (0, 2)].map(|(e, n)| chart_number(e, n)), [0, 1, 2, 3, 4, 8]);
+    }
+}

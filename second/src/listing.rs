@@ -1,0 +1,141 @@
+//! The listing of a job, a table and a log (01, The program).
+
+use std::io::{self, Write};
+
+use crate::chart::Place;
+use crate::records::{self, Entry, RECORD};
+use crate::refusals;
+use crate::search::{self, Job};
+
+/// The places that the program's list has room for.
+pub const ROOM: usize = 256;
+
+/// What a record of the log gives, with the word that is printed for it.
+struct Answer {
+    word: &'static str,
+    places: Vec<Place>,
+    visits: u64,
+}
+
+/// A refusal and the visits made before it.
+type Refused = (u32, u64);
+
+/// Prints the listing, and hands on the place that a hold after it would repeat.
+pub fn list(job: &[u8], table: &[u8], log: &[u8], held: Option<Place>, out: &mut impl Write) -> io::Result<Option<Place>> {
+    let job = match records::job(job) {
+        Ok(job) => job,
+        Err(refusal) => return writeln!(out, "JOB REFUSED {refusal}").map(|_| None),
+    };
+    if let Err(refusal) = records::chain_count(table) {
+        return writeln!(out, "CHAIN REFUSED {refusal}").map(|_| None);
+    }
+    let mut held = held;
+    for record in log.chunks(RECORD) {
+        let answer = answer(&job, table, record, held);
+        print(record, &answer, out)?;
+        held = answer.ok().and_then(single_place);
+    }
+    Ok(held)
+}
+
+fn single_place(answer: Answer) -> Option<Place> {
+    match answer.places[..] {
+        [place] => Some(place),
+        _ => None,
+    }
+}
+
+fn answer(job: &Job, table: &[u8], record: &[u8], held: Option<Place>) -> Result<Answer, Refused> {
+    let unvisited = |refusal| (refusal, 0);
+    let one = |word, place| Answer { word, places: vec![place], visits: 0 };
+    let (chain, wanted) = match records::entry(record).map_err(unvisited)? {
+        Entry::Grid(place) => return Ok(one("GRID", place)),
+        Entry::Hold => return held.map(|place| one("HOLD", place)).ok_or((refusals::HOLD, 0)),
+        Entry::Hyperbolic { chain, wanted } => (chain, wanted),
+    };
+    let chain = records::chain(table, u32::from(chain)).map_err(unvisited)?;
+    let found = search::search(&chain, wanted, job, ROOM);
+    if found.refusal != 0 {
+        return Err((found.refusal, found.visits));
+    }
+    Ok(Answer { word: "FIX", places: found.places, visits: found.visits })
+}
+
+fn print(record: &[u8], answer: &Result<Answer, Refused>, out: &mut impl Write) -> io::Result<()> {
+    if record.len() < RECORD {
+        return writeln!(out, "- REFUSED 1 0");
+    }
+    let line = records::line_number(record);
+    let answer = match answer {
+        Ok(answer) => answer,
+        Err((refusal, visits)) => return writeln!(out, "{line} REFUSED {refusal} {visits}"),
+    };
+    write!(out, "{line} {} {} {}", answer.word, answer.places.len(), answer.visits)?;
+    for place in &answer.places {
+        write!(out, " {} {}", place.easting, place.northing)?;
+    }
+    writeln!(out)
+}
+
+#[cfg(test)]
+mod tests {
+    use super::*;
+    use crate::chart;
+    use crate::words;
+
+    const JOB: &str = "30750000409c0000010000000000000064000000000000000000000000000000";
+    const TABLE: &str = "0000000000000000307500000000000000000000409c0000";
+    const FIX: &str = "010100000100000000000000000059c000000000000069c00000000000000000";
+    const GRID: &str = "02000000020000005c8fc2f528c0724000000000000079400000000000000000";
+    const HOLD: &str = "0300000003000000000000000000000000000000000000000000000000000000";
+
+    fn text(job: &str, table: &str, log: &str, held: Option<Place>) -> (String, Option<Place>) {
+        let [job, table, log] = [job, table, log].map(|bytes| words::unhex(bytes).unwrap());
+        let mut out = Vec::new();
+        let held = list(&job, &table, &log, held, &mut out).unwrap();
+        (String::from_utf8(out).unwrap(), held)
+    }
+
+    fn printed(log: &str) -> String {
+        text(JOB, TABLE, log, None).0
+    }
+
+    #[test]
+    fn the_log_of_three_records() {
+        let lines = "1 FIX 2 5 30000 40000 30001 40001\n2 GRID 1 0 30001 40000\n3 HOLD 1 0 30001 40000\n";
+        assert_eq!(printed(&format!("{FIX}{GRID}{HOLD}")), lines);
+    }
+
+    #[test]
+    fn a_hold_needs_exactly_one_place_just_before() {
+        assert_eq!(printed(&format!("{HOLD}{HOLD}")), "3 REFUSED 11 0\n3 REFUSED 11 0\n");
+        assert!(printed(&format!("{FIX}{HOLD}")).ends_with("\n3 REFUSED 11 0\n"));
+        assert!(printed(&format!("{GRID}{HOLD}{HOLD}")).ends_with("\n3 HOLD 1 0 30001 40000\n"));
+        assert!(printed(&format!("{GRID}{FIX}{HOLD}")).ends_with("\n3 REFUSED 11 0\n"));
+    }
+
+    #[test]
+    fn a_short_last_record() {
+        assert_eq!(printed(&format!("{GRID}00")), "2 GRID 1 0 30001 40000\n- REFUSED 1 0\n");
+        assert_eq!(text(JOB, TABLE, "02", Some(chart::place(1, 2))), ("- REFUSED 1 0\n".into(), None));
+    }
+
+    #[test]
+    fn a_bad_job_or_table_is_all_that_is_printed() {
+        assert_eq!(text("-", "-", FIX, None).0, "JOB REFUSED 1\n");
+        assert_eq!(text(JOB, "-", FIX, None).0, "CHAIN REFUSED 1\n");
+        assert_eq!(text(JOB, TABLE, "-", Some(chart::place(1, 2))), (String::new(), Some(chart::place(1, 2))));
+    }
+
+    #[test]
+    fn an_unsound_chain_matters_only_when_named() {
+        let table = format!("{TABLE}{}", "00".repeat(24));
+        assert!(text(JOB, &table, FIX, None).0.starts_with("1 FIX 2 5 "));
+        assert_eq!(text(JOB, &table, &FIX.replacen("0101", "0102", 1), None).0, "1 REFUSED 5 0\n");
+    }
+
+    #[test]
+    fn a_held_place_is_given() {
+        assert_eq!(text(JOB, TABLE, HOLD, Some(chart::place(7, u32::MAX))).0, "3 HOLD 1 0 7 4294967295\n");
+    }
+}

@@ -1,0 +1,69 @@
+//! A second program for the rules of document 01, written from that document alone, to be compared with the first.
+
+mod answers;
+mod chart;
+mod listing;
+mod numbers;
+mod random;
+mod records;
+mod refusals;
+mod search;
+mod words;
+
+use std::io::{self, BufRead, BufWriter, Write};
+use std::path::Path;
+use std::process::ExitCode;
+
+const USAGE: &str = "second list [FOLDER] | answers | logs SEED COUNT ROOT | requests SEED COUNT";
+
+fn main() -> ExitCode {
+    let words: Vec<String> = std::env::args().skip(1).collect();
+    let words: Vec<&str> = words.iter().map(String::as_str).collect();
+    let done = match words[..] {
+        ["list"] => list(Path::new(".")),
+        ["list", folder] => list(Path::new(folder)),
+        ["answers"] => answer_all(),
+        _ => Err(USAGE.into()),
+    };
+    match done {
+        Ok(()) => ExitCode::SUCCESS,
+        Err(message) => {
+            eprintln!("second: {message}");
+            ExitCode::from(2)
+        }
+    }
+}
+
+/// The bytes of a file; a missing one counts as empty.
+fn contents(path: &Path) -> Result<Vec<u8>, String> {
+    match std::fs::read(path) {
+        Err(error) if error.kind() == io::ErrorKind::NotFound => Ok(Vec::new()),
+        read => read.map_err(|error| format!("{}: {error}", path.display())),
+    }
+}
+
+fn list(folder: &Path) -> Result<(), String> {
+    let job = contents(&folder.join("job.dat"))?;
+    let table = contents(&folder.join("chain.dat"))?;
+    let log = contents(&folder.join("lay.dat"))?;
+    let mut out = BufWriter::new(io::stdout().lock());
+    listing::list(&job, &table, &log, None, &mut out).map_err(told)?;
+    out.flush().map_err(told)
+}
+
+fn answer_all() -> Result<(), String> {
+    let mut out = BufWriter::new(io::stdout().lock());
+    for (index, line) in io::stdin().lock().lines().enumerate() {
+        let answer = answers::answer(&line.map_err(told)?);
+        if answer.is_err() {
+            out.flush().map_err(told)?;
+        }
+        let answer = answer.map_err(|wrong| format!("request {}: {wrong}", index + 1))?;
+        writeln!(out, "{answer}").map_err(told)?;
+    }
+    out.flush().map_err(told)
+}
+
+fn told(error: io::Error) -> String {
+    error.to_string()
+}

@@ -1,0 +1,236 @@
+//! The records read and written (01, The records). Which bytes must be zero stands in masks, a bit a byte.
+
+use crate::chart::{self, Chain, Place, Readings};
+use crate::numbers;
+use crate::refusals;
+use crate::search::{self, Job};
+
+pub const RECORD: usize = 32;
+pub const CHAIN_RECORD: usize = 24;
+pub const MOST_CHAINS: usize = 16;
+
+const HYPERBOLIC_ZEROS: u32 = 0xff00_000c;
+const GRID_ZEROS: u32 = 0xff00_000e;
+const HOLD_ZEROS: u32 = 0xffff_ff0e;
+const JOB_ZEROS: u32 = 0xff00_0e00;
+
+/// A log record in whole centimetres. The chain number is as it stands; the table decides whether it is one.
+#[derive(Clone, Copy, PartialEq, Eq, Debug)]
+pub enum Entry {
+    Hyperbolic { chain: u8, wanted: Readings },
+    Grid(Place),
+    Hold,
+}
+
+fn word(bytes: &[u8], start: usize) -> u32 {
+    bytes[start..start + 4].iter().rev().fold(0, |number, &byte| number << 8 | u32::from(byte))
+}
+
+fn long(bytes: &[u8], start: usize) -> u64 {
+    u64::from(word(bytes, start + 4)) << 32 | u64::from(word(bytes, start))
+}
+
+fn place_at(bytes: &[u8], start: usize) -> Place {
+    chart::place(word(bytes, start), word(bytes, start + 4))
+}
+
+fn zero_under(mask: u32, bytes: &[u8]) -> bool {
+    bytes.iter().enumerate().all(|(index, &byte)| mask >> index & 1 == 0 || byte == 0)
+}
+
+pub fn line_number(record: &[u8]) -> u32 {
+    word(record, 4)
+}
+
+/// A log record by itself: 1, 2, 3, 4.
+pub fn entry(record: &[u8]) -> Result<Entry, u32> {
+    if record.len() != RECORD {
+        return Err(refusals::LENGTH);
+    }
+    let zeros = match record[0] {
+        1 => HYPERBOLIC_ZEROS,
+        2 => GRID_ZEROS,
+        3 => HOLD_ZEROS,
+        _ => return Err(refusals::BYTES),
+    };
+    if !zero_under(zeros, record) {
+        return Err(refusals::BYTES);
+    }
+    if record[0] == 3 {
+        return Ok(Entry::Hold);
+    }
+    let first = numbers::centimetres(long(record, 8))?;
+    let second = numbers::centimetres(long(record, 16))?;
+    if record[0] == 1 {
+        return Ok(Entry::Hyperbolic { chain: record[1], wanted: Readings { a: first, b: second } });
+    }
+    grid_place(first, second).map(Entry::Grid)
+}
+
+/// The place of two numbers of centimetres, if it is in range.
+fn grid_place(easting: i64, northing: i64) -> Result<Place, u32> {
+    let (Ok(easting), Ok(northing)) = (u32::try_from(easting), u32::try_from(northing)) else {
+        return Err(refusals::RANGE);
+    };
+    let place = chart::place(easting, northing);
+    if !chart::in_range(place) {
+        return Err(refusals::RANGE);
+    }
+    Ok(place)
+}
+
+pub fn job(bytes: &[u8]) -> Result<Job, u32> {
+    if bytes.len() != RECORD {
+        return Err(refusals::LENGTH);
+    }
+    if !zero_under(JOB_ZEROS, bytes) {
+        return Err(refusals::BYTES);
+    }
+    let job = Job {
+        corner: place_at(bytes, 0),
+        k: u32::from(bytes[8]),
+        tolerance: word(bytes, 12),
+        allowance: long(bytes, 16),
+    };
+    search::admit_job(&job)?;
+    Ok(job)
+}
+
+pub fn chain_count(table: &[u8]) -> Result<usize, u32> {
+    (1..=MOST_CHAINS).find(|count| count * CHAIN_RECORD == table.len()).ok_or(refusals::LENGTH)
+}
+
+/// The chain of a number: 1 for the table, then 5.
+pub fn chain(table: &[u8], number: u32) -> Result<Chain, u32> {
+    let count = chain_count(table)? as u32;
+    if number == 0 || number > count {
+        return Err(refusals::CHAIN);
+    }
+    let record = &table[(number as usize - 1) * CHAIN_RECORD..];
+    let chain = Chain { master: place_at(record, 0), a: place_at(record, 8), b: place_at(record, 16) };
+    if !chart::is_sound(&chain) {
+        return Err(refusals::CHAIN);
+    }
+    Ok(chain)
+}
+
+/// What the writer takes; a buffer's length is the caller's.
+#[derive(Clone, Copy, Debug)]
+pub struct Draft {
+    pub kind: u32,
+    pub chain: u32,
+    pub line: u32,
+    pub x: i64,
+    pub y: i64,
+}
+
+/// The record written into a buffer of a length: 1 to 5 in this order.
+pub fn write(length: usize, draft: &Draft) -> Result<[u8; RECORD], u32> {
+    if length != RECORD {
+        return Err(refusals::LENGTH);
+    }
+    if !(1..=3).contains(&draft.kind) {
+        return Err(refusals::BYTES);
+    }
+    let mut record = [0; RECORD];
+    record[0] = draft.kind as u8;
+    record[4..8].copy_from_slice(&draft.line.to_le_bytes());
+    if draft.kind == 3 {
+        return Ok(record);
+    }
+    record[8..16].copy_from_slice(&numbers::metres(draft.x)?.to_le_bytes());
+    record[16..24].copy_from_slice(&numbers::metres(draft.y)?.to_le_bytes());
+    if draft.kind == 2 {
+        grid_place(draft.x, draft.y)?;
+        return Ok(record);
+    }
+    if draft.chain == 0 || draft.chain as usize > MOST_CHAINS {
+        return Err(refusals::CHAIN);
+    }
+    record[1] = draft.chain as u8;
+    Ok(record)
+}
+
+#[cfg(test)]
+mod tests {
+    use super::*;
+
+    fn grid(easting: f64, northing: f64) -> [u8; 32] {
+        let mut record = [0; 32];
+        record[0] = 2;
+        record[8..16].copy_from_slice(&easting.to_le_bytes());
+        record[16..24].copy_from_slice(&northing.to_le_bytes());
+        record
+    }
+
+    #[test]
+    fn places_are_tested_after_rounding() {
+        assert_eq!(entry(&grid(-0.001, 0.0)), Ok(Entry::Grid(chart::place(0, 0))));
+        assert_eq!(entry(&grid(-0.01, 0.0)), Err(4));
+        assert_eq!(entry(&grid(1_000_000.0, 10_000_000.0)), Ok(Entry::Grid(chart::place(100_000_000, 1_000_000_000))));
+        assert_eq!(entry(&grid(1_000_000.005, 0.0)), Err(4));
+        assert_eq!(entry(&grid(-1.0, f64::NAN)), Err(3));
+    }
+
+    #[test]
+    fn zero_bytes_are_tested_before_numbers() {
+        for index in [1, 2, 3, 24, 31] {
+            let mut record = grid(f64::NAN, 0.0);
+            record[index] = 0x80;
+            assert_eq!(entry(&record), Err(2));
+        }
+        let mut record = grid(-0.0, -0.0);
+        assert_eq!(entry(&record), Ok(Entry::Grid(chart::place(0, 0))));
+        record[0] = 3;
+        assert_eq!(entry(&record), Err(2));
+        assert_eq!(entry(&record[..31]), Err(1));
+    }
+
+    #[test]
+    fn any_chain_number_is_read() {
+        let mut record = grid(0.0, 0.0);
+        record[..2].copy_from_slice(&[1, 255]);
+        let wanted = Readings { a: 0, b: 0 };
+        assert_eq!(entry(&record), Ok(Entry::Hyperbolic { chain: 255, wanted }));
+    }
+
+    #[test]
+    fn a_job_is_refused_by_number() {
+        let mut bytes = [0; 32];
+        bytes[8] = 25;
+        bytes[14] = 255;
+        assert_eq!(job(&bytes), Err(6));
+        bytes[31] = 1;
+        assert_eq!(job(&bytes), Err(2));
+        assert_eq!(job(&bytes[1..]), Err(1));
+        bytes[8] = 24;
+        bytes[31] = 0;
+        assert_eq!(job(&bytes), Err(7));
+    }
+
+    #[test]
+    fn tables_have_one_to_sixteen_chains() {
+        let table = [0; 408];
+        assert_eq!([0, 23, 24, 25, 384, 408].map(|length| chain_count(&table[..length])), [Err(1), Err(1), Ok(1), Err(1), Ok(16), Err(1)]);
+        assert_eq!([0, 1, 2].map(|number| chain(&table[..24], number)), [Err(5); 3]);
+    }
+
+    #[test]
+    fn the_writer_refuses_in_order() {
+        let draft = Draft { kind: 2, chain: 99, line: 7, x: 1_000_000_001, y: -1 };
+        assert_eq!(write(31, &Draft { kind: 9, ..draft }), Err(1));
+        assert_eq!(write(32, &Draft { kind: 9, ..draft }), Err(2));
+        assert_eq!(write(32, &draft), Err(3));
+        assert_eq!(write(32, &Draft { x: 100_000_001, ..draft }), Err(4));
+        assert_eq!(write(32, &Draft { kind: 1, x: -5, ..draft }), Err(5));
+        assert_eq!(write(32, &Draft { kind: 3, ..draft }).unwrap()[..9], [3, 0, 0, 0, 7, 0, 0, 0, 0]);
+    }
+
+    #[test]
+    fn what_is_written_is_read() {
+        let draft = Draft { kind: 1, chain: 16, line: u32::MAX, x: -10000, y: 0 };
+        let record = write(32, &draft).unwrap();
+        assert_eq!(entry(&record), Ok(Entry::Hyperbolic { chain: 16, wanted: Readings { a: -10000, b: 0 } }));
+        assert_eq!(line_number(&record), u32::MAX);
+    }
+}

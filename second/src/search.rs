@@ -1,0 +1,237 @@
+//! The search and its count (01, The search and its count): a stack of squares, and a sweep over small windows beside it.
+
+use crate::chart::{self, Chain, Place, Readings, MOST_EASTING, MOST_NORTHING};
+use crate::numbers::MOST_CENTIMETRES;
+use crate::refusals;
+
+pub const MOST_EXPONENT: u32 = 24;
+pub const MOST_TOLERANCE: u32 = 100_000;
+/// Windows up to this exponent are swept cell by cell as well.
+const SWEPT_EXPONENT: u32 = 3;
+
+#[derive(Clone, Copy, PartialEq, Eq, Debug)]
+pub struct Job {
+    pub corner: Place,
+    pub k: u32,
+    pub tolerance: u32,
+    pub allowance: u64,
+}
+
+/// What a search gives: refusal 0 with places, or a refusal with none.
+#[derive(Clone, PartialEq, Eq, Debug)]
+pub struct Found {
+    pub refusal: u32,
+    pub places: Vec<Place>,
+    pub visits: u64,
+}
+
+/// A square still to be visited, named by its south-west cell.
+#[derive(Clone, Copy)]
+struct Square {
+    corner: Place,
+    side: u32,
+}
+
+impl Found {
+    fn refused(refusal: u32, visits: u64) -> Found {
+        Found { refusal, places: Vec::new(), visits }
+    }
+}
+
+impl Square {
+    /// The cell half a side east and north of the corner; a cell's own self.
+    fn middle(self) -> Place {
+        self.offset(self.side / 2, self.side / 2)
+    }
+
+    fn offset(self, east: u32, north: u32) -> Place {
+        chart::place(self.corner.easting + east, self.corner.northing + north)
+    }
+
+    /// The quarters in the order in which a stack must take them: the first to visit comes last.
+    fn quarters_reversed(self) -> [Square; 4] {
+        let half = self.side / 2;
+        [(half, half), (0, half), (half, 0), (0, 0)].map(|(east, north)| Square {
+            corner: self.offset(east, north),
+            side: half,
+        })
+    }
+}
+
+/// Refusals of a window and a tolerance: 6, then 7.
+pub fn admit_job(job: &Job) -> Result<(), u32> {
+    if job.k > MOST_EXPONENT {
+        return Err(refusals::WINDOW);
+    }
+    let last = (1u64 << job.k) - 1;
+    let east = u64::from(job.corner.easting) + last;
+    let north = u64::from(job.corner.northing) + last;
+    if east > u64::from(MOST_EASTING) || north > u64::from(MOST_NORTHING) {
+        return Err(refusals::WINDOW);
+    }
+    if job.tolerance > MOST_TOLERANCE {
+        return Err(refusals::TOLERANCE);
+    }
+    Ok(())
+}
+
+fn admit(chain: &Chain, wanted: Readings, job: &Job) -> Result<(), u32> {
+    let limits = -MOST_CENTIMETRES..=MOST_CENTIMETRES;
+    if !limits.contains(&wanted.a) || !limits.contains(&wanted.b) {
+        return Err(refusals::NUMBER);
+    }
+    if !chart::is_sound(chain) {
+        return Err(refusals::CHAIN);
+    }
+    admit_job(job)
+}
+
+/// The matching cells of the job's window in chart order, as many as there is room for.
+pub fn search(chain: &Chain, wanted: Readings, job: &Job, room: usize) -> Found {
+    if let Err(refusal) = admit(chain, wanted, job) {
+        return Found::refused(refusal, 0);
+    }
+    let found = walk(chain, wanted, job, room);
+    let complete = found.refusal == 0 || found.refusal == refusals::NOWHERE;
+    if complete && job.k <= SWEPT_EXPONENT {
+        assert_eq!(found.places, sweep(chain, wanted, job), "walk and sweep disagree: {chain:?} {wanted:?} {job:?}");
+    }
+    found
+}
+
+fn walk(chain: &Chain, wanted: Readings, job: &Job, room: usize) -> Found {
+    let mut stack = vec![Square { corner: job.corner, side: 1 << job.k }];
+    let mut places = Vec::new();
+    let mut visits = 0;
+    while let Some(square) = stack.pop() {
+        if visits == job.allowance {
+            return Found::refused(refusals::ALLOWANCE, visits);
+        }
+        visits += 1;
+        let slack = if square.side == 1 { 0 } else { 2 * square.side + 2 };
+        let miss = chart::miss(chart::readings(chain, square.middle()), wanted);
+        if miss > u64::from(job.tolerance + slack) {
+            continue;
+        }
+        if square.side > 1 {
+            stack.extend(square.quarters_reversed());
+            continue;
+        }
+        if places.len() == room {
+            return Found::refused(refusals::ROOM, visits);
+        }
+        places.push(square.corner);
+    }
+    if places.is_empty() {
+        return Found::refused(refusals::NOWHERE, visits);
+    }
+    Found { refusal: 0, places, visits }
+}
+
+/// Every cell of the window tested, and those that match put in order by their chart numbers.
+fn sweep(chain: &Chain, wanted: Readings, job: &Job) -> Vec<Place> {
+    let side = 1u32 << job.k;
+    let window = Square { corner: job.corner, side };
+    let matches = |cell: Place| {
+        let found = chart::readings_with(chart::root_by_digits, chain, cell);
+        chart::miss(found, wanted) <= u64::from(job.tolerance)
+    };
+    let mut cells: Vec<(u64, Place)> = (0..side * side)
+        .map(|index| (index % side, index / side))
+        .map(|(east, north)| (chart::chart_number(east, north), window.offset(east, north)))
+        .filter(|&(_, cell)| matches(cell))
+        .collect();
+    cells.sort_by_key(|&(number, _)| number);
+    cells.into_iter().map(|(_, cell)| cell).collect()
+}
+
+/// The allowance that is always enough for an exponent.
+pub fn full_allowance(k: u32) -> u64 {
+    (4u64.pow(k + 1) - 1) / 3
+}
+
+#[cfg(test)]
+mod tests {
+    use super::*;
+    use crate::chart::tests::CHAIN_1;
+
+    const P4: Job = Job { corner: Place { easting: 30000, northing: 40000 }, k: 1, tolerance: 0, allowance: u64::MAX };
+    const WANTED: Readings = Readings { a: -10000, b: -20000 };
+
+    fn answer(wanted: Readings, job: Job, room: usize) -> (u32, Vec<(u32, u32)>, u64) {
+        let found = search(&CHAIN_1, wanted, &job, room);
+        (found.refusal, found.places.iter().map(|p| (p.easting, p.northing)).collect(), found.visits)
+    }
+
+    #[test]
+    fn p4_two_places() {
+        assert_eq!(answer(WANTED, P4, 9), (0, vec![(30000, 40000), (30001, 40001)], 5));
+        assert_eq!(answer(WANTED, Job { allowance: 5, ..P4 }, 2).0, 0);
+    }
+
+    #[test]
+    fn p5_all_four_in_chart_order() {
+        let all = vec![(30000, 40000), (30001, 40000), (30000, 40001), (30001, 40001)];
+        assert_eq!(answer(WANTED, Job { tolerance: 1, ..P4 }, 9), (0, all, 5));
+    }
+
+    #[test]
+    fn p6_no_room() {
+        assert_eq!(answer(WANTED, P4, 1), (9, vec![], 5));
+        assert_eq!(answer(WANTED, Job { allowance: 5, ..P4 }, 1), (9, vec![], 5));
+    }
+
+    #[test]
+    fn p7_no_allowance() {
+        assert_eq!(answer(WANTED, Job { allowance: 4, ..P4 }, 9), (10, vec![], 4));
+        assert_eq!(answer(WANTED, Job { allowance: 4, ..P4 }, 1), (10, vec![], 4));
+        assert_eq!(answer(WANTED, Job { allowance: 0, ..P4 }, 0), (10, vec![], 0));
+    }
+
+    #[test]
+    fn p8_no_matching_cell() {
+        let corner = chart::place(30001, 40000);
+        assert_eq!(answer(WANTED, Job { corner, k: 0, ..P4 }, 9), (8, vec![], 1));
+    }
+
+    #[test]
+    fn p9_the_window_is_dropped() {
+        assert_eq!(answer(Readings { a: 0, b: 0 }, P4, 9), (8, vec![], 1));
+    }
+
+    #[test]
+    fn limits_of_window_and_tolerance() {
+        let far = Readings { a: 1_000_000_000, b: 1_000_000_000 };
+        let east = chart::place(MOST_EASTING, 0);
+        assert_eq!(answer(far, Job { k: 24, ..P4 }, 9).0, 8);
+        assert_eq!(answer(far, Job { k: 25, ..P4 }, 9).0, 6);
+        assert_eq!(answer(far, Job { corner: east, k: 0, ..P4 }, 9).0, 8);
+        assert_eq!(answer(far, Job { corner: east, k: 1, ..P4 }, 9).0, 6);
+        assert_eq!(answer(far, Job { tolerance: 100_000, ..P4 }, 9).0, 8);
+        assert_eq!(answer(far, Job { tolerance: 100_001, ..P4 }, 9), (7, vec![], 0));
+        assert_eq!(answer(far, Job { k: u32::MAX, tolerance: u32::MAX, ..P4 }, 9).0, 6);
+    }
+
+    #[test]
+    fn readings_are_refused_first_and_chains_next() {
+        let beyond = Readings { a: 0, b: -1_000_000_001 };
+        assert_eq!(answer(beyond, Job { k: 25, ..P4 }, 9).0, 3);
+        let unsound = Chain { b: CHAIN_1.a, ..CHAIN_1 };
+        assert_eq!(search(&unsound, WANTED, &Job { k: 25, ..P4 }, 9).refusal, 5);
+        assert_eq!(search(&unsound, Readings { a: i64::MIN, b: i64::MAX }, &P4, 9).refusal, 3);
+    }
+
+    #[test]
+    fn published_crossings() {
+        let chain = Chain {
+            master: chart::place(50000000, 500000000),
+            a: chart::place(40000000, 490000000),
+            b: chart::place(60000000, 500000000),
+        };
+        let job = Job { corner: chart::place(47499999, 497945629), k: 24, ..P4 };
+        let found = search(&chain, Readings { a: 12205441, b: 9172617 }, &job, 256);
+        assert_eq!(found.visits, 2753);
+        let places = [(49810530, 498945629), (48500000, 502000000), (48500000, 502000001)];
+        assert_eq!(found.places, places.map(|(east, north)| chart::place(east, north)));
+    }
+}
