@@ -2,12 +2,16 @@
 
 mod answers;
 mod chart;
+mod edges;
 mod listing;
+mod making;
 mod numbers;
+mod pieces;
 mod random;
 mod records;
 mod refusals;
 mod search;
+mod tracks;
 mod words;
 
 use std::io::{self, BufRead, BufWriter, Write};
@@ -23,6 +27,7 @@ fn main() -> ExitCode {
         ["list"] => list(Path::new(".")),
         ["list", folder] => list(Path::new(folder)),
         ["answers"] => answer_all(),
+        ["logs", seed, count, root] => make_logs(seed, count, Path::new(root)),
         _ => Err(USAGE.into()),
     };
     match done {
@@ -62,6 +67,14 @@ fn answer_all() -> Result<(), String> {
         writeln!(out, "{answer}").map_err(told)?;
     }
     out.flush().map_err(told)
+}
+
+fn number(word: &str) -> Result<u64, String> {
+    word.parse().map_err(|_| format!("no number: {word}"))
+}
+
+fn make_logs(seed: &str, count: &str, root: &Path) -> Result<(), String> {
+    making::make(number(seed)?, number(count)?, root).map_err(told)
 }
 
 fn told(error: io::Error) -> String {

@@ -1,0 +1,219 @@
+//! Chains, places, numbers and bytes out of which logs and requests are made.
+
+use crate::chart::{self, Chain, Place, Readings, MOST_EASTING, MOST_NORTHING};
+use crate::numbers::{self, MOST_CENTIMETRES};
+use crate::random::Random;
+use crate::records::RECORD;
+use crate::search::Job;
+
+const SIGN: u64 = 1 << 63;
+
+/// Patterns at the limits of binary64 and of 01: both zeros, subnormals, 10,000,000 and its neighbours, infinities, NaNs.
+const EDGE_PATTERNS: [u64; 16] = [
+    0,
+    1,
+    0x000f_ffff_ffff_ffff,
+    0x0010_0000_0000_0000,
+    0x3f74_7ae1_47ae_147b,
+    0x3f84_7ae1_47ae_147b,
+    0x412e_8480_0000_0000,
+    0x412e_8480_028f_5c29,
+    0x4163_12cf_ffff_ffff,
+    0x4163_12d0_0000_0000,
+    0x4163_12d0_0000_0001,
+    0x7fef_ffff_ffff_ffff,
+    0x7ff0_0000_0000_0000,
+    0x7ff0_0000_0000_0001,
+    0x7ff8_0000_0000_0000,
+    0x7fff_ffff_ffff_ffff,
+];
+
+pub fn anywhere(random: &mut Random) -> Place {
+    chart::place(random.between(0, MOST_EASTING.into()) as u32, random.between(0, MOST_NORTHING.into()) as u32)
+}
+
+/// A place in range, at most so far from another on each axis.
+pub fn about(random: &mut Random, place: Place, reach: u32) -> Place {
+    let mut near = |from: u32, most: u32| {
+        let shift = random.between(-i64::from(reach), reach.into());
+        (i64::from(from) + shift).clamp(0, most.into()) as u32
+    };
+    chart::place(near(place.easting, MOST_EASTING), near(place.northing, MOST_NORTHING))
+}
+
+/// A place at a limit of the range, beyond one, or any two numbers at all.
+pub fn edge_place(random: &mut Random) -> Place {
+    let mut near = |most: u32| match random.below(8) {
+        0 => 0,
+        1 => 1,
+        2 => most - 1,
+        3 | 4 => most,
+        5 => most + 1,
+        6 => u32::MAX,
+        _ => random.next() as u32,
+    };
+    chart::place(near(MOST_EASTING), near(MOST_NORTHING))
+}
+
+pub fn sound_chain(random: &mut Random, place: Place, reach: u32) -> Chain {
+    loop {
+        let mut station = || about(random, place, reach);
+        let chain = Chain { master: station(), a: station(), b: station() };
+        if chart::is_sound(&chain) {
+            return chain;
+        }
+    }
+}
+
+/// A chain with two stations equal, or with one out of range.
+pub fn unsound_chain(random: &mut Random) -> Chain {
+    let middle = anywhere(random);
+    let sound = sound_chain(random, middle, 5000);
+    let beyond = match random.below(4) {
+        0 => chart::place(MOST_EASTING + 1, sound.a.northing),
+        1 => chart::place(sound.a.easting, MOST_NORTHING + 1),
+        2 => chart::place(u32::MAX, 0),
+        _ => chart::place(0, u32::MAX),
+    };
+    match random.below(6) {
+        0 => Chain { a: sound.master, ..sound },
+        1 => Chain { b: sound.master, ..sound },
+        2 => Chain { b: sound.a, ..sound },
+        3 => Chain { master: beyond, ..sound },
+        4 => Chain { a: beyond, ..sound },
+        _ => Chain { b: beyond, ..sound },
+    }
+}
+
+/// A corner from which the window of an exponent holds a place and stays in range.
+pub fn corner_for(random: &mut Random, place: Place, k: u32) -> Place {
+    let side = 1i64 << k;
+    let mut corner = |at: u32, most: u32| {
+        let lowest = (i64::from(at) - side + 1).max(0);
+        let highest = i64::from(at).min(i64::from(most) - side + 1);
+        random.between(lowest, highest) as u32
+    };
+    chart::place(corner(place.easting, MOST_EASTING), corner(place.northing, MOST_NORTHING))
+}
+
+/// A pattern at a limit of binary64 or of 01, of either sign.
+pub fn edge_pattern(random: &mut Random) -> u64 {
+    random.pick(&EDGE_PATTERNS) | random.below(2) << 63
+}
+
+/// A pattern at a tie of rounding, or within a few units of a half centimetre.
+pub fn tie_pattern(random: &mut Random) -> u64 {
+    let reach = random.pick(&[10, 10_000, 100_000_000]);
+    let odd = 2 * random.between(-reach, reach) + 1;
+    if random.once_in(2) {
+        return numbers::pattern_of(odd, 8);
+    }
+    let half_centimetre = numbers::pattern_of(odd, 200);
+    half_centimetre.wrapping_add_signed(random.between(-2, 2))
+}
+
+/// A pattern of any exponent.
+pub fn any_pattern(random: &mut Random) -> u64 {
+    match random.below(4) {
+        0 => random.next(),
+        1 => random.below(2048) << 52 | random.next() & SIGN,
+        2 => numbers::pattern_of(random.between(-1 << 40, 1 << 40), 1 << 20),
+        _ => random.between(1008, 1047) as u64 * (1 << 52) + random.below(1 << 52) + (random.next() & SIGN),
+    }
+}
+
+/// Centimetres in metres; what is beyond the limit is brought to it.
+pub fn pattern(centimetres: i64) -> u64 {
+    numbers::pattern_of(centimetres.clamp(-MOST_CENTIMETRES, MOST_CENTIMETRES), 100)
+}
+
+/// A number of metres that rounds to the centimetres without being their nearest one.
+pub fn inexact_pattern(random: &mut Random, centimetres: i64) -> u64 {
+    let inside = centimetres.clamp(1 - MOST_CENTIMETRES, MOST_CENTIMETRES - 1);
+    numbers::pattern_of(1000 * inside + random.between(-499, 499), 100_000)
+}
+
+pub fn record(kind: u8, chain: u8, line: u32, fields: [u64; 3]) -> [u8; RECORD] {
+    let mut bytes = [0; RECORD];
+    bytes[0] = kind;
+    bytes[1] = chain;
+    bytes[4..8].copy_from_slice(&line.to_le_bytes());
+    for (index, field) in fields.iter().enumerate() {
+        bytes[8 + 8 * index..][..8].copy_from_slice(&field.to_le_bytes());
+    }
+    bytes
+}
+
+pub fn fix(chain: u8, line: u32, wanted: Readings) -> [u8; RECORD] {
+    record(1, chain, line, [pattern(wanted.a), pattern(wanted.b), 0])
+}
+
+pub fn grid(line: u32, place: Place) -> [u8; RECORD] {
+    record(2, 0, line, [pattern(place.easting.into()), pattern(place.northing.into()), 0])
+}
+
+pub fn hold(line: u32) -> [u8; RECORD] {
+    record(3, 0, line, [0; 3])
+}
+
+pub fn table(chains: &[Chain]) -> Vec<u8> {
+    let stations = chains.iter().flat_map(|chain| [chain.master, chain.a, chain.b]);
+    stations.flat_map(|station| [station.easting, station.northing]).flat_map(u32::to_le_bytes).collect()
+}
+
+pub fn job(job: &Job) -> Vec<u8> {
+    let corner = u64::from(job.corner.northing) << 32 | u64::from(job.corner.easting);
+    let middle = u64::from(job.tolerance) << 32 | u64::from(job.k as u8);
+    [corner, middle, job.allowance, 0].into_iter().flat_map(u64::to_le_bytes).collect()
+}
+
+/// Line numbers with the ends of their range among them.
+pub fn line(random: &mut Random) -> u32 {
+    match random.below(6) {
+        0 => random.pick(&[0, 1, u32::MAX, u32::MAX - 1, 9, 10, 99, 100]),
+        1 => random.next() as u32,
+        _ => random.below(5000) as u32,
+    }
+}
+
+/// Changes some bytes of a file, or its length.
+pub fn damage(random: &mut Random, bytes: &mut Vec<u8>) {
+    for _ in 0..random.between(1, 4) {
+        if bytes.is_empty() {
+            return bytes.push(random.byte());
+        }
+        let index = random.below(bytes.len() as u64) as usize;
+        match random.below(12) {
+            0 => bytes[index] = random.pick(&[0, 1, 2, 3, 0x7f, 0x80, 0xff]),
+            1 => bytes.truncate(index),
+            2 => bytes.push(random.byte()),
+            3 | 4 => bytes[index] = random.byte(),
+            _ => bytes[index] ^= 1 << random.below(8),
+        }
+    }
+}
+
+#[cfg(test)]
+mod tests {
+    use super::*;
+    use crate::records::{self, Entry};
+
+    #[test]
+    fn what_is_made_is_read() {
+        let mut random = Random::new(5);
+        for _ in 0..2000 {
+            let place = anywhere(&mut random);
+            assert_eq!(records::entry(&grid(1, place)), Ok(Entry::Grid(place)));
+            let k = random.below(25) as u32;
+            let made = Job { corner: corner_for(&mut random, place, k), k, tolerance: 100_000, allowance: random.next() };
+            assert_eq!(records::job(&job(&made)), Ok(made));
+            let chain = sound_chain(&mut random, place, 3);
+            assert_eq!(records::chain(&table(&[chain, chain]), 2), Ok(chain));
+            assert_eq!(records::chain(&table(&[unsound_chain(&mut random)]), 1), Err(5));
+            let wanted = chart::readings(&chain, place);
+            assert_eq!(records::entry(&fix(9, 1, wanted)), Ok(Entry::Hyperbolic { chain: 9, wanted }));
+            let inexact = inexact_pattern(&mut random, wanted.a);
+            assert_eq!(numbers::centimetres(inexact), Ok(wanted.a));
+        }
+    }
+}

@@ -1,0 +1,224 @@
+//! Logs that search: tracks, double crossings, crowded windows and allowances at their edge.
+
+use crate::chart::{self, Chain, Place, Readings};
+use crate::listing::ROOM;
+use crate::making::Folder;
+use crate::pieces;
+use crate::random::Random;
+use crate::search::{self, Job};
+
+/// The visits that the searches of one log may cost, so that many logs stay cheap.
+pub struct Purse(pub u64);
+
+impl Purse {
+    /// Pays for a search, unless it costs more than is left.
+    pub fn pays(&mut self, chain: &Chain, wanted: Readings, job: &Job) -> bool {
+        let allowance = job.allowance.min(self.0 + 1);
+        let visits = search::search(chain, wanted, &Job { allowance, ..*job }, ROOM).visits;
+        if visits > self.0 {
+            return false;
+        }
+        self.0 -= visits;
+        true
+    }
+}
+
+/// A table with a chain somewhere in it, and the chain's number.
+fn table_with(random: &mut Random, chain: Chain) -> (Vec<Chain>, u8) {
+    let count = random.pick(&[1, 1, 2, 3, 16]);
+    let number = random.below(count);
+    let other = |random: &mut Random| {
+        let place = pieces::anywhere(random);
+        if random.once_in(2) { pieces::unsound_chain(random) } else { pieces::sound_chain(random, place, 1000) }
+    };
+    let chains = (0..count).map(|index| if index == number { chain } else { other(random) }).collect();
+    (chains, number as u8 + 1)
+}
+
+fn track_tolerance(random: &mut Random, k: u32) -> u32 {
+    let most = match random.below(8) {
+        0 | 1 => 0,
+        2 if k <= 5 => search::MOST_TOLERANCE,
+        3 => 200,
+        _ => 10,
+    };
+    random.between(0, most.into()) as u32
+}
+
+/// Readings along a moving place, in a sound chain, with grid records and holds among them.
+pub fn track(random: &mut Random, _turn: u64) -> Folder {
+    let mut place = pieces::anywhere(random);
+    let reach = 1 << random.between(5, 24);
+    let chain = pieces::sound_chain(random, place, reach);
+    let k = if random.once_in(3) { random.below(25) } else { random.below(13) } as u32;
+    let few = random.below(3000);
+    let job = Job {
+        corner: pieces::corner_for(random, place, k),
+        k,
+        tolerance: track_tolerance(random, k),
+        allowance: random.pick(&[u64::MAX, search::full_allowance(k), 20_000, few]),
+    };
+    let (chains, number) = table_with(random, chain);
+    let mut purse = Purse(12_000);
+    let mut log = Vec::new();
+    for step in 1..=random.between(1, 40) as u32 {
+        place = pieces::about(random, place, 2 + (1 << k) / 16);
+        let wanted = chart::readings(&chain, place);
+        match random.below(8) {
+            0 => log.push(pieces::grid(step, place)),
+            1 => log.push(pieces::hold(step)),
+            _ if !purse.pays(&chain, wanted, &job) => {}
+            2 => log.push(inexact_fix(random, number, step, wanted)),
+            _ => log.push(pieces::fix(number, step, wanted)),
+        }
+    }
+    Folder::new(&job, &chains, &log)
+}
+
+fn inexact_fix(random: &mut Random, number: u8, line: u32, wanted: Readings) -> [u8; 32] {
+    let fields = [pieces::inexact_pattern(random, wanted.a), pieces::inexact_pattern(random, wanted.b), 0];
+    pieces::record(1, number, line, fields)
+}
+
+/// A track, or a log of all sorts, with some of its bytes changed.
+pub fn damaged(random: &mut Random, turn: u64) -> Folder {
+    let mut folder = if random.once_in(2) { track(random, turn) } else { crate::edges::holds(random, turn) };
+    let file = match turn % 5 {
+        0 => &mut folder.job,
+        1 => &mut folder.table,
+        _ => &mut folder.log,
+    };
+    if let Some(bytes) = file {
+        pieces::damage(random, bytes);
+    }
+    folder
+}
+
+/// The offsets of a place from a straight chain, along it and across it. Across is mirrored exactly in all three cases.
+fn beside(middle: Place, bearing: u64, along: i64, across: i64) -> Place {
+    let (east, north) = match bearing {
+        0 => (along, across),
+        1 => (across, along),
+        _ => (along + across, along - across),
+    };
+    chart::place((i64::from(middle.easting) + east) as u32, (i64::from(middle.northing) + north) as u32)
+}
+
+/// Stations in one straight line: every place has a twin on the other side, in the same window.
+pub fn double_crossings(random: &mut Random, turn: u64) -> Folder {
+    if turn % 8 == 7 {
+        return published_crossing(random);
+    }
+    let bearing = turn % 3;
+    let size = random.between(2, 21) as u32;
+    let extent = 1i64 << size;
+    let margin = 1i64 << 24;
+    let middle = chart::place(
+        random.between(margin, i64::from(chart::MOST_EASTING) - margin) as u32,
+        random.between(margin, i64::from(chart::MOST_NORTHING) - margin) as u32,
+    );
+    let arm = random.between(1, extent);
+    let other_arm = -random.between(1, extent);
+    let chain = Chain {
+        master: middle,
+        a: beside(middle, bearing, arm, 0),
+        b: beside(middle, bearing, if random.once_in(2) { other_arm } else { 2 * arm }, 0),
+    };
+    let half = 2 << size;
+    let corner = chart::place(middle.easting - half, middle.northing - half);
+    let tolerance = random.pick(&[0, 0, 0, 1, 2]);
+    let job = Job { corner, k: size + 2, tolerance, allowance: random.pick(&[u64::MAX, 20_000, 1000]) };
+    let mut purse = Purse(12_000);
+    let mut log = Vec::new();
+    for step in 1..=random.between(1, 12) as u32 {
+        let place = beside(middle, bearing, random.between(-extent, extent), random.between(-extent, extent));
+        let wanted = chart::readings(&chain, place);
+        if purse.pays(&chain, wanted, &job) {
+            log.push(pieces::fix(1, step, wanted));
+        }
+        log.push(if random.once_in(3) { pieces::grid(step, place) } else { pieces::hold(step) });
+    }
+    Folder::new(&job, &[chain], &log)
+}
+
+/// The stations of source document 002, with readings that cross twice in one window.
+fn published_crossing(random: &mut Random) -> Folder {
+    let chain = Chain {
+        master: chart::place(50_000_000, 500_000_000),
+        a: chart::place(40_000_000, 490_000_000),
+        b: chart::place(60_000_000, 500_000_000),
+    };
+    let corner = chart::place(47_499_999, 497_945_629);
+    let job = Job { corner, k: 24, tolerance: 0, allowance: random.pick(&[2752, 2753, 2754, u64::MAX]) };
+    let wanted = Readings { a: 12_205_441, b: 9_172_617 };
+    let near = Readings { a: wanted.a + random.between(-9, 9), b: wanted.b + random.between(-9, 9) };
+    let log = [pieces::fix(1, 1, wanted), pieces::hold(2), pieces::fix(1, 3, near), pieces::hold(4)];
+    Folder::new(&job, &[chain], &log)
+}
+
+/// Windows with about as many matching cells as the list has room for, or far more.
+pub fn crowded(random: &mut Random, turn: u64) -> Folder {
+    let place = pieces::anywhere(random);
+    let reach = 1 << random.between(4, 24);
+    let chain = pieces::sound_chain(random, place, reach);
+    let k = [4, 5, 5, 5, 5, 3 + turn as u32 % 6][turn as usize % 6];
+    let corner = pieces::corner_for(random, place, k);
+    let wanted = chart::readings(&chain, place);
+    let tolerance = random.between(2000, 100_000) as u32;
+    let ample = Job { corner, k, tolerance, allowance: search::full_allowance(k) };
+    let (wanted, job) = match turn % 6 {
+        1..=4 => counted(random, &chain, &ample, ROOM - 2 + (turn % 6) as usize).unwrap_or((wanted, ample)),
+        _ => (wanted, ample),
+    };
+    let outside = Readings { a: wanted.a + 1_000_000, ..wanted };
+    let log = [
+        pieces::grid(1, place),
+        pieces::fix(1, 2, wanted),
+        pieces::hold(3),
+        pieces::fix(1, 4, outside),
+        pieces::fix(1, 5, wanted),
+    ];
+    Folder::new(&job, &[chain], &log)
+}
+
+/// Readings and a tolerance that so many cells of the job's window match, exactly; none where chance does not find any.
+fn counted(random: &mut Random, chain: &Chain, job: &Job, count: usize) -> Option<(Readings, Job)> {
+    let side = 1u32 << job.k;
+    let cell = |index: u32| chart::place(job.corner.easting + index % side, job.corner.northing + index / side);
+    let all: Vec<Readings> = (0..side * side).map(|index| chart::readings(chain, cell(index))).collect();
+    for _ in 0..60 {
+        let near = random.pick(&all);
+        let wanted = Readings { a: near.a + random.between(-9, 9), b: near.b + random.between(-9, 9) };
+        let mut misses: Vec<u64> = all.iter().map(|&found| chart::miss(found, wanted)).collect();
+        misses.sort_unstable();
+        if misses[count - 1] < misses[count] {
+            return Some((wanted, Job { tolerance: misses[count - 1] as u32, ..*job }));
+        }
+    }
+    None
+}
+
+/// Allowances that are just enough, one too few, none, and the one that is always enough.
+pub fn allowances(random: &mut Random, turn: u64) -> Folder {
+    let place = pieces::anywhere(random);
+    let reach = 1 << random.between(4, 24);
+    let chain = pieces::sound_chain(random, place, reach);
+    let wanted = chart::readings(&chain, place);
+    let crowd = turn % 3 == 0;
+    let k = random.below(if crowd { 6 } else { 20 }) as u32;
+    let tolerance = if crowd { 50_000 } else { random.below(4) as u32 };
+    let capped = Job { corner: pieces::corner_for(random, place, k), k, tolerance, allowance: 6000 };
+    let needed = search::search(&chain, wanted, &capped, ROOM).visits;
+    let full = search::full_allowance(k);
+    let affordable = if needed < 6000 { u64::MAX } else { 5999 };
+    let some = random.below(needed + 1);
+    let edges = [needed, needed - 1, needed + 1, 0, 1, full, full - 1, u64::MAX, some];
+    let job = Job { allowance: edges[turn as usize % edges.len()].min(affordable), ..capped };
+    let other = Readings { a: wanted.a + 1, ..wanted };
+    let mut log = vec![pieces::fix(1, 1, wanted), pieces::hold(2)];
+    if job.allowance < 6000 {
+        log.extend([pieces::fix(1, 3, other), pieces::hold(4)]);
+    }
+    log.push(pieces::fix(1, 5, wanted));
+    Folder::new(&job, &[chain], &log)
+}
