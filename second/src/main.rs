@@ -1,6 +1,7 @@
 //! A second program for the rules of document 01, written from that document alone, to be compared with the first.
 
 mod answers;
+mod asking;
 mod chart;
 mod edges;
 mod listing;
@@ -28,6 +29,7 @@ fn main() -> ExitCode {
         ["list", folder] => list(Path::new(folder)),
         ["answers"] => answer_all(),
         ["logs", seed, count, root] => make_logs(seed, count, Path::new(root)),
+        ["requests", seed, count] => make_requests(seed, count),
         _ => Err(USAGE.into()),
     };
     match done {
@@ -75,6 +77,15 @@ fn number(word: &str) -> Result<u64, String> {
 
 fn make_logs(seed: &str, count: &str, root: &Path) -> Result<(), String> {
     making::make(number(seed)?, number(count)?, root).map_err(told)
+}
+
+fn make_requests(seed: &str, count: &str) -> Result<(), String> {
+    let (seed, count) = (number(seed)?, number(count)?);
+    let mut out = BufWriter::new(io::stdout().lock());
+    for index in 0..count {
+        writeln!(out, "{}", asking::request(seed, index)).map_err(told)?;
+    }
+    out.flush().map_err(told)
 }
 
 fn told(error: io::Error) -> String {

@@ -1,0 +1,346 @@
+//! Requests for the answers, made from a seed: every verb, with edges, dirty buffers and odd lengths.
+
+use crate::answers::LINE_BYTES;
+use crate::chart::{self, Chain, Place, Readings, MOST_EASTING, MOST_NORTHING};
+use crate::numbers::MOST_CENTIMETRES;
+use crate::pieces;
+use crate::random::Random;
+use crate::records::{self, CHAIN_RECORD, RECORD};
+use crate::search::{self, Job, MOST_EXPONENT, MOST_TOLERANCE};
+use crate::words::hex;
+
+/// The visits that most searches may cost, and that one in many may.
+const FEW_VISITS: u64 = 2000;
+const MANY_VISITS: u64 = 50_000;
+
+/// The request of an index; a seed decides it whatever the count.
+pub fn request(seed: u64, index: u64) -> String {
+    let random = &mut Random::for_item(seed, index);
+    match index % 14 {
+        0 => format!("centimetres {:016x}", pattern(random)),
+        1 => format!("metres {}", centimetres(random)),
+        2 => expected(random),
+        3..=5 => searching(random),
+        6 | 7 => format!("record {}", hex(&record(random))),
+        8 => writing(random),
+        9 => format!("job {}", hex(&job(random))),
+        10 => format!("count {}", hex(&table(random))),
+        11 => chain_asked(random),
+        _ => listing(random),
+    }
+}
+
+fn pattern(random: &mut Random) -> u64 {
+    match random.below(4) {
+        0 => pieces::edge_pattern(random),
+        1 => pieces::tie_pattern(random),
+        2 => pieces::edge_pattern(random).wrapping_add_signed(random.between(-3, 3)),
+        _ => pieces::any_pattern(random),
+    }
+}
+
+/// Centimetres within the limit, at it, beyond it, and at the ends of 64 bits.
+fn centimetres(random: &mut Random) -> i64 {
+    let sign = random.pick(&[-1, 1]);
+    match random.below(8) {
+        0 => sign * (MOST_CENTIMETRES + random.between(-2, 2)),
+        1 => random.pick(&[i64::MIN, i64::MIN + 1, i64::MAX, 0, 1 << 53, 1 << 32, -1 << 32]),
+        2 => random.next() as i64,
+        3 => random.between(-200, 200),
+        4 => random.between(-1, 1) + i64::from(random.pick(&[MOST_EASTING, MOST_NORTHING])),
+        _ => random.between(-MOST_CENTIMETRES, MOST_CENTIMETRES),
+    }
+}
+
+/// A chain that is sound mostly; near a place mostly.
+fn chain(random: &mut Random, place: Place) -> Chain {
+    if random.once_in(12) {
+        return pieces::unsound_chain(random);
+    }
+    if random.once_in(12) {
+        let mut station = || pieces::edge_place(random);
+        return Chain { master: station(), a: station(), b: station() };
+    }
+    let reach = 1 << random.between(1, 26);
+    pieces::sound_chain(random, place, reach)
+}
+
+fn place_words(place: Place) -> String {
+    format!("{} {}", place.easting, place.northing)
+}
+
+fn chain_words(chain: &Chain) -> String {
+    [chain.master, chain.a, chain.b].map(place_words).join(" ")
+}
+
+fn expected(random: &mut Random) -> String {
+    let place = if random.once_in(3) { pieces::edge_place(random) } else { pieces::anywhere(random) };
+    let near = if chart::in_range(place) { place } else { pieces::anywhere(random) };
+    let chain = chain(random, near);
+    let place = if random.once_in(9) { random.pick(&[chain.master, chain.a, chain.b]) } else { place };
+    format!("expected {} {}", chain_words(&chain), place_words(place))
+}
+
+/// What a search is asked for, before its allowance is settled.
+struct Asked {
+    chain: Chain,
+    wanted: Readings,
+    job: Job,
+    room: usize,
+}
+
+impl Asked {
+    /// The visits made with an allowance.
+    fn visits(&self, allowance: u64) -> u64 {
+        search::search(&self.chain, self.wanted, &Job { allowance, ..self.job }, self.room).visits
+    }
+}
+
+fn entries(random: &mut Random) -> usize {
+    match random.below(8) {
+        0 => random.below(601) as usize,
+        1 => random.pick(&[0, 1, 511, 512, 513, 599, 600]),
+        2 => random.below(40) as usize,
+        _ => random.below(12) as usize,
+    }
+}
+
+fn search_job(random: &mut Random, place: Place) -> Job {
+    let k = match random.below(12) {
+        0 => random.between(20, 40) as u32,
+        1 => random.pick(&[24, 25, 31, 32, 33, 63, 64, 256, 257, u32::MAX]),
+        2 | 3 => random.below(25) as u32,
+        _ => random.below(7) as u32,
+    };
+    let tolerance = match random.below(12) {
+        0 => MOST_TOLERANCE + random.below(2) as u32,
+        1 => random.pick(&[u32::MAX, 1 << 31, MOST_TOLERANCE]),
+        2 => random.below(3000) as u32,
+        3..=6 => random.below(12) as u32,
+        _ => 0,
+    };
+    let corner = match random.below(10) {
+        0 => pieces::edge_place(random),
+        1 => passing(random, k),
+        _ => pieces::corner_for(random, place, k.min(MOST_EXPONENT)),
+    };
+    Job { corner, k, tolerance, allowance: 0 }
+}
+
+/// A corner whose window touches the edge of the range, or passes it by a cell.
+fn passing(random: &mut Random, k: u32) -> Place {
+    let last = (1u32 << k.min(MOST_EXPONENT)) - 1;
+    let mut corner = |most: u32| most - last + random.pick(&[0, 0, 0, 1]);
+    chart::place(corner(MOST_EASTING), corner(MOST_NORTHING))
+}
+
+fn wanted(random: &mut Random, chain: &Chain, place: Place) -> Readings {
+    let exact = match chart::expected(chain, place) {
+        Ok(readings) => readings,
+        Err(_) => Readings { a: centimetres(random), b: centimetres(random) },
+    };
+    let kind = random.below(10);
+    let mut near = |reading: i64| reading.saturating_add(random.between(-9, 9));
+    match kind {
+        0 => Readings { a: centimetres(random), ..exact },
+        1 => Readings { b: centimetres(random), ..exact },
+        2 | 3 => Readings { a: near(exact.a), b: near(exact.b) },
+        _ => exact,
+    }
+}
+
+fn searching(random: &mut Random) -> String {
+    let place = pieces::anywhere(random);
+    let chain = chain(random, place);
+    let wanted = wanted(random, &chain, place);
+    let (entries, job) = (entries(random), search_job(random, place));
+    let asked = Asked { chain, wanted, job, room: entries / 2 };
+    let dirt = random.pick(&[0, 1, 7, u32::MAX, 123_456_789]);
+    let allowance = allowance(random, &asked);
+    format!(
+        "search {entries} {dirt} {} {} {} {} {} {} {allowance}",
+        chain_words(&chain),
+        wanted.a,
+        wanted.b,
+        place_words(job.corner),
+        job.k,
+        job.tolerance
+    )
+}
+
+/// An allowance at an edge, or ample where the search is cheap.
+fn allowance(random: &mut Random, asked: &Asked) -> u64 {
+    let most = if random.once_in(200) { MANY_VISITS } else { FEW_VISITS };
+    let needed = asked.visits(most);
+    let some = random.below(needed + 1);
+    if needed == most {
+        return random.pick(&[most, most - 1, some, 0]);
+    }
+    let full = search::full_allowance(asked.job.k.min(MOST_EXPONENT));
+    let edges = [needed, needed, needed.saturating_sub(1), needed + 1, 0, 1, some, full, full - 1];
+    if random.once_in(2) { u64::MAX } else { random.pick(&edges) }
+}
+
+/// A log record that is sound or nearly so, or any bytes at all, of 32 bytes mostly.
+fn record(random: &mut Random) -> Vec<u8> {
+    let line = pieces::line(random);
+    let chain = random.pick(&[0, 1, 2, 16, 17, 255]);
+    let mut numbers = || if random.once_in(3) { pattern(random) } else { pieces::pattern(centimetres(random)) };
+    let fields = [numbers(), numbers(), 0];
+    let small = [pieces::pattern(random.between(-2, 200)), pieces::pattern(random.between(-2, 200)), 0];
+    let mut bytes = match random.below(8) {
+        0 => random.bytes(RECORD),
+        1 | 2 => pieces::record(1, chain, line, fields).to_vec(),
+        3 => pieces::record(2, 0, line, fields).to_vec(),
+        4 => pieces::record(2, 0, line, small).to_vec(),
+        5 => pieces::record(random.byte(), 0, line, small).to_vec(),
+        6 => pieces::grid(line, pieces::anywhere(random)).to_vec(),
+        _ => pieces::hold(line).to_vec(),
+    };
+    spoil(random, &mut bytes);
+    bytes
+}
+
+/// Leaves most bytes as they are; else changes some, or makes them one too few or too many.
+fn spoil(random: &mut Random, bytes: &mut Vec<u8>) {
+    match random.below(12) {
+        0 => pieces::damage(random, bytes),
+        1 => bytes.push(0),
+        2 => bytes.truncate(bytes.len().saturating_sub(1)),
+        3 => bytes.truncate(random.below(bytes.len() as u64 + 1) as usize),
+        4 if !bytes.is_empty() => {
+            let index = random.below(bytes.len() as u64) as usize;
+            bytes[index] = random.pick(&[1, 0x80, 0xff]);
+        }
+        _ => {}
+    }
+}
+
+fn writing(random: &mut Random) -> String {
+    let length = if random.once_in(3) { random.below(65) } else { 32 };
+    let dirt = random.pick(&[0, 1, 0x55, 0xff]);
+    let kind = random.pick(&[1, 1, 1, 2, 2, 2, 3, 3, 0, 4, 257, u32::MAX]);
+    let chain = random.pick(&[0, 1, 2, 15, 16, 17, 255, 257, u32::MAX]);
+    let place = pieces::anywhere(random);
+    let (x, y) = match random.below(3) {
+        0 => (i64::from(place.easting), i64::from(place.northing)),
+        1 => (centimetres(random).rem_euclid(1 << 28), centimetres(random).rem_euclid(1 << 30)),
+        _ => (centimetres(random), centimetres(random)),
+    };
+    format!("write {length} {dirt} {kind} {chain} {} {x} {y}", pieces::line(random))
+}
+
+fn job(random: &mut Random) -> Vec<u8> {
+    let place = pieces::anywhere(random);
+    let job = Job { allowance: random.pick(&[0, 1, u64::MAX, 1 << 32, 1 << 63]), ..search_job(random, place) };
+    let mut bytes = pieces::job(&job);
+    if random.once_in(20) {
+        bytes = random.bytes(RECORD);
+    }
+    if random.once_in(4) {
+        bytes[random.below(32) as usize] = random.byte();
+    }
+    spoil(random, &mut bytes);
+    bytes
+}
+
+fn table(random: &mut Random) -> Vec<u8> {
+    let count = random.pick(&[0, 1, 1, 2, 3, 15, 16, 16, 17, 33]);
+    let middle = pieces::anywhere(random);
+    let chains: Vec<Chain> = (0..count).map(|_| chain(random, middle)).collect();
+    let mut bytes = pieces::table(&chains);
+    spoil(random, &mut bytes);
+    bytes
+}
+
+fn chain_asked(random: &mut Random) -> String {
+    let bytes = table(random);
+    let count = (bytes.len() / CHAIN_RECORD) as u64;
+    let number = match random.below(4) {
+        0 => random.pick(&[0, 1, 16, 17, 255, 256, 257, u32::MAX.into(), count + 1]),
+        _ => random.between(1, count.max(1) as i64) as u64,
+    };
+    format!("chain {number} {}", hex(&bytes))
+}
+
+fn listing(random: &mut Random) -> String {
+    let place = pieces::anywhere(random);
+    let reach = 1 << random.between(3, 24);
+    let chain = pieces::sound_chain(random, place, reach);
+    let mut table = pieces::table(&[chain, pieces::unsound_chain(random)]);
+    if random.once_in(16) {
+        spoil(random, &mut table);
+    }
+    let count = random.below(5) as usize;
+    let mut log: Vec<u8> = (0..count).flat_map(|_| listed_record(random, place, &chain)).collect();
+    if random.once_in(3) {
+        let tail = random.between(1, 31) as usize;
+        log.extend(random.bytes(tail));
+    }
+    let job = cheap(spoilt_job(random, place, &chain));
+    let enough = LINE_BYTES * (count + 1);
+    let more = enough + random.below(6000) as usize;
+    let length = random.pick(&[enough, enough, enough, more, more, enough - 1, 0, LINE_BYTES, enough - LINE_BYTES]);
+    let (dirt, held) = (random.pick(&[0, 10, 0x55, 0xff]), random.pick(&[0, 0, 1, 1, 2, u32::MAX]));
+    let held_place = if random.once_in(2) { place } else { pieces::edge_place(random) };
+    let files = [&job, &table, &log].map(|file| hex(file)).join(" ");
+    format!("list {length} {dirt} {held} {} {files}", place_words(held_place))
+}
+
+fn spoilt_job(random: &mut Random, place: Place, chain: &Chain) -> Vec<u8> {
+    let mut bytes = listed_job(random, place, chain);
+    match random.below(16) {
+        0 => spoil(random, &mut bytes),
+        1 => bytes = job(random),
+        _ => {}
+    }
+    bytes
+}
+
+/// The job with an allowance that a request can afford.
+fn cheap(mut bytes: Vec<u8>) -> Vec<u8> {
+    if records::job(&bytes).is_ok_and(|job| job.allowance > FEW_VISITS) {
+        bytes[16..24].copy_from_slice(&FEW_VISITS.to_le_bytes());
+    }
+    bytes
+}
+
+/// A job for a listing whose searches cost few visits, whatever the records ask for.
+fn listed_job(random: &mut Random, place: Place, chain: &Chain) -> Vec<u8> {
+    let crowd = random.once_in(8);
+    let k = if crowd { random.between(3, 5) as u32 } else { random.below(10) as u32 };
+    let tolerance = if crowd { 5000 } else { random.below(3) as u32 };
+    let job = Job { corner: pieces::corner_for(random, place, k), k, tolerance, allowance: 1500 };
+    let needed = search::search(chain, chart::readings(chain, place), &job, 256).visits;
+    let edges = [needed, needed.saturating_sub(1), needed + 1, 0, 1500, 1500, 1500];
+    pieces::job(&Job { allowance: random.pick(&edges), ..job })
+}
+
+fn listed_record(random: &mut Random, place: Place, chain: &Chain) -> Vec<u8> {
+    let line = pieces::line(random);
+    match random.below(8) {
+        0 | 1 => pieces::hold(line).to_vec(),
+        2 => pieces::grid(line, pieces::about(random, place, 9)).to_vec(),
+        3 => pieces::fix(random.pick(&[0, 2, 3, 255]), line, Readings { a: 1, b: 2 }).to_vec(),
+        4 => {
+            let mut bytes = pieces::fix(1, line, chart::readings(chain, place)).to_vec();
+            bytes[random.below(32) as usize] = random.byte();
+            bytes
+        }
+        _ => pieces::fix(1, line, chart::readings(chain, place)).to_vec(),
+    }
+}
+
+#[cfg(test)]
+mod tests {
+    use super::*;
+    use crate::answers;
+
+    #[test]
+    fn every_request_has_an_answer() {
+        for index in 0..3000 {
+            let line = request(11, index);
+            assert!(answers::answer(&line).is_ok(), "{line}");
+        }
+    }
+}
