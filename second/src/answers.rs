@@ -106,12 +106,8 @@ fn search(mut request: Request) -> Result<String, String> {
     let dirt: u32 = request.number()?;
     let chain = request.chain()?;
     let wanted = Readings { a: request.number()?, b: request.number()? };
-    let job = Job {
-        corner: request.place()?,
-        k: request.number()?,
-        tolerance: request.number()?,
-        allowance: request.number()?,
-    };
+    let job =
+        Job { corner: request.place()?, k: request.number()?, tolerance: request.number()?, allowance: request.number()? };
     request.end()?;
     let mut lent = vec![dirt; entries];
     let found = search::search(&chain, wanted, &job, entries / 2);
@@ -243,9 +239,8 @@ mod tests {
 
     #[test]
     fn a_dirty_list_of_odd_length() {
-        let ask = |entries, allowance| {
-            ok(&format!("search {entries} 7 {CHAIN_1} -10000 -20000 30000 40000 1 0 {allowance}"))
-        };
+        let ask =
+            |entries, allowance| ok(&format!("search {entries} 7 {CHAIN_1} -10000 -20000 30000 40000 1 0 {allowance}"));
         assert_eq!(ask(5, 5), "0 2 5 30000 40000 30001 40001 0");
         assert_eq!(ask(3, 5), "9 0 5 0 0 0");
         assert_eq!(ask(3, 4), "10 0 4 0 0 0");
@@ -275,7 +270,8 @@ mod tests {
 
     #[test]
     fn ill_formed_requests() {
-        for line in ["", "metres", "metres +1", "metres 1 ", "metres  1", "record 0", "record 0G", "centimetres 00", "fix 1"] {
+        for line in ["", "metres", "metres +1", "metres 1 ", "metres  1", "record 0", "record 0G", "centimetres 00", "fix 1"]
+        {
             assert!(answer(line).is_err(), "{line}");
         }
     }

@@ -61,7 +61,10 @@ fn chain(random: &mut Random, place: Place) -> Chain {
         let mut station = || pieces::edge_place(random);
         return Chain { master: station(), a: station(), b: station() };
     }
-    let reach = 1 << random.between(1, 26);
+    if random.once_in(4) {
+        return pieces::square_chain(random, place);
+    }
+    let reach = 1 << random.between(1, 30);
     pieces::sound_chain(random, place, reach)
 }
 
@@ -106,20 +109,20 @@ fn entries(random: &mut Random) -> usize {
 }
 
 fn search_job(random: &mut Random, place: Place) -> Job {
-    let k = match random.below(12) {
+    let k = match random.below(30) {
         0 => random.between(20, 40) as u32,
         1 => random.pick(&[24, 25, 31, 32, 33, 63, 64, 256, 257, u32::MAX]),
-        2 | 3 => random.below(25) as u32,
+        2..=8 => random.below(25) as u32,
         _ => random.below(7) as u32,
     };
-    let tolerance = match random.below(12) {
+    let tolerance = match random.below(24) {
         0 => MOST_TOLERANCE + random.below(2) as u32,
         1 => random.pick(&[u32::MAX, 1 << 31, MOST_TOLERANCE]),
         2 => random.below(3000) as u32,
-        3..=6 => random.below(12) as u32,
+        3..=10 => random.below(12) as u32,
         _ => 0,
     };
-    let corner = match random.below(10) {
+    let corner = match random.below(20) {
         0 => pieces::edge_place(random),
         1 => passing(random, k),
         _ => pieces::corner_for(random, place, k.min(MOST_EXPONENT)),
@@ -178,7 +181,11 @@ fn allowance(random: &mut Random, asked: &Asked) -> u64 {
     }
     let full = search::full_allowance(asked.job.k.min(MOST_EXPONENT));
     let edges = [needed, needed, needed.saturating_sub(1), needed + 1, 0, 1, some, full, full - 1];
-    if random.once_in(2) { u64::MAX } else { random.pick(&edges) }
+    if random.once_in(2) {
+        u64::MAX
+    } else {
+        random.pick(&edges)
+    }
 }
 
 /// A log record that is sound or nearly so, or any bytes at all, of 32 bytes mostly.
@@ -203,7 +210,7 @@ fn record(random: &mut Random) -> Vec<u8> {
 
 /// Leaves most bytes as they are; else changes some, or makes them one too few or too many.
 fn spoil(random: &mut Random, bytes: &mut Vec<u8>) {
-    match random.below(12) {
+    match random.below(20) {
         0 => pieces::damage(random, bytes),
         1 => bytes.push(0),
         2 => bytes.truncate(bytes.len().saturating_sub(1)),
@@ -265,7 +272,7 @@ fn chain_asked(random: &mut Random) -> String {
 
 fn listing(random: &mut Random) -> String {
     let place = pieces::anywhere(random);
-    let reach = 1 << random.between(3, 24);
+    let reach = 1 << random.between(3, 30);
     let chain = pieces::sound_chain(random, place, reach);
     let mut table = pieces::table(&[chain, pieces::unsound_chain(random)]);
     if random.once_in(16) {
@@ -280,7 +287,11 @@ fn listing(random: &mut Random) -> String {
     let job = cheap(spoilt_job(random, place, &chain));
     let enough = LINE_BYTES * (count + 1);
     let more = enough + random.below(6000) as usize;
-    let length = random.pick(&[enough, enough, enough, more, more, enough - 1, 0, LINE_BYTES, enough - LINE_BYTES]);
+    let length = match random.below(12) {
+        0 => random.pick(&[enough - 1, enough - LINE_BYTES, LINE_BYTES, 0]),
+        1..=4 => more,
+        _ => enough,
+    };
     let (dirt, held) = (random.pick(&[0, 10, 0x55, 0xff]), random.pick(&[0, 0, 1, 1, 2, u32::MAX]));
     let held_place = if random.once_in(2) { place } else { pieces::edge_place(random) };
     let files = [&job, &table, &log].map(|file| hex(file)).join(" ");
@@ -322,7 +333,8 @@ fn listed_record(random: &mut Random, place: Place, chain: &Chain) -> Vec<u8> {
         0 | 1 => pieces::hold(line).to_vec(),
         2 => pieces::grid(line, pieces::about(random, place, 9)).to_vec(),
         3 => pieces::fix(random.pick(&[0, 2, 3, 255]), line, Readings { a: 1, b: 2 }).to_vec(),
-        4 => {
+        4 => pieces::record(2, 0, line, [pieces::pattern(centimetres(random)), 0, 0]).to_vec(),
+        5 => {
             let mut bytes = pieces::fix(1, line, chart::readings(chain, place)).to_vec();
             bytes[random.below(32) as usize] = random.byte();
             bytes

@@ -55,7 +55,8 @@ fn with_wrong_number(random: &mut Random, line: u32) -> Record {
     let right = pieces::pattern(random.between(-1, 2000));
     let fields = random.pick(&[[wrong, right, 0], [right, wrong, 0], [wrong, wrong, 0]]);
     let chain = random.pick(&[0, 1, 17]);
-    let mut record = if random.once_in(2) { pieces::record(1, chain, line, fields) } else { pieces::record(2, 0, line, fields) };
+    let mut record =
+        if random.once_in(2) { pieces::record(1, chain, line, fields) } else { pieces::record(2, 0, line, fields) };
     record[15] |= random.pick(&[0, 0x80]);
     record
 }
@@ -187,9 +188,16 @@ pub fn jobs(random: &mut Random, turn: u64) -> Folder {
 /// Tables of every allowed count and of lengths beside them, with records that name chains in and out of the table.
 pub fn tables(random: &mut Random, turn: u64) -> Folder {
     let count = [1, 2, 15, 16, 16, 17, 0, 3][turn as usize % 8];
-    let chains: Vec<Chain> = (0..count)
-        .map(|_| if random.once_in(6) { pieces::unsound_chain(random) } else { pieces::sound_chain(random, JOB.corner, 9000) })
-        .collect();
+    let chains: Vec<Chain> =
+        (0..count)
+            .map(|_| {
+                if random.once_in(6) {
+                    pieces::unsound_chain(random)
+                } else {
+                    pieces::sound_chain(random, JOB.corner, 9000)
+                }
+            })
+            .collect();
     let mut log = Vec::new();
     for step in 1..=random.between(5, 40) as u32 {
         let number = random.pick(&[0, 1, 2, 3, 15, 16, 17, 255, count as u8]);

@@ -5,13 +5,13 @@ use std::io;
 use std::path::Path;
 
 use crate::chart::Chain;
+use crate::edges;
 use crate::listing;
 use crate::pieces;
 use crate::random::Random;
 use crate::records::{self, Entry, RECORD};
 use crate::search::Job;
 use crate::tracks::{self, Purse};
-use crate::edges;
 
 /// A log with its job and its table; a file may be missing.
 pub struct Folder {

@@ -65,6 +65,32 @@ pub fn sound_chain(random: &mut Random, place: Place, reach: u32) -> Chain {
     }
 }
 
+/// A station whose squared distance from the place is one less than a square, where a rounded root is one too large:
+/// (2n)^2 + (2n^2)^2 = (2n^2 + 1)^2 - 1.
+fn below_a_square(random: &mut Random, place: Place) -> Place {
+    let longest = place.northing.max(MOST_NORTHING - place.northing);
+    let n = random.between(1, chart::root(u64::from(longest) / 2) as i64) as u32;
+    let (east, north) = (2 * n, 2 * n * n);
+    let easting = if place.easting < east { place.easting + east } else { place.easting - east };
+    let northing = if place.northing < north { place.northing + north } else { place.northing - north };
+    chart::place(easting, northing)
+}
+
+/// A sound chain at distances from the place that are squares, or just below squares, or any.
+pub fn square_chain(random: &mut Random, place: Place) -> Chain {
+    loop {
+        let mut station = || match random.below(6) {
+            0 => anywhere(random),
+            1 => chart::place(place.easting, anywhere(random).northing),
+            _ => below_a_square(random, place),
+        };
+        let chain = Chain { master: station(), a: station(), b: station() };
+        if chart::is_sound(&chain) {
+            return chain;
+        }
+    }
+}
+
 /// A chain with two stations equal, or with one out of range.
 pub fn unsound_chain(random: &mut Random) -> Chain {
     let middle = anywhere(random);
@@ -212,6 +238,11 @@ mod tests {
             assert_eq!(records::chain(&table(&[unsound_chain(&mut random)]), 1), Err(5));
             let wanted = chart::readings(&chain, place);
             assert_eq!(records::entry(&fix(9, 1, wanted)), Ok(Entry::Hyperbolic { chain: 9, wanted }));
+            assert!(chart::is_sound(&square_chain(&mut random, place)));
+            let station = below_a_square(&mut random, place);
+            let east = u64::from(station.easting.abs_diff(place.easting));
+            let north = u64::from(station.northing.abs_diff(place.northing));
+            assert_eq!(east * east + north * north, (north + 1) * (north + 1) - 1);
             let inexact = inexact_pattern(&mut random, wanted.a);
             assert_eq!(numbers::centimetres(inexact), Ok(wanted.a));
         }

@@ -86,12 +86,8 @@ pub fn job(bytes: &[u8]) -> Result<Job, u32> {
     if !zero_under(JOB_ZEROS, bytes) {
         return Err(refusals::BYTES);
     }
-    let job = Job {
-        corner: place_at(bytes, 0),
-        k: u32::from(bytes[8]),
-        tolerance: word(bytes, 12),
-        allowance: long(bytes, 16),
-    };
+    let job =
+        Job { corner: place_at(bytes, 0), k: u32::from(bytes[8]), tolerance: word(bytes, 12), allowance: long(bytes, 16) };
     search::admit_job(&job)?;
     Ok(job)
 }
@@ -211,7 +207,10 @@ mod tests {
     #[test]
     fn tables_have_one_to_sixteen_chains() {
         let table = [0; 408];
-        assert_eq!([0, 23, 24, 25, 384, 408].map(|length| chain_count(&table[..length])), [Err(1), Err(1), Ok(1), Err(1), Ok(16), Err(1)]);
+        assert_eq!(
+            [0, 23, 24, 25, 384, 408].map(|length| chain_count(&table[..length])),
+            [Err(1), Err(1), Ok(1), Err(1), Ok(16), Err(1)]
+        );
         assert_eq!([0, 1, 2].map(|number| chain(&table[..24], number)), [Err(5); 3]);
     }
 

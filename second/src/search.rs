@@ -51,10 +51,8 @@ impl Square {
     /// The quarters in the order in which a stack must take them: the first to visit comes last.
     fn quarters_reversed(self) -> [Square; 4] {
         let half = self.side / 2;
-        [(half, half), (0, half), (half, 0), (0, 0)].map(|(east, north)| Square {
-            corner: self.offset(east, north),
-            side: half,
-        })
+        [(half, half), (0, half), (half, 0), (0, 0)]
+            .map(|(east, north)| Square { corner: self.offset(east, north), side: half })
     }
 }
 

@@ -23,13 +23,26 @@ impl Purse {
     }
 }
 
+/// A sound chain of any size about a place, from a few cells to the whole range.
+fn any_chain(random: &mut Random, place: Place) -> Chain {
+    if random.once_in(4) {
+        return pieces::square_chain(random, place);
+    }
+    let reach = 1 << random.between(4, 30);
+    pieces::sound_chain(random, place, reach)
+}
+
 /// A table with a chain somewhere in it, and the chain's number.
 fn table_with(random: &mut Random, chain: Chain) -> (Vec<Chain>, u8) {
     let count = random.pick(&[1, 1, 2, 3, 16]);
     let number = random.below(count);
     let other = |random: &mut Random| {
         let place = pieces::anywhere(random);
-        if random.once_in(2) { pieces::unsound_chain(random) } else { pieces::sound_chain(random, place, 1000) }
+        if random.once_in(2) {
+            pieces::unsound_chain(random)
+        } else {
+            pieces::sound_chain(random, place, 1000)
+        }
     };
     let chains = (0..count).map(|index| if index == number { chain } else { other(random) }).collect();
     (chains, number as u8 + 1)
@@ -48,8 +61,7 @@ fn track_tolerance(random: &mut Random, k: u32) -> u32 {
 /// Readings along a moving place, in a sound chain, with grid records and holds among them.
 pub fn track(random: &mut Random, _turn: u64) -> Folder {
     let mut place = pieces::anywhere(random);
-    let reach = 1 << random.between(5, 24);
-    let chain = pieces::sound_chain(random, place, reach);
+    let chain = any_chain(random, place);
     let k = if random.once_in(3) { random.below(25) } else { random.below(13) } as u32;
     let few = random.below(3000);
     let job = Job {
@@ -62,7 +74,6 @@ pub fn track(random: &mut Random, _turn: u64) -> Folder {
     let mut purse = Purse(12_000);
     let mut log = Vec::new();
     for step in 1..=random.between(1, 40) as u32 {
-        place = pieces::about(random, place, 2 + (1 << k) / 16);
         let wanted = chart::readings(&chain, place);
         match random.below(8) {
             0 => log.push(pieces::grid(step, place)),
@@ -71,6 +82,7 @@ pub fn track(random: &mut Random, _turn: u64) -> Folder {
             2 => log.push(inexact_fix(random, number, step, wanted)),
             _ => log.push(pieces::fix(number, step, wanted)),
         }
+        place = pieces::about(random, place, 2 + (1 << k) / 16);
     }
     Folder::new(&job, &chains, &log)
 }
@@ -159,8 +171,7 @@ fn published_crossing(random: &mut Random) -> Folder {
 /// Windows with about as many matching cells as the list has room for, or far more.
 pub fn crowded(random: &mut Random, turn: u64) -> Folder {
     let place = pieces::anywhere(random);
-    let reach = 1 << random.between(4, 24);
-    let chain = pieces::sound_chain(random, place, reach);
+    let chain = any_chain(random, place);
     let k = [4, 5, 5, 5, 5, 3 + turn as u32 % 6][turn as usize % 6];
     let corner = pieces::corner_for(random, place, k);
     let wanted = chart::readings(&chain, place);
@@ -201,8 +212,7 @@ fn counted(random: &mut Random, chain: &Chain, job: &Job, count: usize) -> Optio
 /// Allowances that are just enough, one too few, none, and the one that is always enough.
 pub fn allowances(random: &mut Random, turn: u64) -> Folder {
     let place = pieces::anywhere(random);
-    let reach = 1 << random.between(4, 24);
-    let chain = pieces::sound_chain(random, place, reach);
+    let chain = any_chain(random, place);
     let wanted = chart::readings(&chain, place);
     let crowd = turn % 3 == 0;
     let k = random.below(if crowd { 6 } else { 20 }) as u32;
