@@ -195,16 +195,27 @@ fn record(random: &mut Random) -> Vec<u8> {
     let mut numbers = || if random.once_in(3) { pattern(random) } else { pieces::pattern(centimetres(random)) };
     let fields = [numbers(), numbers(), 0];
     let small = [pieces::pattern(random.between(-2, 200)), pieces::pattern(random.between(-2, 200)), 0];
-    let mut bytes = match random.below(8) {
+    let mut bytes = match random.below(10) {
         0 => random.bytes(RECORD),
         1 | 2 => pieces::record(1, chain, line, fields).to_vec(),
         3 => pieces::record(2, 0, line, fields).to_vec(),
         4 => pieces::record(2, 0, line, small).to_vec(),
         5 => pieces::record(random.byte(), 0, line, small).to_vec(),
         6 => pieces::grid(line, pieces::anywhere(random)).to_vec(),
-        _ => pieces::hold(line).to_vec(),
+        7 => pieces::hold(line).to_vec(),
+        _ => with_wrong_byte(random, line),
     };
     spoil(random, &mut bytes);
+    bytes
+}
+
+/// A record that is sound but for one byte, often the sign of a minus zero.
+fn with_wrong_byte(random: &mut Random, line: u32) -> Vec<u8> {
+    let (kind, chain) = random.pick(&[(1, 1), (2, 0), (3, 0)]);
+    let mut bytes = pieces::record(kind, chain, line, [0; 3]).to_vec();
+    let field = random.between(8, 31) as usize;
+    let any = random.pick(&[1, 2, 3, field]);
+    bytes[random.pick(&[any, any, 15, 23, 31])] = random.pick(&[1, 0x80]);
     bytes
 }
 

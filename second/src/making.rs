@@ -23,7 +23,7 @@ pub struct Folder {
 type Kind = fn(&mut Random, u64) -> Folder;
 
 /// The kinds of logs, taken in turn.
-const KINDS: [Kind; 16] = [
+const KINDS: [Kind; 17] = [
     tracks::track,
     edges::refusals,
     tracks::damaged,
@@ -36,6 +36,7 @@ const KINDS: [Kind; 16] = [
     edges::tables,
     tracks::track,
     edges::holds,
+    tracks::squares,
     edges::tails,
     edges::absences,
     edges::unsound,

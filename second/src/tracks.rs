@@ -92,6 +92,18 @@ fn inexact_fix(random: &mut Random, number: u8, line: u32, wanted: Readings) -> 
     pieces::record(1, number, line, fields)
 }
 
+/// One place in many chains, at distances where a rounded root would be one too large.
+pub fn squares(random: &mut Random, _turn: u64) -> Folder {
+    let place = pieces::anywhere(random);
+    let chains: Vec<Chain> = (0..16).map(|_| pieces::square_chain(random, place)).collect();
+    let k = random.below(5) as u32;
+    let corner = pieces::corner_for(random, place, k);
+    let job = Job { corner, k, tolerance: 0, allowance: search::full_allowance(k) };
+    let log: Vec<_> =
+        chains.iter().zip(1..).map(|(chain, number)| pieces::fix(number, 7, chart::readings(chain, place))).collect();
+    Folder::new(&job, &chains, &log)
+}
+
 /// A track, or a log of all sorts, with some of its bytes changed.
 pub fn damaged(random: &mut Random, turn: u64) -> Folder {
     let mut folder = if random.once_in(2) { track(random, turn) } else { crate::edges::holds(random, turn) };
