@@ -263,7 +263,7 @@ pub fn unsound(random: &mut Random, turn: u64) -> Folder {
     let mut log = Vec::new();
     for step in 1..=random.between(1, 20) as u32 {
         let any = random.below(count as u64) as usize;
-        let number = if turn % 2 == 0 || any % 2 == first { any + 1 } else { first + 1 };
+        let number = if turn.is_multiple_of(2) || any % 2 == first { any + 1 } else { first + 1 };
         let wanted = random.pick(&[ONE_PLACE, ONE_PLACE, TWO_PLACES, NO_PLACE]);
         log.push(pieces::fix(number as u8, step, wanted));
         log.push(pieces::hold(step));

@@ -226,7 +226,7 @@ pub fn allowances(random: &mut Random, turn: u64) -> Folder {
     let place = pieces::anywhere(random);
     let chain = any_chain(random, place);
     let wanted = chart::readings(&chain, place);
-    let crowd = turn % 3 == 0;
+    let crowd = turn.is_multiple_of(3);
     let k = random.below(if crowd { 6 } else { 20 }) as u32;
     let tolerance = if crowd { 50_000 } else { random.below(4) as u32 };
     let capped = Job { corner: pieces::corner_for(random, place, k), k, tolerance, allowance: 6000 };
