@@ -1,9 +1,10 @@
 #!/usr/bin/env python3
-"""Vectors for crates/run_metres, and what it must print of them, worked out from document 01 in exact fractions.
+"""Requests about metres and centimetres in the words of desk.c, and their answers, worked out from document 01 in exact
+fractions.
 
-    metres.py named              the vectors that have a reason, one to a line
-    metres.py random SEED COUNT  so many of each kind at random
-    metres.py expected           all that the program must print, of the vectors on standard input
+    metres.py named        the requests that have a reason, one to a line
+    metres.py random SEED  1,000 of each of six kinds at random
+    metres.py answers      the answers to the requests on standard input
 
 No number here is ever a float: a pattern is taken apart into its fields and becomes a fraction.
 """
@@ -61,48 +62,23 @@ def metres(number):
     return 0, pattern_of(Fraction(abs(number), 100)) + (MINUS if number < 0 else 0)
 
 
-def in_hex(eight):
-    return f"{int.from_bytes(eight, 'little'):016x}"
+def answer_to(line):
+    verb, word = line.split()
+    if verb == "centimetres":
+        refusal, whole = centimetres(int(word, 16))
+        return f"{refusal} {whole}"
+    refusal, pattern = metres(int(word))
+    return f"{refusal} {pattern:016x}"
 
 
-def buffer_after(at, pattern):
-    """Ten bytes of 170 after eight are put at a place: the numbers in the first eight and in the last."""
-    held = bytearray([170] * 10)
-    inside = at + 8 <= 10
-    if inside:
-        held[at : at + 8] = pattern.to_bytes(8, "little")
-    return ("" if inside else "outside ") + in_hex(held[:8]) + " " + in_hex(held[2:])
-
-
-def expected_of(line):
-    letter, word = line.split()
-    number = int(word, 16)
-    if letter == "m":
-        refusal, whole = centimetres(number)
-        is_nan = size_of(number) is None and number % DIGITS != 0
-        written = NAN if is_nan else number
-        return f"{line} {refusal} {whole} {written:016x} {buffer_after(1, written)} {int(number == 0)}"
-    number -= 2**64 if number >= MINUS else 0
-    refusal, pattern = metres(number)
-    again = f"0 {number}" if refusal == 0 else "0 0"
-    return f"{line} {refusal} {pattern:016x} {again}"
-
-
-def opening():
-    """The lines that the program prints of itself: numbers read at places of slices, and one put at places of a buffer."""
-    held = bytes([255, 1, 2, 3, 4, 5, 6, 7, 64, 9, 10, 192])
-    largest = 2**64 - 1
-    for length, at in (12, 0), (12, 1), (12, 4), (12, 5), (12, 12), (12, largest), (8, 0), (8, 1), (7, 0), (0, 0):
-        inside = at + 8 <= length
-        yield f"at {length} {at} " + (in_hex(held[at : at + 8]) if inside else "outside")
-    for at in 0, 2, 3, largest:
-        yield f"put {at} {buffer_after(at, 0x3FF8000000000000)}"
+def reading(pattern):
+    return f"centimetres {pattern:016x}"
 
 
 def both(patterns):
     for pattern in patterns:
-        yield f"m {pattern:016x}"
-        yield f"m {pattern + MINUS:016x}"
+        yield reading(pattern)
+        yield reading(pattern + MINUS)
 
 
 def beside(value):
@@ -111,8 +87,13 @@ def beside(value):
     return middle - 1, middle, middle + 1
 
 
-def in_words(numbers):
-    return (f"c {number % 2**64:016x}" for number in numbers)
+def there_and_back(numbers):
+    """Centimetres to be written; and what is then to be read, where they are."""
+    for number in numbers:
+        yield f"metres {number}"
+        refusal, pattern = metres(number)
+        if not refusal:
+            yield reading(pattern)
 
 
 def named():
@@ -130,32 +111,33 @@ def named():
     # the largest number that is read and the first that is refused, the largest of all, zeros, infinities, NaN's patterns
     yield from both([LIMIT - 1, LIMIT, LIMIT + 1, 2047 * DIGITS - 1, 0, 2047 * DIGITS])
     yield from both([2047 * DIGITS + 1, NAN - 1, NAN, NAN + 1, NAN + 0x123456789ABC, MINUS - 1])
-    yield from in_words([*range(-105, 106), -30001, 30001, 40000])
+    yield from there_and_back([*range(-105, 106), -30001, 30001, 40000])
     for size in 999_999_999, 1_000_000_000, 1_000_000_001, 2**31, 2**32, 2**53, 2**53 + 1, 2**63 - 1:
-        yield from in_words([-size, size])
-    yield from in_words([-(2**63)])
+        yield from there_and_back([-size, size])
+    yield from there_and_back([-(2**63)])
 
 
-def at_random(seed, count):
+def at_random(seed):
     draw = random.Random(seed)
-    for _ in range(count):
+    for _ in range(1000):
         sign = draw.getrandbits(1) * MINUS
-        yield f"m {draw.getrandbits(64):016x}"
-        yield f"m {sign + draw.randrange(1000 * DIGITS, 1050 * DIGITS):016x}"
-        yield f"m {sign + draw.choice(beside(Fraction(draw.randrange(1, 2_000_000_000, 2), 200))):016x}"
-        yield f"m {sign + pattern_of(Fraction(draw.randrange(1, 80_000_000, 2), 8)):016x}"
-        yield from in_words([draw.randint(-1_000_000_000, 1_000_000_000), draw.getrandbits(64)])
+        yield reading(draw.getrandbits(64))
+        yield reading(sign + draw.randrange(1000 * DIGITS, 1050 * DIGITS))
+        yield reading(sign + draw.choice(beside(Fraction(draw.randrange(1, 2_000_000_000, 2), 200))))
+        yield reading(sign + pattern_of(Fraction(draw.randrange(1, 80_000_000, 2), 8)))
+        yield from there_and_back([draw.randint(-1_000_000_000, 1_000_000_000), draw.getrandbits(64) - MINUS])
 
 
 def main(words):
     if words == ["named"]:
         print("\n".join(named()))
-    elif words[:1] == ["random"] and len(words) == 3:
-        print("\n".join(at_random(int(words[1]), int(words[2]))))
-    elif words == ["expected"]:
-        print("\n".join([*opening(), *(expected_of(line) for line in sys.stdin.read().splitlines())]))
+    elif words[:1] == ["random"] and len(words) == 2:
+        print("\n".join(at_random(int(words[1]))))
+    elif words == ["answers"]:
+        print("\n".join(answer_to(line) for line in sys.stdin.read().splitlines()))
     else:
         sys.exit(__doc__)
 
 
-main(sys.argv[1:])
+if __name__ == "__main__":
+    main(sys.argv[1:])

@@ -1,28 +1,18 @@
 #!/usr/bin/env bash
-# What crates/run_metres prints of numbers of metres and of centimetres, against document 01's examples and against the rule
-# in exact fractions (metres.py). A seed other than the gate's may be given.
-cd "$(dirname "$0")/.." && . tests/common.bash
+# What the library makes of numbers of metres and of centimetres, against document 01's examples and against the rule in exact
+# fractions (metres.py). A seed other than the gate's may be given.
+cd "$(dirname "$0")/.." && . tests/common.bash && . tests/library.bash
 seed=${1:-20261115}
 
-vectors=$(mktemp) printed=$(mktemp) wanted=$(mktemp)
-trap 'rm -f "$vectors" "$printed" "$wanted"' EXIT
-
-# The vectors that have a reason, which the crate keeps as its input, then 1,000 of each of six kinds at random.
-python3 tests/metres.py named >"$vectors"
-pass_if 'the input of run_metres has the vectors that have a reason' cmp -s "$vectors" crates/run_metres/stdin
-python3 tests/metres.py random "$seed" 1000 >>"$vectors"
-program run_metres <"$vectors" >"$printed"
-python3 tests/metres.py expected <"$vectors" >"$wanted"
-while read -r got <&3 && read -r want <&4; do
-    pass_if "$got, not $want" [ "$got" = "$want" ]
-done 3<"$printed" 4<"$wanted"
-pass_if 'all that was asked is told' [ "$passed" -eq $((1 + 14 + $(wc -l <"$vectors"))) ]
-pass_if 'and no more' cmp -s "$printed" "$wanted"
+# The requests that have a reason, then those at random.
+python3 tests/metres.py named >"$requests"
+python3 tests/metres.py random "$seed" >>"$requests"
+ask metres
 
 # 01's examples, by the patterns of the numbers: 0.125, 0.375, -0.125, 0.625, minus zero, NaN, the infinities, 10,000,000 and
 # the next number; -0.001 and -0.01; 300.01, 400 and 1,000,000.005.
-while read -r pattern refusal centimetres; do
-    pass_if "$pattern gives $centimetres" grep -q "^m $pattern $refusal $centimetres " "$printed"
+while read -r pattern answer; do
+    told "centimetres $pattern" "$answer"
 done <<'END'
 3fc0000000000000 0 12
 3fd8000000000000 0 38
@@ -41,7 +31,23 @@ bf847ae147ae147b 0 -1
 412e8480028f5c29 0 100000001
 END
 
-# Numbers of centimetres that are not written give plus zero, and the last that is written comes back.
-pass_if '1,000,000,001 is refused' grep -qx 'c 000000003b9aca01 3 0000000000000000 0 0' "$printed"
-pass_if '-1,000,000,000 comes back' grep -qx 'c ffffffffc4653600 0 c16312d000000000 0 -1000000000' "$printed"
+# Numbers of centimetres that are not written give plus zero; the last that is written; 300.01 and plus zero.
+told 'metres 1000000001' '3 0000000000000000'
+told 'metres -1000000001' '3 0000000000000000'
+told 'metres -9223372036854775808' '3 0000000000000000'
+told 'metres -1000000000' '0 c16312d000000000'
+told 'metres 30001' '0 4072c028f5c28f5c'
+told 'metres 0' '0 0000000000000000'
+
+# comes_back: that every number that was written, read again, gives the same centimetres, and that there are many
+comes_back() {
+    awk -F '[: ]' '
+        $1 == "metres" && $3 == 0 { written[$4] = $2 }
+        $1 == "centimetres" && $3 == 0 { again[$2] = $4 }
+        END {
+            for (pattern in written) if (again[pattern] != written[pattern]) { print pattern, written[pattern]; exit 1 }
+            exit length(written) < 1000
+        }' "$both"
+}
+pass_if 'what is written gives the same centimetres when it is read' comes_back
 done_testing

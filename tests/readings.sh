@@ -1,7 +1,7 @@
 #!/usr/bin/env bash
-# The readings that crates/run_readings prints, against document 01's examples, the plane readings printed in source
+# The readings that the library expects at places, against document 01's examples, the plane readings printed in source
 # document 002, and the rule worked out here by bisection in whole numbers.
-cd "$(dirname "$0")/.." && . tests/common.bash
+cd "$(dirname "$0")/.." && . tests/common.bash && . tests/library.bash
 
 east=100000000 north=1000000000
 
@@ -21,57 +21,84 @@ distance() { # of (E, N) and (E, N), in `root`
 
 out_of_range() { (($1 > east || $2 > north)); }
 
-unsound() { # the chain in `c`
-    out_of_range "${c[0]}" "${c[1]}" || out_of_range "${c[2]}" "${c[3]}" || out_of_range "${c[4]}" "${c[5]}" ||
-        [ "${c[0]} ${c[1]}" = "${c[2]} ${c[3]}" ] || [ "${c[0]} ${c[1]}" = "${c[4]} ${c[5]}" ] ||
-        [ "${c[2]} ${c[3]}" = "${c[4]} ${c[5]}" ]
+unsound() { # ME MN AE AN BE BN
+    out_of_range "$1" "$2" || out_of_range "$3" "$4" || out_of_range "$5" "$6" ||
+        [ "$1 $2" = "$3 $4" ] || [ "$1 $2" = "$5 $6" ] || [ "$3 $4" = "$5 $6" ]
 }
 
-# expected E N: refusal and readings in the chain `c`, in `expected`
+# expected ME MN AE AN BE BN E N: refusal and readings, in `expected`
 expected() {
     local master a
     expected='4 0 0'
-    if out_of_range "$1" "$2"; then return; fi
+    if out_of_range "$7" "$8"; then return; fi
     expected='5 0 0'
-    if unsound; then return; fi
-    distance "$1" "$2" "${c[0]}" "${c[1]}" && master=$root
-    distance "$1" "$2" "${c[2]}" "${c[3]}" && a=$((root - master))
-    distance "$1" "$2" "${c[4]}" "${c[5]}"
+    if unsound "$@"; then return; fi
+    distance "$7" "$8" "$1" "$2" && master=$root
+    distance "$7" "$8" "$3" "$4" && a=$((root - master))
+    distance "$7" "$8" "$5" "$6"
     expected="0 $a $((root - master))"
+}
+
+# at CHAIN PLACE...: requests for the readings at places, each in a word of its own
+at() {
+    local chain=$1 place
+    shift
+    for place in "$@"; do echo "expected $chain $place"; done
 }
 
 near() { (($1 - $2 <= 6 && $2 - $1 <= 6)); }
 
-output=$(mktemp)
-trap 'rm -f "$output"' EXIT
-program run_readings >"$output"
+# Document 01's chain 1, and the stations of source document 002, at the places whose readings these give.
+first='0 0 30000 0 0 40000'
+paper='50000000 500000000 40000000 490000000 60000000 500000000'
+corners=('0 0' "$east 0" "0 $north" "$east $north")
+{
+    at "$first" '30000 40000' '30001 40000' '30000 40001' '1 1'
+    at "$paper" '60000000 490000000' '60000000 490100000' '60100000 490000000' '60100000 490100000'
+    at "$paper" '60002450 490001960' '59999990 490100040' '60100050 489999960' '60099990 490100040'
+    # Stations and places in the corners of the chart: readings beyond 1,000,000,000 in size are given.
+    at "0 0 $east $north $east 0" "${corners[@]}"
+    at "$east $north 0 0 0 $north" "${corners[@]}"
+    at "0 $north 0 $((north - 1)) 1 $north" "${corners[@]}"
+    # Places out of range, by little and by much, one and both ways; then in a chain that is not sound either.
+    at "$first" "$((east + 1)) 0" "0 $((north + 1))" "$((east + 1)) $((north + 1))" '4294967295 40000' '30000 4294967295'
+    at "0 0 0 0 0 $((north + 1))" "$((east + 1)) 0" "0 $((north + 1))"
+    # Chains that are not sound: each station out of range, and each two of them equal.
+    at "$((east + 1)) 0 30000 0 0 40000" '30000 40000'
+    at "0 $((north + 1)) 30000 0 0 40000" '30000 40000'
+    at "0 0 $((east + 1)) 0 0 40000" '30000 40000'
+    at "0 0 30000 $((north + 1)) 0 40000" '30000 40000'
+    at "0 0 30000 0 $((east + 1)) 40000" '30000 40000'
+    at '0 0 30000 0 0 4294967295' '30000 40000'
+    at '30000 0 30000 0 0 40000' '30000 40000'
+    at '0 40000 30000 0 0 40000' '30000 40000'
+    at '0 0 30000 40000 30000 40000' '30000 40000'
+} >"$requests"
+harness <"$requests" >"$answers"
 
-# Every line is what the rule gives.
-while read -r first second rest; do
-    if [ "$first" = chain ]; then
-        read -ra c <<<"$second $rest"
-    else
-        expected "$first" "$second"
-        pass_if "at ($first, $second) in (${c[*]}): $rest, not $expected" [ "$rest" = "$expected" ]
-    fi
-done <"$output"
+# Every answer is what the rule gives.
+while read -r _ numbers; do
+    expected $numbers
+    echo "$expected"
+done <"$requests" >"$wanted"
+agree "$requests" "$answers" "$wanted"
+paste -d: "$requests" "$answers" >"$both"
 
 # Document 01's examples, chain 1: place, then readings A and B.
-while read -r line; do
-    set -- $line
-    pass_if "01's example at ($1, $2)" grep -qx "$1 $2 0 $3 $4" "$output"
+while IFS=: read -r place answer; do
+    told "expected $first $place" "0 $answer"
 done <<'END'
-30000 40000 -10000 -20000
-30001 40000 -10000 -19999
-30000 40001 -9999 -20000
-1 1 29998 39998
+30000 40000:-10000 -20000
+30001 40000:-10000 -19999
+30000 40001:-9999 -20000
+1 1:29998 39998
 END
 
 # Source document 002, Table 4 and appendix II: place, then the plane readings printed, in centimetres. They are printed to
 # the tenth of a metre, so 6 off is the most that rounding and the cut explain.
 while read -r line; do
     set -- $line
-    found=$(sed -n "s/^$1 $2 0 //p" "$output")
+    found=$(sed -n "s/^expected $paper $1 $2:0 //p" "$both")
     pass_if "002's reading A at ($1, $2): $found" near "${found% *}" "$3"
     pass_if "002's reading B at ($1, $2): $found" near "${found#* }" "$4"
 done <<'END'
@@ -85,12 +112,9 @@ done <<'END'
 60099990 490100040 5957430 -4242340
 END
 
-# Readings beyond 1,000,000,000 in size are given, at both signs; each corner and each refusal is there.
-pass_if 'a reading of 1004987562' grep -qx '0 0 0 1004987562 100000000' "$output"
-pass_if 'a reading of -1004987562' grep -qx '0 0 0 -1004987562 -4987562' "$output"
-for corner in '0 0' "$east 0" "0 $north" "$east $north"; do
-    pass_if "three readings at the corner $corner" [ "$(grep -c "^$corner 0 " "$output")" -eq 3 ]
-done
-pass_if 'seven places refused' [ "$(grep -c ' 4 0 0$' "$output")" -eq 7 ]
-pass_if 'nine chains refused' [ "$(grep -c ' 5 0 0$' "$output")" -eq 9 ]
+# Readings beyond 1,000,000,000 in size are given, at both signs; each refusal is there.
+told "expected 0 0 $east $north $east 0 0 0" '0 1004987562 100000000'
+told "expected $east $north 0 0 0 $north 0 0" '0 -1004987562 -4987562'
+pass_if 'seven places refused' [ "$(grep -c '^4 0 0$' "$answers")" -eq 7 ]
+pass_if 'nine chains refused' [ "$(grep -c '^5 0 0$' "$answers")" -eq 9 ]
 done_testing
