@@ -39,33 +39,41 @@ build_harness
 
 harness() { "${emulator[@]}" "$asking"; }
 
-# agree REQUESTS ANSWERS WANTED: counts each answer that is the wanted one; ends with the first that is not. There are too
-# many to go through one by one in the shell.
-agree() {
-    if ! cmp -s "$2" "$3"; then
-        echo "failed: $(paste -d '\n' "$1" "$2" "$3" | cut -c 1-400 | awk '
-            NR % 3 == 1 { request = $0 }
-            NR % 3 == 2 { got = $0 }
-            NR % 3 == 0 && got != $0 { print request; print "  gives  " got; print "  not    " $0; exit }')"
-        exit 1
-    fi
-    pass_if 'each request has an answer' [ "$(wc -l <"$1")" -eq "$(wc -l <"$2")" ]
-    passed=$((passed + $(wc -l <"$1")))
+# The files of what follows. `both` has each request with its answer, REQUEST:ANSWER; `met` each verb with its refusals.
+asked=$(mktemp -d)
+trap 'rm -rf "$asked"' EXIT
+requests=$asked/requests answers=$asked/answers wanted=$asked/wanted both=$asked/both met=$asked/met
+
+first_difference() {
+    paste -d '\n' "$requests" "$answers" "$wanted" | cut -c 1-400 | awk '
+        NR % 3 == 1 { request = $0 }
+        NR % 3 == 2 { got = $0 }
+        NR % 3 == 0 && got != $0 { print request; print "  gives " got; print "  not   " $0; exit }'
 }
 
-# ask NAME: puts the requests in the file `requests` to the harness, and holds the answers to those that tests/NAME.py works
-# out. The file `both` has each request with its answer, REQUEST:ANSWER.
+# ask COMMAND...: puts the requests to the harness and to the command, and counts each answer in which both agree. There are
+# too many to go through one by one in the shell.
 ask() {
     harness <"$requests" >"$answers"
-    python3 "tests/$1.py" answers <"$requests" >"$wanted"
-    agree "$requests" "$answers" "$wanted"
+    "$@" <"$requests" >"$wanted"
+    if ! cmp -s "$answers" "$wanted"; then
+        echo "failed: $(first_difference)"
+        exit 1
+    fi
+    pass_if 'each request has an answer' [ "$(wc -l <"$requests")" -eq "$(wc -l <"$answers")" ]
+    passed=$((passed + $(wc -l <"$requests")))
     paste -d: "$requests" "$answers" >"$both"
+    paste -d ' ' <(cut -d ' ' -f 1 "$requests") <(cut -d ' ' -f 1 "$answers") | sort -u >"$met"
 }
 
 # told REQUEST ANSWER: that the answer, an extended regular expression, was given to the request
 told() { pass_if "$1 gives $2" grep -qxE -e "$1:$2" "$both"; }
 
-# The files of `ask` and `told`.
-asked=$(mktemp -d)
-trap 'rm -rf "$asked"' EXIT
-requests=$asked/requests answers=$asked/answers wanted=$asked/wanted both=$asked/both
+# refuses VERB NUMBER...: that the verb met each of these refusals, where 0 is none
+refuses() {
+    local verb=$1 number
+    shift
+    for number in "$@"; do
+        pass_if "$verb answers with $number" grep -qx "$verb $number" "$met"
+    done
+}

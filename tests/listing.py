@@ -57,13 +57,7 @@ def refused(number, visits=0):
     return Answer("REFUSED", number, visits, [])
 
 
-def after(word, told):
-    words = told.split()
-    return words[words.index(word) + 1 :]
-
-
-def pairs(words):
-    numbers = [int(word) for word in words]
+def pairs(numbers):
     return list(zip(numbers[0::2], numbers[1::2]))
 
 
@@ -71,9 +65,9 @@ searched = lru_cache(maxsize=None)(search.answer)
 
 
 def fix(question, table, number, wanted):
-    stations = after("chain", records.table_told(number, table))
-    if stations[0] == "refused":
-        return refused(int(stations[1]))
+    refusal, *stations = records.chain_answer(number, table)
+    if refusal:
+        return refused(refusal)
     master, a, b = pairs(stations)
     refusal, visits, places = searched(question._replace(master=master, a=a, b=b, wanted=wanted))
     return refused(refusal, visits) if refusal else given("FIX", places, visits)
@@ -81,13 +75,12 @@ def fix(question, table, number, wanted):
 
 def answer(question, table, held, record):
     """What a record answers; `held` has the place that a hold repeats, or nothing."""
-    what, *rest = after("entry", records.entry_told(record))
-    if what == "refused":
-        return refused(int(rest[0]))
-    if what == "hold":
+    refusal, kind, number, _, x, y = records.record_answer(record)
+    if refusal:
+        return refused(refusal)
+    if kind == 3:
         return given("HOLD", held) if held else refused(11)
-    (numbers,) = pairs(rest)
-    return given("GRID", [numbers]) if what == "place" else fix(question, table, record[1], numbers)
+    return given("GRID", [(x, y)]) if kind == 2 else fix(question, table, number, (x, y))
 
 
 def records_of(log):
@@ -106,13 +99,12 @@ def lines(question, table, log):
 def listing(folder):
     """The lines of a folder's listing."""
     job, table, log = (content or b"" for content in folder)
-    numbers = after("job", records.job_told(job))
-    if numbers[0] == "refused":
-        return [f"JOB REFUSED {numbers[1]}"]
-    count = after("count", records.table_told(1, table))
-    if count[0] == "refused":
-        return [f"CHAIN REFUSED {count[1]}"]
-    easting, northing, k, tolerance, allowance = map(int, numbers)
+    refusal, easting, northing, k, tolerance, allowance = records.job_answer(job)
+    if refusal:
+        return [f"JOB REFUSED {refusal}"]
+    refusal, _ = records.count_answer(table)
+    if refusal:
+        return [f"CHAIN REFUSED {refusal}"]
     question = search.P4._replace(
         corner=(easting, northing), k=k, tolerance=tolerance, allowance=allowance, entries=2 * ROOM
     )
@@ -327,9 +319,9 @@ def numbers():
     yield "digits", three(log=b"".join(sized) + b"".join(records.hold(line=n) for n in edges))
     yield "same_line_number", three(log=(GRID + HOLD + FIX) * 3)
     parts = records.examples, records.kinds, records.numbers, records.zeros, records.limits, records.roundings
-    asked = (request[1] for part in parts for request in part() if request[0] == "L")
+    asked = (request[1] for part in parts for request in part() if request[0] == "record")
     yield "records", three(table=records.PAIR, log=b"".join(asked))
-    swept = (request[1] for request in records.sweep() if request[0] == "L")
+    swept = (request[1] for request in records.sweep() if request[0] == "record")
     yield "every_byte", three(table=records.PAIR, log=b"".join(swept))
 
 

@@ -7,7 +7,9 @@ seed=${1:-20261115}
 # The requests that have a reason, then those at random.
 python3 tests/metres.py named >"$requests"
 python3 tests/metres.py random "$seed" >>"$requests"
-ask metres
+ask python3 tests/metres.py answers
+refuses centimetres 0 3
+refuses metres 0 3
 
 # 01's examples, by the patterns of the numbers: 0.125, 0.375, -0.125, 0.625, minus zero, NaN, the infinities, 10,000,000 and
 # the next number; -0.001 and -0.01; 300.01, 400 and 1,000,000.005.

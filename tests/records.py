@@ -1,11 +1,11 @@
 #!/usr/bin/env python3
-"""Requests for crates/run_records, and what it must print of them: records read and written as document 01 says, in exact
+"""Requests about records read and written in the words of desk.c, and their answers, worked out from document 01 in exact
 fractions and whole numbers.
 
-    records.py stdin        the requests that have a reason, one to a line
+    records.py named        the requests that have a reason, one to a line
     records.py sweep        sound records with each byte set to each other value
     records.py random SEED  1,500 others at random
-    records.py stdout       what the program must print, of the requests on standard input
+    records.py answers      the answers to the requests on standard input
 """
 import random
 import struct
@@ -20,31 +20,32 @@ MINUS = 1 << 63
 FAR = 2**32 - 1
 
 
-# A request is its letter with the rest of its line: whole numbers, and bytes at the end of L, C and J.
+# A request is its verb with the words of its line: whole numbers, and bytes at the end of all but `write`.
 
 
-def line_of(request):
-    letter, *rest = request
-    words = (word.hex() if isinstance(word, bytes) else f"{word % 2**64:x}" for word in rest)
-    return " ".join((letter, *words)).rstrip()
+def in_words(values):
+    return " ".join((v.hex() or "-") if isinstance(v, bytes) else str(v) for v in values)
 
 
 def request_of(line):
-    letter, *words = line.split()
-    if letter == "W":
-        *numbers, x, y = (int(word, 16) for word in words)
-        return (letter, *numbers, signed(x), signed(y))
-    numbers, digits = ([int(words[0], 16)], words[1:]) if letter == "C" else ([], words)
-    return (letter, *numbers, bytes.fromhex("".join(digits)))
+    verb, *words = line.split()
+    if verb == "write":
+        return (verb, *map(int, words))
+    *numbers, digits = words
+    return (verb, *map(int, numbers), bytes.fromhex(digits.strip("-")))
 
 
-def signed(n):
-    return n - 2**64 if n >= MINUS else n
+def lines_of(requests):
+    """The lines of requests; wherever a chain is asked for, so is the count of its table."""
+    for request in requests:
+        yield in_words(request)
+        if request[0] == "chain":
+            yield in_words(("count", request[2]))
 
 
 def told(request):
-    letter, *rest = request
-    return {"L": log_told, "C": table_told, "J": job_told, "W": written_told}[letter](*rest)
+    verb, *rest = request
+    return in_words(ANSWERS[verb](*rest))
 
 
 # A number of metres
@@ -52,12 +53,6 @@ def told(request):
 
 def number_in(eight):
     return struct.unpack("<d", eight)[0]
-
-
-def pattern_in(eight):
-    """Every NaN counts as the one whose pattern is 7FF8000000000000."""
-    pattern = int.from_bytes(eight, "little")
-    return NAN if pattern % MINUS > INFINITY else pattern
 
 
 def centimetres(x):
@@ -90,69 +85,60 @@ def in_range(place):
     return 0 <= place[0] <= EAST and 0 <= place[1] <= NORTH
 
 
-def raw_told(s):
-    if len(s) != 32:
-        return "raw refused 1"
-    line = int.from_bytes(s[4:8], "little")
-    return f"raw {s[0]} {s[1]} {s[2]} {s[3]} {line} {pattern_in(s[8:16])} {pattern_in(s[16:24])} {pattern_in(s[24:])}"
-
-
-def kind_told(s):
-    refusal = kind_refusal(s)
+def record_answer(s):
+    """The line number is told of any whole record, what else it holds of a good one alone."""
+    line = int.from_bytes(s[4:8], "little") if len(s) == 32 else 0
+    refusal, x, y = numbers_in(s)
     if refusal:
-        return f"record refused {refusal}"
-    return "record 3" if s[0] == 3 else f"record {s[0]} {pattern_in(s[8:16])} {pattern_in(s[16:24])}"
+        return refusal, 0, 0, line, 0, 0
+    return 0, s[0], s[1], line, x, y
 
 
-def entry_told(s):
+def numbers_in(s):
+    """The refusal, then readings or a place in centimetres."""
     refusal = kind_refusal(s)
-    if refusal:
-        return f"entry refused {refusal}"
-    if s[0] == 3:
-        return "entry hold"
+    if refusal or s[0] == 3:
+        return refusal, 0, 0
     numbers = centimetres(number_in(s[8:16])), centimetres(number_in(s[16:24]))
     if None in numbers:
-        return "entry refused 3"
-    if s[0] == 2 and not in_range(numbers):
-        return "entry refused 4"
-    return f"entry {'readings' if s[0] == 1 else 'place'} {numbers[0]} {numbers[1]}"
-
-
-def log_told(s):
-    return f"{raw_told(s)} {kind_told(s)} {entry_told(s)}"
+        return 3, 0, 0
+    return (4, 0, 0) if s[0] == 2 and not in_range(numbers) else (0, *numbers)
 
 
 # A chain table and a job
 
 
-def table_told(number, s):
+def count_answer(s):
     count, rest = divmod(len(s), 24)
-    if rest or not 1 <= count <= 16:
-        return "count refused 1 chain refused 1"
-    return f"count {count} {chain_told(number, count, s)}"
+    return (1, 0) if rest or not 1 <= count <= 16 else (0, count)
 
 
-def chain_told(number, count, s):
+def chain_answer(number, s):
+    refusal, count = count_answer(s)
+    if refusal:
+        return refusal, *[0] * 6
     if not 1 <= number <= count:
-        return "chain refused 5"
+        return 5, *[0] * 6
     n = struct.unpack_from("<6I", s, 24 * (number - 1))
     stations = n[0:2], n[2:4], n[4:6]
-    if len(set(stations)) < 3 or not all(map(in_range, stations)):
-        return "chain refused 5"
-    return " ".join(map(str, ("chain", *n)))
+    sound = len(set(stations)) == 3 and all(map(in_range, stations))
+    return (0, *n) if sound else (5, *[0] * 6)
 
 
-def job_told(s):
+def job_answer(s):
+    refusal, *numbers = numbers_of_job(s)
+    return (refusal, *[0] * 5) if refusal else (0, *numbers)
+
+
+def numbers_of_job(s):
     if len(s) != 32:
-        return "job refused 1"
+        return (1,)
     easting, northing, k, *zeros, tolerance, allowance, last = struct.unpack("<IIBBBBIQQ", s)
     if any(zeros) or last:
-        return "job refused 2"
+        return (2,)
     if k > 24 or not in_range((easting + 2**k - 1, northing + 2**k - 1)):
-        return "job refused 6"
-    if tolerance > 100_000:
-        return "job refused 7"
-    return f"job {easting} {northing} {k} {tolerance} {allowance}"
+        return (6,)
+    return (7,) if tolerance > 100_000 else (0, easting, northing, k, tolerance, allowance)
 
 
 # The writer
@@ -170,13 +156,15 @@ def write_refusal(length, kind, chain, x, y):
     return 5 if kind == 1 and not 1 <= chain <= 16 else 0
 
 
-def written_told(length, held, kind, chain, line, x, y):
+def write_answer(length, held, kind, chain, line, x, y):
     refusal = write_refusal(length, kind, chain, x, y)
     if refusal:
-        return f"wrote {refusal} {bytes(length).hex()} rest 1"
+        return refusal, bytes(length)
     numbers = bytes(16) if kind == 3 else metres(x) + metres(y)
-    s = struct.pack("<BBHI", kind, chain if kind == 1 else 0, 0, line) + numbers + bytes(8)
-    return f"wrote 0 {s.hex()} rest 1"
+    return 0, struct.pack("<BBHI", kind, chain if kind == 1 else 0, 0, line) + numbers + bytes(8)
+
+
+ANSWERS = {"record": record_answer, "count": count_answer, "chain": chain_answer, "job": job_answer, "write": write_answer}
 
 
 # Records to ask about. A number is given as a float, or as a whole number where its pattern is meant.
@@ -207,7 +195,7 @@ def chain_of(*stations):
 
 
 def draft(length=32, held=0x5A, kind=1, chain=1, line=1, x=-10000, y=-20000):
-    return "W", length, held, kind, chain, line, x, y
+    return "write", length, held, kind, chain, line, x, y
 
 
 def changed(s, at, value):
@@ -225,9 +213,9 @@ SOUND = log(), grid(), hold()
 def examples():
     """01's log of three records, its chain and its job."""
     for s in SOUND:
-        yield "L", s
-    yield "C", 1, chain_of(*FIRST)
-    yield "J", job()
+        yield "record", s
+    yield "chain", 1, chain_of(*FIRST)
+    yield "job", job()
     yield draft()
     yield draft(kind=2, chain=0, line=2, x=30001, y=40000)
     yield draft(kind=3, chain=0, line=3, x=0, y=0)
@@ -235,30 +223,30 @@ def examples():
 
 def kinds():
     for kind in range(256):
-        yield "L", log(kind, 0, kind, 0, 0)
+        yield "record", log(kind, 0, kind, 0, 0)
     for kind in 0, 1, 2, 3, 4:
-        yield "L", log(kind)
-        yield "L", log(kind, chain=0)
+        yield "record", log(kind)
+        yield "record", log(kind, chain=0)
     for line in 0, 255, 256, 2**31, FAR - 1, FAR:
-        yield "L", log(line=line)
-        yield "L", hold(line=line)
+        yield "record", log(line=line)
+        yield "record", hold(line=line)
 
 
 def lengths():
     for length in range(65):
-        yield "L", (log() + bytes(32))[:length]
-        yield "J", (job() + bytes(32))[:length]
+        yield "record", (log() + bytes(32))[:length]
+        yield "job", (job() + bytes(32))[:length]
         yield draft(length=length)
     for s in grid(), hold():
         for length in 0, 8, 31, 33, 64:
-            yield "L", (s + s)[:length]
-    yield "L", bytes(512)
-    yield "J", bytes(512)
+            yield "record", (s + s)[:length]
+    yield "record", bytes(512)
+    yield "job", bytes(512)
     for length in 0, 1, 23, 24, 25, 47, 48, 383, 384, 385, 407, 408:
         for number in 0, 1, 2, 16, 17, 255, 256, FAR:
-            yield "C", number, LONG[:length]
+            yield "chain", number, LONG[:length]
     for length in 360, 384, 408, 504:
-        yield "C", 16, bytes(length)
+        yield "chain", 16, bytes(length)
     for length in 96, 511, 512:
         yield draft(length=length, held=255)
     yield draft(length=0, held=0)
@@ -272,36 +260,36 @@ ODD = INFINITY, MINUS + INFINITY, MINUS, 1, MINUS + 1, 2**52 - 1, 2**52, MINUS +
 def numbers():
     """NaN, infinities, minus zero and numbers next to nothing: in used fields, and in those that must be zero bytes."""
     for pattern in NANS + ODD:
-        yield "L", log(first=pattern)
-        yield "L", grid(second=pattern)
+        yield "record", log(first=pattern)
+        yield "record", grid(second=pattern)
     for pattern in NAN, INFINITY, MINUS + INFINITY, MINUS, MINUS + 1:
-        yield "L", log(second=pattern)
-        yield "L", grid(first=pattern)
+        yield "record", log(second=pattern)
+        yield "record", grid(first=pattern)
     for pattern in NAN, INFINITY + 1, INFINITY, MINUS, 1:
-        yield "L", log(third=pattern)
-        yield "L", grid(third=pattern)
-        yield "L", hold(first=pattern)
-        yield "L", hold(second=pattern)
-        yield "L", hold(third=pattern)
-    yield "L", log(first=MINUS, second=MINUS)
-    yield "L", grid(first=MINUS, second=MINUS)
+        yield "record", log(third=pattern)
+        yield "record", grid(third=pattern)
+        yield "record", hold(first=pattern)
+        yield "record", hold(second=pattern)
+        yield "record", hold(third=pattern)
+    yield "record", log(first=MINUS, second=MINUS)
+    yield "record", grid(first=MINUS, second=MINUS)
 
 
 def zeros():
     """Bytes that must be zero, also where a number or a place is at fault as well: 2 comes first."""
     for value in 1, 128:
         for s in SOUND:
-            yield "L", changed(s, 2, value)
-            yield "L", changed(s, 3, value)
-            yield "L", changed(s, 24, value)
-            yield "L", changed(s, 31, value)
+            yield "record", changed(s, 2, value)
+            yield "record", changed(s, 3, value)
+            yield "record", changed(s, 24, value)
+            yield "record", changed(s, 31, value)
         for s in grid(), hold():
-            yield "L", changed(s, 1, value)
+            yield "record", changed(s, 1, value)
     for faults in {"two": 1}, {"three": 1}, {"two": 9, "three": 9}, {"third": 0.5}, {"third": NAN}:
-        yield "L", log(first=NAN, second=INFINITY, **faults)
-        yield "L", grid(first=-1.0, second=NAN, **faults)
-    yield "L", grid(first=NAN, chain=7)
-    yield "L", log(kind=4, two=1, first=NAN)
+        yield "record", log(first=NAN, second=INFINITY, **faults)
+        yield "record", grid(first=-1.0, second=NAN, **faults)
+    yield "record", grid(first=NAN, chain=7)
+    yield "record", log(kind=4, two=1, first=NAN)
 
 
 def beside(x):
@@ -312,32 +300,32 @@ def limits():
     """Sizes at their limit, and places at the edges of the chart before and after rounding."""
     for limit in 1e7, -1e7:
         for x in beside(limit):
-            yield "L", log(first=x)
-            yield "L", log(second=x)
-            yield "L", grid(first=x)
-            yield "L", grid(second=x)
+            yield "record", log(first=x)
+            yield "record", log(second=x)
+            yield "record", grid(first=x)
+            yield "record", grid(second=x)
     for x in (-0.001, -0.01, *beside(-0.005), *beside(1_000_000.005), *beside(1_000_000.0), 1_000_000.01, 2e6, -1e6):
-        yield "L", grid(first=x)
-        yield "L", grid(second=x)
+        yield "record", grid(first=x)
+        yield "record", grid(second=x)
     for x in 42949672.96, 429496.7296, 42949672.95:
-        yield "L", grid(first=x)
-        yield "L", log(first=x, second=-x)
-    yield "L", grid(first=1e6, second=1e7)
+        yield "record", grid(first=x)
+        yield "record", log(first=x, second=-x)
+    yield "record", grid(first=1e6, second=1e7)
     # the place is out of range and a number cannot be used: 3 comes first
-    yield "L", grid(first=2e6, second=NAN)
-    yield "L", grid(first=-1.0, second=INFINITY)
-    yield "L", grid(first=NAN, second=-1.0)
+    yield "record", grid(first=2e6, second=NAN)
+    yield "record", grid(first=-1.0, second=INFINITY)
+    yield "record", grid(first=NAN, second=-1.0)
     # whether its chain is in the table is no matter of the record
     for chain in 0, 1, 16, 17, 255:
-        yield "L", log(chain=chain)
-        yield "L", log(chain=chain, first=NAN)
+        yield "record", log(chain=chain)
+        yield "record", log(chain=chain, first=NAN)
 
 
 def roundings():
     """01's four, ties beyond them, and numbers that two roundings in a row would get wrong."""
     for x in 0.125, 0.375, 0.625, 0.875, 1.125, 0.005, 0.015, 0.025, 0.035, 1.005, 300.01, 9_999_999.995, 4_999_999.125:
-        yield "L", log(first=x, second=-x)
-        yield "L", grid(first=min(x, 1e6), second=x)
+        yield "record", log(first=x, second=-x)
+        yield "record", grid(first=min(x, 1e6), second=x)
 
 
 def moved(chain, station, place):
@@ -354,43 +342,43 @@ def chains():
     tables.append(chain_of((5, 5), (5, 5), (5, 5)))
     tables.append(chain_of((5, 6), (6, 5), (5, 5)))
     for table in tables:
-        yield "C", 1, table
-        yield "C", 2, table + chain_of(*OUTER)
-    yield "C", 1, tables[-1] + tables[-2]
-    yield "C", 2, tables[-1] + tables[-2]
+        yield "chain", 1, table
+        yield "chain", 2, table + chain_of(*OUTER)
+    yield "chain", 1, tables[-1] + tables[-2]
+    yield "chain", 2, tables[-1] + tables[-2]
     for number in 0, 1, 2, 3, 257, 258, 2**31:
-        yield "C", number, PAIR
-    yield "C", 17, LONG[:384] + bytes(1)
-    yield "C", 16, LONG[:360] + bytes(24)
-    yield "C", 15, LONG[:360] + bytes(24)
+        yield "chain", number, PAIR
+    yield "chain", 17, LONG[:384] + bytes(1)
+    yield "chain", 16, LONG[:360] + bytes(24)
+    yield "chain", 15, LONG[:360] + bytes(24)
 
 
 def jobs():
     for k in 0, 1, 2, 23, 24, 25, 26, 31, 32, 33, 64, 128, 255:
-        yield "J", job(k=k)
+        yield "job", job(k=k)
     for k in 0, 1, 12, 23, 24:
         # the last window that fits, then a cell farther east and a cell farther north
         corner = EAST + 1 - 2**k, NORTH + 1 - 2**k
         for east, north in (0, 0), (1, 0), (0, 1):
-            yield "J", job(corner[0] + east, corner[1] + north, k)
+            yield "job", job(corner[0] + east, corner[1] + north, k)
         # sums beyond 32 bits
         for far in FAR, FAR + 1 - 2**k, min(FAR, FAR + 2 - 2**k):
-            yield "J", job(easting=far, k=k)
-            yield "J", job(northing=far, k=k)
+            yield "job", job(easting=far, k=k)
+            yield "job", job(northing=far, k=k)
     for k in 0, 1:
-        yield "J", job(easting=EAST, k=k)
-        yield "J", job(northing=NORTH, k=k)
-    yield "J", job(easting=FAR, northing=FAR, k=255)
+        yield "job", job(easting=EAST, k=k)
+        yield "job", job(northing=NORTH, k=k)
+    yield "job", job(easting=FAR, northing=FAR, k=255)
     for tolerance in 99_999, 100_000, 100_001, FAR:
-        yield "J", job(tolerance=tolerance)
+        yield "job", job(tolerance=tolerance)
     for allowance in 0, 1, 2**32, 2**63, 2**64 - 1:
-        yield "J", job(allowance=allowance)
+        yield "job", job(allowance=allowance)
     for zero in (1, 0, 0), (0, 1, 0), (0, 0, 1), (255, 255, 255):
-        yield "J", job(zeros=zero)
-        yield "J", job(zeros=zero, k=25, tolerance=100_001)
+        yield "job", job(zeros=zero)
+        yield "job", job(zeros=zero, k=25, tolerance=100_001)
     for at in range(24, 32):
-        yield "J", changed(job(k=25), at, 128)
-    yield "J", job(k=25, tolerance=100_001)
+        yield "job", changed(job(k=25), at, 128)
+    yield "job", job(k=25, tolerance=100_001)
 
 
 def drafts():
@@ -442,15 +430,15 @@ NAMED = examples, kinds, lengths, numbers, zeros, limits, roundings, chains, job
 
 def sweep():
     """Each byte of a record of each kind and of a job set to each other value; in a table of two chains to a dozen."""
-    for letter, s in *(("L", s) for s in SOUND), ("J", job()):
+    for verb, s in *(("record", s) for s in SOUND), ("job", job()):
         for at in range(32):
             for value in range(256):
                 if value != s[at]:
-                    yield letter, changed(s, at, value)
+                    yield verb, changed(s, at, value)
     for at in range(48):
         for value in 0, 1, 2, 5, 48, 59, 60, 64, 117, 127, 128, 255:
             for number in 1, 2:
-                yield "C", number, changed(PAIR, at, value)
+                yield "chain", number, changed(PAIR, at, value)
 
 
 def drawn_number(draw):
@@ -512,7 +500,7 @@ def damaged(draw, s):
 
 def drawn_draft(draw):
     most = draw.choice((EAST, NORTH, NORTH + 2, 300))
-    x, y = (draw.choice((draw.randint(0, most), draw.randint(-most, most), signed(draw.getrandbits(64)))) for _ in "xy")
+    x, y = (draw.choice((draw.randint(0, most), draw.randint(-most, most), draw.getrandbits(64) - MINUS)) for _ in "xy")
     if draw.random() < 0.6:
         x, y = draw.randint(0, EAST), draw.randint(0, NORTH)
     return draft(
@@ -529,7 +517,7 @@ def drawn_draft(draw):
 def drawn_table(draw):
     count = draw.choice((1, 2, 3, draw.randint(0, 17)))
     number = draw.choice((draw.randint(1, max(count, 1)), draw.randint(0, count + 2), draw.getrandbits(32)))
-    return "C", number, damaged(draw, b"".join(drawn_chain(draw) for _ in range(count)))
+    return "chain", number, damaged(draw, b"".join(drawn_chain(draw) for _ in range(count)))
 
 
 def at_random(seed):
@@ -537,9 +525,9 @@ def at_random(seed):
     for _ in range(1500):
         yield draw.choice(
             (
-                lambda: ("L", damaged(draw, drawn_log(draw))),
-                lambda: ("L", drawn_log(draw)),
-                lambda: ("J", damaged(draw, drawn_job(draw))),
+                lambda: ("record", damaged(draw, drawn_log(draw))),
+                lambda: ("record", drawn_log(draw)),
+                lambda: ("job", damaged(draw, drawn_job(draw))),
                 lambda: drawn_table(draw),
                 lambda: drawn_draft(draw),
             )
@@ -547,13 +535,13 @@ def at_random(seed):
 
 
 def main(words):
-    if words == ["stdin"]:
-        print("\n".join(dict.fromkeys(line_of(r) for part in NAMED for r in part())))
+    if words == ["named"]:
+        print("\n".join(dict.fromkeys(lines_of(r for part in NAMED for r in part()))))
     elif words == ["sweep"]:
-        print("\n".join(map(line_of, sweep())))
+        print("\n".join(lines_of(sweep())))
     elif words[:1] == ["random"] and len(words) == 2:
-        print("\n".join(map(line_of, at_random(int(words[1])))))
-    elif words == ["stdout"]:
+        print("\n".join(lines_of(at_random(int(words[1])))))
+    elif words == ["answers"]:
         print("\n".join(told(request_of(line)) for line in sys.stdin.read().splitlines()))
     else:
         sys.exit(__doc__)

@@ -1,9 +1,9 @@
 #!/usr/bin/env python3
-"""Requests for crates/run_search, and what it must print of them, worked out from document 01 in whole numbers.
+"""Requests for searches in the words of desk.c, and their answers, worked out from document 01 in whole numbers.
 
-    search.py stdin        the requests that have a reason, one to a line
+    search.py named        the requests that have a reason, one to a line
     search.py random SEED  1,500 others at random
-    search.py stdout       what the program must print, of the requests on standard input
+    search.py answers      the answers to the requests on standard input
 
 The visits are counted along the walk by quarters. The places are found apart from it: cell by cell in a small window, else
 by the least and the greatest distance of the cells of a box; their order is that of the interleaved numbers.
@@ -32,14 +32,13 @@ class Request(NamedTuple):
 
 
 def line_of(r):
-    readings = (reading % 2**64 for reading in r.wanted)
-    return " ".join(f"{n:x}" for n in (*r.master, *r.a, *r.b, *readings, *r.corner, *r[5:]))
+    numbers = r.entries, r.held, *r.master, *r.a, *r.b, *r.wanted, *r.corner, r.k, r.tolerance, r.allowance
+    return " ".join(map(str, ("search", *numbers)))
 
 
 def request_of(line):
-    n = [int(word, 16) for word in line.split()]
-    wanted = tuple(x - 2**64 if x >= 2**63 else x for x in n[6:8])
-    return Request((n[0], n[1]), (n[2], n[3]), (n[4], n[5]), wanted, (n[8], n[9]), *n[10:])
+    entries, held, *n, k, tolerance, allowance = map(int, line.split()[1:])
+    return Request(*zip(n[0::2], n[1::2]), k, tolerance, allowance, entries, held)
 
 
 def distance(p, q):
@@ -157,7 +156,7 @@ def told(r):
     refusal, visits, places = answer(r)
     entries = [number for p in places for number in p]
     entries += [0] * (r.entries - len(entries))
-    return " ".join(str(word) for word in (refusal, len(places), visits, *entries, "rest", 1))
+    return " ".join(map(str, (refusal, len(places), visits, *entries)))
 
 
 # 01's chain 1 and its P4.
@@ -449,11 +448,11 @@ def at_random(seed):
 
 
 def main(words):
-    if words == ["stdin"]:
+    if words == ["named"]:
         print("\n".join(dict.fromkeys(line_of(r) for part in NAMED for r in part())))
     elif words[:1] == ["random"] and len(words) == 2:
         print("\n".join(line_of(r) for r in at_random(int(words[1]))))
-    elif words == ["stdout"]:
+    elif words == ["answers"]:
         print("\n".join(told(request_of(line)) for line in sys.stdin.read().splitlines()))
     else:
         sys.exit(__doc__)
