@@ -8,6 +8,8 @@
     listing.py long FOLDER             writes folders of long logs, and of long lines
     listing.py random SEED FOLDER      writes 200 folders at random
     listing.py memory FOLDER PROGRAM   the most memory, in kilobytes, that a program held when it had listed most of a folder
+    listing.py requests                the folders that have a reason as requests in the words of desk.c, one to a line
+    listing.py answers                 the answers to the requests on standard input
 
 A folder that is written has the three files, or those that its case has, and in `listing` what must be printed of them.
 Records, tables and jobs are read as records.py reads them, and searches answered as search.py answers them.
@@ -18,7 +20,7 @@ import random
 import subprocess
 import sys
 from functools import lru_cache
-from itertools import chain, islice
+from itertools import chain, cycle, islice
 from typing import NamedTuple
 
 # The two beside this would else leave compiled files in the tree.
@@ -87,28 +89,32 @@ def records_of(log):
     return (log[at : at + 32] for at in range(0, len(log), 32))
 
 
-def lines(question, table, log):
-    held = []
+def lines(question, table, log, held):
+    """A line for each record, with the place that a hold behind it repeats, or nothing."""
     for record in records_of(log):
         a = answer(question, table, held, record)
         held = a.places if len(a.places) == 1 else []
         line = int.from_bytes(record[4:8], "little") if len(record) == 32 else "-"
-        yield " ".join(map(str, (line, a.word, a.figure, a.visits, *flat(a.places))))
+        yield " ".join(map(str, (line, a.word, a.figure, a.visits, *flat(a.places)))), held
+
+
+def listed(folder, held):
+    job, table, log = (content or b"" for content in folder)
+    refusal, easting, northing, k, tolerance, allowance = records.job_answer(job)
+    if refusal:
+        return [(f"JOB REFUSED {refusal}", [])]
+    refusal, _ = records.count_answer(table)
+    if refusal:
+        return [(f"CHAIN REFUSED {refusal}", [])]
+    question = search.P4._replace(
+        corner=(easting, northing), k=k, tolerance=tolerance, allowance=allowance, entries=2 * ROOM
+    )
+    return list(lines(question, table, log, held))
 
 
 def listing(folder):
     """The lines of a folder's listing."""
-    job, table, log = (content or b"" for content in folder)
-    refusal, easting, northing, k, tolerance, allowance = records.job_answer(job)
-    if refusal:
-        return [f"JOB REFUSED {refusal}"]
-    refusal, _ = records.count_answer(table)
-    if refusal:
-        return [f"CHAIN REFUSED {refusal}"]
-    question = search.P4._replace(
-        corner=(easting, northing), k=k, tolerance=tolerance, allowance=allowance, entries=2 * ROOM
-    )
-    return list(lines(question, table, log))
+    return [line for line, _ in listed(folder, [])]
 
 
 # Folders to list. A record that gives readings or a place is made from centimetres.
@@ -449,6 +455,58 @@ def at_random(seed):
         yield f"{i:03}", drawn_folder(draw)
 
 
+# Requests to the library, which lists a log at once or in parts and leaves its text in a buffer
+
+
+def needed(log):
+    """As many bytes as a buffer must have."""
+    return 5760 * (len(log) // 32 + 1)
+
+
+def in_words(*values):
+    return " ".join((v.hex() or "-") if isinstance(v, bytes) else str(v) for v in values)
+
+
+def request(folder, held=(0, 0, 0), length=None, dirt=165):
+    job, table, log = (content or b"" for content in folder)
+    return in_words("list", needed(log) if length is None else length, dirt, *held, job, table, log)
+
+
+def in_parts(folder):
+    """The records one by one, each with the place before it; a number of places other than 0 is taken as 1."""
+    held, numbers = (0, 0, 0), cycle((1, 7, 2**32 - 1))
+    for record in records_of(folder.log):
+        part = folder._replace(log=record)
+        yield request(part, held)
+        ((_, place),) = listed(part, [held[1:]] if held[0] else [])
+        held = (next(numbers), *place[0]) if place else (0, 7, 7)
+
+
+def requests():
+    for _, folder in cases():
+        if len(folder.log or b"") <= 32 * 600:
+            yield request(folder)
+    yield from in_parts(THREE)
+    for _, folder in holds():
+        yield from in_parts(folder)
+    for folder in THREE, three(log=b""), three(log=THREE.log[:95]), by_job(k=25), three(table=b""):
+        for off in -5760, -1, 0, 1, 5760:
+            for dirt in 0, 10, 255:
+                yield request(folder, length=max(0, needed(folder.log) + off), dirt=dirt)
+    yield request(THREE, length=0)
+
+
+def answer_to(line):
+    _, length, _, held, easting, northing, *files = line.split()
+    folder = Folder(*(bytes.fromhex(digits.strip("-")) for digits in files))
+    if int(length) < needed(folder.log):
+        return in_words(9, 0, 0, 0, 0, b"", "kept")
+    told = listed(folder, [(int(easting), int(northing))] if int(held) else [])
+    text = "".join(line + "\n" for line, _ in told).encode()
+    place = told[-1][1] if told else []
+    return in_words(0, len(text), *((1, *place[0]) if place else (0, 0, 0)), text, "kept")
+
+
 # Files
 
 
@@ -502,6 +560,10 @@ def main(words):
         sys.stdout.writelines(line + "\n" for line in listing(folder))
     elif words[:1] == ["random"] and len(words) == 3:
         write(words[2], at_random(int(words[1])))
+    elif words == ["requests"]:
+        print("\n".join(requests()))
+    elif words == ["answers"]:
+        print("\n".join(answer_to(line) for line in sys.stdin.read().splitlines()))
     elif words[:1] == ["memory"] and len(words) >= 3:
         print(memory(words[1], words[2:]))
     elif len(words) == 2 and words[0] in writers:

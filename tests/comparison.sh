@@ -1,0 +1,97 @@
+#!/usr/bin/env bash
+# The listing program and the library against the second program, second/, which shares nothing with them but document 01:
+# folders listed by both, byte for byte, and requests answered by both.
+#
+#   bash tests/comparison.sh [SEED [FOLDERS [REQUESTS]]]
+cd "$(dirname "$0")/.." && . tests/common.bash && . tests/library.bash
+seed=${1:-20261115} folders=${2:-2100} count=${3:-105000}
+
+quietly cargo build --release --offline --manifest-path second/Cargo.toml --target-dir target/second
+second=$repository/target/second/release/second
+logs=$asked/logs listed=$asked/listed said=$asked/said
+mkdir "$logs"
+
+# In each folder the second program leaves its listing in `expected`, and here laylist leaves its own in `printed`. Nothing
+# else is started for a folder: there are many.
+list_all() {
+    local folder
+    for folder in "$logs"/*; do
+        cd "$folder"
+        program laylist >printed 2>>"$said"
+    done
+    cd "$repository"
+}
+
+# joined NAME: the bytes of the files with a name in all folders, and the length of each, so that no two folders can make up
+# for each other
+joined() { (cd "$logs" && printf '%s\0' */"$1" | xargs -0 cat && printf '%s\0' */"$1" | xargs -0 stat -c %s); }
+
+# the first folder whose listings differ, and where they do
+first_folder() {
+    local folder
+    for folder in "$logs"/*; do
+        cmp -s "$folder/expected" "$folder/printed" && continue
+        echo "folder $(basename "$folder") of seed $seed and $folders folders"
+        diff "$folder/expected" "$folder/printed" | head -n 4 | cut -c 1-300
+        return
+    done
+}
+
+"$second" logs "$seed" "$folders" "$logs"
+pass_if "there are $folders folders" [ "$(ls "$logs" | wc -l)" -eq "$folders" ]
+list_all
+pass_if "laylist has nothing to tell: $(head -n 1 "$said")" [ ! -s "$said" ]
+joined expected >"$listed"
+joined printed | cmp -s - "$listed" || pass_if "$(first_folder)" false
+passed=$((passed + folders))
+
+"$second" requests "$seed" "$count" >"$requests"
+pass_if "there are $count requests" [ "$(wc -l <"$requests")" -eq "$count" ]
+ask "$second" answers
+
+# Fewer than the gate's need not meet everything.
+((folders >= 2100 && count >= 105000)) || {
+    done_testing
+    exit
+}
+
+# Every line that a listing may have, each refusal of a job, a table and a record among them, and a long log.
+while read -r line; do
+    pass_if "a line $line is among the listings" grep -qE "^$line" "$listed"
+done <<'END'
+[0-9]+ FIX 1 [0-9]+ [0-9]+ [0-9]+$
+[0-9]+ FIX 2 [0-9]+ [0-9]+ [0-9]+ [0-9]+ [0-9]+$
+[0-9]+ GRID 1 0 [0-9]+ [0-9]+$
+[0-9]+ HOLD 1 0 [0-9]+ [0-9]+$
+[0-9]+ REFUSED 2 0$
+[0-9]+ REFUSED 3 0$
+[0-9]+ REFUSED 4 0$
+[0-9]+ REFUSED 5 0$
+[0-9]+ REFUSED 8 [0-9]+$
+[0-9]+ REFUSED 9 [0-9]+$
+[0-9]+ REFUSED 10 [0-9]+$
+[0-9]+ REFUSED 11 0$
+- REFUSED 1 0$
+JOB REFUSED 1$
+JOB REFUSED 2$
+JOB REFUSED 6$
+JOB REFUSED 7$
+CHAIN REFUSED 1$
+END
+pass_if 'a log of 20,000 records is among them' [ -n "$(find "$logs" -name lay.dat -size +639999c -print -quit)" ]
+for file in job.dat chain.dat lay.dat; do
+    pass_if "$file is missing somewhere" [ "$(find "$logs" -name "$file" | wc -l)" -lt "$folders" ]
+done
+
+# Every verb, with each refusal that it knows.
+refuses centimetres 0 3
+refuses metres 0 3
+refuses expected 0 4 5
+refuses search 0 3 5 6 7 8 9 10
+refuses record 0 1 2 3 4
+refuses write 0 1 2 3 4 5
+refuses job 0 1 2 6 7
+refuses count 0 1
+refuses chain 0 1 5
+refuses list 0 9
+done_testing
