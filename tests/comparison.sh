@@ -8,7 +8,7 @@ seed=${1:-20261115} folders=${2:-2100} count=${3:-105000}
 
 quietly cargo build --release --offline --manifest-path second/Cargo.toml --target-dir target/second
 second=$repository/target/second/release/second
-logs=$asked/logs listed=$asked/listed said=$asked/said
+logs=$asked/logs listed=$asked/listed printed=$asked/printed said=$asked/said
 mkdir "$logs"
 
 # In each folder the second program leaves its listing in `expected`, and here laylist leaves its own in `printed`. Nothing
@@ -42,7 +42,8 @@ pass_if "there are $folders folders" [ "$(ls "$logs" | wc -l)" -eq "$folders" ]
 list_all
 pass_if "laylist has nothing to tell: $(head -n 1 "$said")" [ ! -s "$said" ]
 joined expected >"$listed"
-joined printed | cmp -s - "$listed" || pass_if "$(first_folder)" false
+joined printed >"$printed"
+cmp -s "$printed" "$listed" || pass_if "$(first_folder)" false
 passed=$((passed + folders))
 
 "$second" requests "$seed" "$count" >"$requests"

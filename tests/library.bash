@@ -45,10 +45,10 @@ trap 'rm -rf "$asked"' EXIT
 requests=$asked/requests answers=$asked/answers wanted=$asked/wanted both=$asked/both met=$asked/met
 
 first_difference() {
-    paste -d '\n' "$requests" "$answers" "$wanted" | cut -c 1-400 | awk '
+    paste -d '\n' "$requests" "$answers" "$wanted" | awk '
         NR % 3 == 1 { request = $0 }
         NR % 3 == 2 { got = $0 }
-        NR % 3 == 0 && got != $0 { print request; print "  gives " got; print "  not   " $0; exit }'
+        NR % 3 == 0 && got != $0 { print request; print "  gives " got; print "  not   " $0; exit }' | cut -c 1-2000
 }
 
 # ask COMMAND...: puts the requests to the harness and to the command, and counts each answer in which both agree. There are
