@@ -1,5 +1,5 @@
 # How the tests ask the library for C: the harness desk.c over target/staticlib/libdesk.a, built here where it is missing or
-# older than what it is made of. To be read behind common.bash or program.bash.
+# older than what it is made of. To be read behind common.bash.
 library=$repository/target/staticlib/libdesk.a
 asking=$repository/target/desk/desk
 

@@ -463,13 +463,9 @@ def needed(log):
     return 5760 * (len(log) // 32 + 1)
 
 
-def in_words(*values):
-    return " ".join((v.hex() or "-") if isinstance(v, bytes) else str(v) for v in values)
-
-
 def request(folder, held=(0, 0, 0), length=None, dirt=165):
     job, table, log = (content or b"" for content in folder)
-    return in_words("list", needed(log) if length is None else length, dirt, *held, job, table, log)
+    return records.in_words(("list", needed(log) if length is None else length, dirt, *held, job, table, log))
 
 
 def in_parts(folder):
@@ -500,11 +496,11 @@ def answer_to(line):
     _, length, _, held, easting, northing, *files = line.split()
     folder = Folder(*(bytes.fromhex(digits.strip("-")) for digits in files))
     if int(length) < needed(folder.log):
-        return in_words(9, 0, 0, 0, 0, b"", "kept")
+        return records.in_words((9, 0, 0, 0, 0, b"", "kept"))
     told = listed(folder, [(int(easting), int(northing))] if int(held) else [])
     text = "".join(line + "\n" for line, _ in told).encode()
     place = told[-1][1] if told else []
-    return in_words(0, len(text), *((1, *place[0]) if place else (0, 0, 0)), text, "kept")
+    return records.in_words((0, len(text), *((1, *place[0]) if place else (0, 0, 0)), text, "kept"))
 
 
 # Files
