@@ -1,0 +1,2 @@
+-- The three demands of the request, and the ten cases of 01, as theorems.
+pub mod Cases

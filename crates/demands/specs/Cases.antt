@@ -1,0 +1,125 @@
+-- The ten cases that 01 marks P as one table: what is asked, and what 01 says is answered (01, Examples to hold on to).
+use Prim.Native.Nat.{ℕ, _*_}
+use Prim.Native.String.{String}
+use mathlib.Core.List.{List, [], _∷_}
+use lib.IntN.{ℤ, pos, negℤ}
+use lib.Ieee.{Float, binary64, ofInt, div}
+use lib.ListN.{length}
+use Rattle.metres.specs.declared.WholeFigures.{WholeFigures}
+use Rattle.metres.specs.Metres.{centimetresOf, wholeFigures}
+use Rattle.chart.specs.declared.Place.{Place}
+use Rattle.chart.specs.declared.Chain.{Chain}
+use Rattle.chart.specs.declared.Figures.{Figures}
+use Rattle.chart.specs.Readings.{expectedAt, figuresOf}
+use Rattle.search.specs.declared.Window.{Window}
+use Rattle.search.specs.declared.SearchFigures.{SearchFigures}
+use Rattle.search.specs.Questions.{Question, questionOf}
+use Rattle.search.specs.Answers.{searchOf, figuresIn}
+
+-- What may be asked of the definitions.
+pub data Asked : Type 0 where
+  -- The readings expected at a place.
+  readingsAt : Place → Asked
+  -- A search: the window's corner and exponent, the tolerance, readings A and B, the room in places, the allowance.
+  search : Place → ℕ → ℕ → ℤ → ℤ → ℕ → ℕ → Asked
+  -- A number of metres in whole centimetres.
+  centimetresIn : Float → Asked
+
+-- What they answer: figures, with the places of a search.
+pub data Answered : Type 0 where
+  readings : Figures → Answered
+  searched : SearchFigures → List Place → Answered
+  centimetres : WholeFigures → Answered
+
+-- A case by its name in 01.
+pub record Case : Type 0 where
+  pub name : String
+  pub asked : Asked
+  pub answered : Answered
+
+-- A place, and a number below zero.
+abbrev pub at : ℕ → ℕ → Place
+at e n = record { easting = e; northing = n }
+
+abbrev pub minus : ℕ → ℤ
+minus n = negℤ (pos n)
+
+-- What holds of all cases unless said otherwise: chain 1, readings of -100.0 m and -200.0 m, the window's corner, and room
+-- and allowance ample.
+abbrev pub chain1 : Chain
+chain1 = record { master = at 0 0; a = at 30_000 0; b = at 0 40_000 }
+
+abbrev pub rA : ℤ
+rA = minus 10_000
+
+abbrev pub rB : ℤ
+rB = minus 20_000
+
+abbrev pub corner : Place
+corner = at 30_000 40_000
+
+abbrev pub ample : ℕ
+ample = 100
+
+-- A number of metres by its thousandths: one rounded division, which is exact for the four of P10.
+abbrev pub thousandths : ℤ → Float
+unfolding div ofInt
+thousandths n = div binary64 (ofInt binary64 n) (ofInt binary64 (pos 1000))
+
+-- The question of a search by chain 1. Room for a place is two entries of a list.
+abbrev pub questionBy : ℕ → ℤ → ℤ → ℕ → ℕ → Question
+questionBy t a b room allowance = questionOf chain1 a b t allowance (2 * room)
+
+abbrev pub windowAt : Place → ℕ → Window
+windowAt o k = record { corner = o; k = k }
+
+-- What the definitions answer.
+unfoldable pub answerTo : Asked → Answered
+answerTo (readingsAt p) = readings (figuresOf (expectedAt chain1 p))
+answerTo (search o k t a b room allowance) =
+    searched (figuresIn (questionBy t a b room allowance) (windowAt o k)) (searchOf (questionBy t a b room allowance) (windowAt o k) .places)
+answerTo (centimetresIn x) = centimetres (wholeFigures (centimetresOf x))
+
+-- Answers as 01 says them: two readings; places and visits; a refusal and visits; centimetres.
+abbrev pub theReadings : ℤ → ℤ → Answered
+theReadings a b = readings (record { refusal = 0; a = a; b = b })
+
+abbrev pub thePlaces : List Place → ℕ → Answered
+thePlaces ps visits = searched (record { refusal = 0; count = length ps; visits = visits }) ps
+
+abbrev pub refusal : ℕ → ℕ → Answered
+refusal number visits = searched (record { refusal = number; count = 0; visits = visits }) []
+
+abbrev pub theCentimetres : ℤ → Answered
+theCentimetres z = centimetres (record { refusal = 0; centimetres = z })
+
+abbrev pub case : String → Asked → Answered → Case
+case name asked answered = record { name = name; asked = asked; answered = answered }
+
+-- The table.
+abbrev pub table : List Case
+table =
+    case "P1" (readingsAt (at 30_000 40_000)) (theReadings (minus 10_000) (minus 20_000))
+    ∷ case "P2" (readingsAt (at 30_001 40_000)) (theReadings (minus 10_000) (minus 19_999))
+    ∷ case "P3" (readingsAt (at 30_000 40_001)) (theReadings (minus 9_999) (minus 20_000))
+    ∷ case "P4" (search corner 1 0 rA rB ample ample) (thePlaces (at 30_000 40_000 ∷ at 30_001 40_001 ∷ []) 5)
+    ∷ case "P5" (search corner 1 1 rA rB ample ample) (thePlaces (at 30_000 40_000 ∷ at 30_001 40_000 ∷ at 30_000 40_001 ∷ at 30_001 40_001 ∷ []) 5)
+    ∷ case "P6" (search corner 1 0 rA rB 1 ample) (refusal 9 5)
+    ∷ case "P7" (search corner 1 0 rA rB ample 4) (refusal 10 4)
+    ∷ case "P7, with room 1 as well" (search corner 1 0 rA rB 1 4) (refusal 10 4)
+    ∷ case "P8" (search (at 30_001 40_000) 0 0 rA rB ample ample) (refusal 8 1)
+    ∷ case "P9" (search corner 1 0 (pos 0) (pos 0) ample ample) (refusal 8 1)
+    ∷ case "P10, 0.125" (centimetresIn (thousandths (pos 125))) (theCentimetres (pos 12))
+    ∷ case "P10, 0.375" (centimetresIn (thousandths (pos 375))) (theCentimetres (pos 38))
+    ∷ case "P10, -0.125" (centimetresIn (thousandths (minus 125))) (theCentimetres (minus 12))
+    ∷ case "P10, 0.625" (centimetresIn (thousandths (pos 625))) (theCentimetres (pos 62))
+    ∷ []
+
+-- What is answered to every case of a table, and what the table says.
+unfoldable pub answersTo : List Case → List Answered
+answersTo [] = []
+answersTo (c ∷ cs) = answerTo (c .asked) ∷ answersTo cs
+
+unfoldable pub answersIn : List Case → List Answered
+answersIn [] = []
+answersIn (c ∷ cs) = c .answered ∷ answersIn cs

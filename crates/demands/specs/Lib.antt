@@ -1,0 +1,2 @@
+-- What the theorems of this crate are stated with.
+pub mod Cases
