@@ -1,2 +1,3 @@
 -- What the theorems of this crate are stated with.
 pub mod Cases
+pub mod Numbers

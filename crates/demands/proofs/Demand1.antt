@@ -1,0 +1,126 @@
+-- Demand 1. A log, a station table or a job of any content gets an answer or a numbered refusal, and the work ends. After a
+-- refusal the list of places holds zeros and the count of places is nought.
+-- Every public function takes any content, is proved to return, and answers by one definition: so the work ends. Here stands
+-- what the definitions answer: `NoneOr numbers` says no refusal, which is 0, or one of these numbers, and no other.
+use Prim.Native.Nat.{ℕ, _-_, _*_, _≤_}
+use mathlib.Core.Path.{_≡_, refl, ap, _∙_}
+use mathlib.Core.List.{List, [], _∷_, _++_}
+use native.Mathlib.Omega.{arith}
+use lib.IntN.{ℤ, pos}
+use lib.Ieee.{Float}
+use lib.ListN.{length, drop, replicate}
+use Rattle.metres.specs.Metres.{centimetresOf, metresOf, wholeFigures, lengthFigures, plusZero}
+use Rattle.chart.specs.declared.Place.{Place}
+use Rattle.chart.specs.declared.Chain.{Chain}
+use Rattle.chart.specs.Readings.{expectedAt, figuresOf}
+use Rattle.search.specs.declared.Window.{Window}
+use Rattle.search.specs.Questions.{Question, questionOf}
+use Rattle.search.specs.Answers.{searchOf, entriesOf, listOf, figuresIn}
+use Rattle.search.proofs.Outcomes.{ending}
+use Rattle.search.proofs.Theorems.{listed-are-counted, visits-in-allowance}
+use Rattle.records.specs.declared.Job.{Job}
+use Rattle.records.specs.declared.JobAnswer.the-variants as answer
+use Rattle.records.specs.declared.Draft.{Draft}
+use Rattle.records.specs.Bytes.{byteAt}
+use Rattle.records.specs.LogRecords.{rawRecordOf, logRecordOf, logEntryOf}
+use Rattle.records.specs.ChainTables.{chainCountOf, chainOf}
+use Rattle.records.specs.Jobs.{jobOf}
+use Rattle.records.specs.Writing.{refusalOf, bufferOf}
+use Rattle.records.specs.Refusals.{rawRefusal, logRefusal, entryRefusal, countRefusal, chainRefusal, jobRefusal}
+use Rattle.records.proofs.Theorems.{raw-refusals, log-refusals, entry-refusals, count-refusals, chain-refusals, job-refusals, write-refusals, refused-write-zeros}
+use Rattle.listing.specs.declared.Carried.{Carried}
+use Rattle.listing.specs.Answers.{answerOf}
+use Rattle.listing.specs.Listings.{Part, hasRoom, listedIn, bufferWith}
+use Rattle.demands.specs.Numbers.{recordRefusal, listedRefusal, NoneOr, Refuses, Leaves}
+use Rattle.demands.proofs.NumberLaws.{whole-number, length-number, readings-number, listed-number, search-number, refused-lists, refused-early, answered-lists, room-kept, list-length, job-good, answer-number}
+
+-- A number of metres gets its centimetres, or 3 and then 0 centimetres.
+pub metres-read : (x : Float) →
+    let f = wholeFigures (centimetresOf x) in
+    NoneOr (3 ∷ []) (f .refusal) × (Refuses (f .refusal) → f .centimetres ≡ pos 0)
+metres-read x = whole-number (centimetresOf x)
+
+-- A number of centimetres gets its metres, or 3 and then plus zero.
+pub metres-written : (z : ℤ) →
+    let f = lengthFigures (metresOf z) in
+    NoneOr (3 ∷ []) (f .refusal) × (Refuses (f .refusal) → f .metres ≡ plusZero)
+metres-written z = length-number (metresOf z)
+
+-- A place gets the readings expected there, or 4 or 5 and then 0 for both.
+pub readings-told : (c : Chain) (p : Place) →
+    let f = figuresOf (expectedAt c p) in
+    NoneOr (4 ∷ 5 ∷ []) (f .refusal) × (Refuses (f .refusal) → (f .a ≡ pos 0) × (f .b ≡ pos 0))
+readings-told c p = readings-number (expectedAt c p)
+
+-- A log record of any bytes gets its fields, or 1; its kind and metres, or 1 or 2; its centimetres, or 1 to 4.
+pub log-record-read : (s : List ℕ) →
+    NoneOr (1 ∷ []) (rawRefusal (rawRecordOf s))
+    × NoneOr (1 ∷ 2 ∷ []) (logRefusal (logRecordOf s))
+    × NoneOr (1 ∷ 2 ∷ 3 ∷ 4 ∷ []) (entryRefusal (logEntryOf s))
+log-record-read s = (raw-refusals s, log-refusals s, entry-refusals s)
+
+-- A station table of any bytes gets the count of its chains, or 1; and any number a sound chain of it, or 1 or 5.
+pub table-read : (s : List ℕ) (number : ℕ) →
+    NoneOr (1 ∷ []) (countRefusal (chainCountOf s)) × NoneOr (1 ∷ 5 ∷ []) (chainRefusal (chainOf s number))
+table-read s number = (count-refusals s, chain-refusals s number)
+
+-- A job of any bytes is accepted, or gets 1, 2, 6 or 7.
+pub job-read : (s : List ℕ) → NoneOr (1 ∷ 2 ∷ 6 ∷ 7 ∷ []) (jobRefusal (jobOf s))
+job-read s = job-refusals s
+
+-- A draft of a record is written, or gets 1 to 5 and leaves the whole buffer zero, whatever its length.
+pub record-written : (bytes : ℕ) (d : Draft) →
+    NoneOr (1 ∷ 2 ∷ 3 ∷ 4 ∷ 5 ∷ []) (refusalOf bytes d)
+    × (Refuses (refusalOf bytes d) → bufferOf bytes d ≡ replicate bytes 0)
+record-written bytes d = (write-refusals bytes d, refused-write-zeros bytes d)
+
+-- Any search, whatever it is asked, gets places, or 3, 5, 6, 7, 8, 9 or 10. After a refusal its list of any length, an odd
+-- one too, is all zeros and its count nought; 3, 5, 6 and 7 tell of no visit, 10 of exactly the allowance, and no answer of
+-- more.
+pub search-answered : (q : Question) (w : Window) (entries : ℕ) → Leaves q w entries
+unfolding listOf entriesOf
+search-answered q w entries =
+    let empty : Refuses (figuresIn q w .refusal) → searchOf q w .places ≡ [] = refused-lists q w (searchOf q w) (ending q w) in
+    record {
+      number = search-number (searchOf q w .answer);
+      zeros = λ r. ap (listOf entries) (empty r) ∙ ap (λ (n : ℕ). replicate n 0) (let e : entries - 0 ≡ entries = omega arith in e);
+      nought = λ r. listed-are-counted q w ∙ ap length (empty r);
+      unvisited = refused-early q w (searchOf q w) (ending q w);
+      allowed = visits-in-allowance q w .0;
+      used-up = visits-in-allowance q w .1;
+    }
+
+-- A search that is not refused has a place or more. They are the first entries of the list, easting and northing in turn;
+-- all others, a left-over half place too, are zero; and the list is as long as it was.
+pub places-listed : (c : Chain) (a b : ℤ) (w : Window) (tolerance allowance entries : ℕ) →
+    let q = questionOf c a b tolerance allowance entries in
+    let places = searchOf q w .places in
+    figuresIn q w .refusal ≡ 0 →
+    (1 ≤ figuresIn q w .count)
+    × (figuresIn q w .count ≡ length places)
+    × (listOf entries places ≡ entriesOf places ++ replicate (entries - 2 * length places) 0)
+    × (length (listOf entries places) ≡ entries)
+unfolding listOf
+places-listed c a b w tolerance allowance entries e =
+    let q = questionOf c a b tolerance allowance entries in (
+      answered-lists q w e,
+      listed-are-counted q w,
+      refl,
+      list-length entries (searchOf q w .places) (omega (arith, room-kept q w)),
+    )
+
+-- A record of a log, of any bytes, by an accepted job, any table and whatever is carried to it, gets its places, or 1, 2, 3,
+-- 4, 5, 8, 9, 10 or 11. It never gets 6 or 7, since the job was accepted.
+pub record-answered : (job table s : List ℕ) (j : Job) (before : Carried) → jobOf job ≡ answer.Job j →
+    NoneOr (1 ∷ 2 ∷ 3 ∷ 4 ∷ 5 ∷ 8 ∷ 9 ∷ 10 ∷ 11 ∷ []) (recordRefusal (answerOf j table before s))
+unfolding answerOf
+record-answered job table s j before accepted =
+    let good = job-good job j accepted in
+    answer-number j (good .0) (good .1) (chainOf table (byteAt s 1)) before (logEntryOf s) (chain-refusals table (byteAt s 1)) (entry-refusals s)
+
+-- A listing is put into a buffer, or gets 9 where the buffer has too little room and then stays as it was.
+pub listing-answered : (out log : List ℕ) (p : Part) →
+    let answer = listedIn (length out) log p in
+    NoneOr (9 ∷ []) (listedRefusal answer) × (Refuses (listedRefusal answer) → bufferWith out log p ≡ out)
+unfolding listedIn bufferWith
+listing-answered out log p = listed-number (hasRoom (length out) log) p out (p .text ++ drop (length (p .text)) out)

@@ -1,0 +1,146 @@
+-- Demand 2. A place gives the readings that the rule for range differences gives, in whole centimetres, and readings give back
+-- the places that the rule allows. Metres in the log are read by IEEE 754 and rounded as 01 says; centimetres written out read
+-- back the same.
+use Prim.Native.Nat.{ℕ, _+_, _*_, _^_, _≤_, _<_}
+use mathlib.Core.Path.{_≡_, refl, ap, _∙_, subst, subst⁻¹}
+use mathlib.Core.Logic.{_↔_}
+use mathlib.Core.Bool.{true, false}
+use mathlib.Core.List.{List}
+use native.Mathlib.Omega.{arith}
+use borrow.Author.Tests.{le-leb}
+use lib.Dec.{T}
+use lib.IntN.{ℤ, pos, natAbs, subℕ}
+use lib.Ieee.{Float, binary64, fits, ofInt, div}
+use Rattle.squares.proofs.RootLaws.{root-law, root-unique}
+use Rattle.fields.specs.Fields.{fieldAt}
+use Rattle.metres.specs.declared.Whole.{Whole}
+use Rattle.metres.specs.declared.Whole.the-variants as whole
+use Rattle.metres.specs.declared.Length.the-variants as metres
+use Rattle.metres.specs.Metres.{centimetresOf, hundredthOf, metresOf}
+use Rattle.metres.specs.Nearest.{MayAnswer}
+use Rattle.metres.specs.Patterns.{numberOf, patternOf}
+use Rattle.metres.proofs.Answers.{answers, answers-only}
+use Rattle.metres.proofs.Back.{written, hundredth-back}
+use Rattle.metres.proofs.PatternLaws.{number-back}
+use Rattle.chart.specs.declared.Place.{Place}
+use Rattle.chart.specs.declared.Chain.{Chain}
+use Rattle.chart.specs.declared.Expected.the-variants.{Readings, OutOfRange, Unsound}
+use Rattle.chart.specs.Places.{inRange, squaredDistance, distanceOf}
+use Rattle.chart.specs.Chains.{isSound}
+use Rattle.chart.specs.Readings.{rangeOf, readingOf, expectedAt}
+use Rattle.chart.proofs.PlaceLaws.{and-both}
+use Rattle.chart.proofs.ReadingLaws.{expected-out, expected-unsound, expected-readings}
+use Rattle.search.specs.declared.Window.{Window}
+use Rattle.search.specs.Windows.{isWindow, IsCellIn}
+use Rattle.search.specs.Questions.{questionOf, noneTooLarge}
+use Rattle.search.specs.Answers.{Accepted, searchOf}
+use Rattle.search.specs.Cells.{Listed, AmpleRoom, AmpleAllowance}
+use Rattle.search.proofs.Theorems.{own-readings-found, always-enough}
+use Rattle.records.specs.declared.Draft.{Draft}
+use Rattle.records.specs.declared.RawAnswer.the-variants as raw
+use Rattle.records.specs.declared.LogEntry.the-variants as entry
+use Rattle.records.specs.declared.NamedChain.{NamedChain}
+use Rattle.records.specs.declared.NamedChain.the-variants as named
+use Rattle.records.specs.declared.Job.{Job}
+use Rattle.records.specs.declared.JobAnswer.the-variants as answer
+use Rattle.records.specs.LogRecords.{rawRecordOf, logEntryOf}
+use Rattle.records.specs.ChainTables.{chainOf}
+use Rattle.records.specs.Jobs.{jobOf}
+use Rattle.records.specs.Writing.{refusalOf, usedOf, bufferOf, rawFor, entryFor}
+use Rattle.records.proofs.Theorems.{reads-back}
+use Rattle.listing.specs.declared.Carried.{Carried}
+use Rattle.listing.specs.Answers.{fixBy, answerBy, answerOf, placesOf, programRoom}
+use Rattle.demands.proofs.NumberLaws.{job-good}
+use Rattle.demands.proofs.WayLaws.{hyperbolic-accepted, grid-accepted, hold-accepted, chain-byte, own-readings, fix-places}
+
+-- The distance of two places is the whole part of the root of easting difference squared plus northing difference squared:
+-- its square is at most that sum, the next square is more, and no other number is so.
+pub distance-is-root : (p q : Place) →
+    (distanceOf p q * distanceOf p q ≤ squaredDistance p q)
+    × (squaredDistance p q < (distanceOf p q + 1) * (distanceOf p q + 1))
+    × ((d : ℕ) → d * d ≤ squaredDistance p q → squaredDistance p q < (d + 1) * (d + 1) → d ≡ distanceOf p q)
+unfolding distanceOf
+distance-is-root p q = (
+  root-law (squaredDistance p q) .low,
+  root-law (squaredDistance p q) .high,
+  λ d low high. root-unique (squaredDistance p q) d (record { low = low; high = high }),
+)
+
+-- The readings of a place in range, by a sound chain, are its distance to the slave minus its distance to the master, for A
+-- and for B, each distance cut to a whole number first. A place out of range gets 4, whatever the chain; then an unsound
+-- chain gets 5.
+pub readings-are-differences : (c : Chain) (p : Place) →
+    (inRange p ≡ true → isSound c ≡ true → expectedAt c p
+    ≡ Readings (subℕ (distanceOf p (c .a)) (distanceOf p (c .master))) (subℕ (distanceOf p (c .b)) (distanceOf p (c .master))))
+    × (inRange p ≡ false → expectedAt c p ≡ OutOfRange)
+    × (inRange p ≡ true → isSound c ≡ false → expectedAt c p ≡ Unsound)
+unfolding readingOf rangeOf
+readings-are-differences c p = (expected-readings c p, expected-out c p, expected-unsound c p)
+
+-- A number of metres is answered by the whole number of centimetres nearest to exactly 100 times the number, a tie going to
+-- the even one, and is refused where it is NaN, infinite or larger than 10,000,000 in size; and by nothing else. `MayAnswer`
+-- says this without a way to find the number.
+pub metres-are-rounded : (x : Float) (answer : Whole) → answer ≡ centimetresOf x ↔ MayAnswer x answer
+metres-are-rounded x answer = ((λ e. subst⁻¹ (MayAnswer x) e (answers x)), answers-only x answer)
+
+-- All 2,000,000,001 numbers of centimetres from -1,000,000,000 to 1,000,000,000 are written as one rounded quotient by 100, and
+-- each is read back from it.
+pub centimetres-there-and-back : (z : ℤ) → natAbs z ≤ 1_000_000_000 →
+    let x = div binary64 (ofInt binary64 z) (ofInt binary64 (pos 100)) in
+    (metresOf z ≡ metres.Metres x) × (centimetresOf x ≡ whole.Centimetres z)
+unfolding hundredthOf
+centimetres-there-and-back z h = (written z h, hundredth-back z h)
+
+-- A binary64 number comes back from the pattern of its eight bytes.
+pub number-there-and-back : (x : Float) → T (fits binary64 x) → numberOf (patternOf x) ≡ x
+number-there-and-back x held = number-back x held
+
+-- Whatever the writer accepts is read back: the same kind, chain number, line number and centimetres. What the kind does not
+-- use is read as zero.
+pub record-there-and-back : (d : Draft) → d .line < 2 ^ 32 → refusalOf 32 d ≡ 0 →
+    (rawRecordOf (bufferOf 32 d) ≡ raw.Record (rawFor (usedOf d))) × (logEntryOf (bufferOf 32 d) ≡ entryFor (usedOf d))
+record-there-and-back d line accepted = (reads-back d line accepted .raw, reads-back d line accepted .entry)
+
+-- The writer accepts any two readings up to 1,000,000,000 in size for a chain from 1 to 16, any place in range, and any hold;
+-- and these are read back.
+pub readings-there-and-back : (chain line : ℕ) (a b : ℤ) →
+    1 ≤ chain → chain ≤ 16 → line < 2 ^ 32 → natAbs a ≤ 1_000_000_000 → natAbs b ≤ 1_000_000_000 →
+    let d : Draft = record { kind = 1; chain = chain; line = line; x = a; y = b } in
+    (refusalOf 32 d ≡ 0) × (logEntryOf (bufferOf 32 d) ≡ entry.Readings a b)
+unfolding usedOf entryFor
+readings-there-and-back chain line a b some few small ha hb =
+    let accepted = hyperbolic-accepted chain line a b some few ha hb in
+    (accepted, reads-back _ small accepted .entry)
+
+pub place-there-and-back : (chain line : ℕ) (p : Place) → line < 2 ^ 32 → inRange p ≡ true →
+    let d : Draft = record { kind = 2; chain = chain; line = line; x = pos (p .easting); y = pos (p .northing) } in
+    (refusalOf 32 d ≡ 0) × (logEntryOf (bufferOf 32 d) ≡ entry.Place p)
+unfolding usedOf entryFor
+place-there-and-back chain line p small h =
+    let accepted = grid-accepted chain line p h in
+    (accepted, reads-back _ small accepted .entry)
+
+pub hold-there-and-back : (chain line : ℕ) (x y : ℤ) → line < 2 ^ 32 →
+    let d : Draft = record { kind = 3; chain = chain; line = line; x = x; y = y } in
+    (refusalOf 32 d ≡ 0) × (logEntryOf (bufferOf 32 d) ≡ entry.Hold)
+unfolding usedOf entryFor
+hold-there-and-back chain line x y small =
+    let accepted = hold-accepted chain line x y in
+    (accepted, reads-back _ small accepted .entry)
+
+-- The readings of a place give back the place: a search with them, in any window about the place, at any tolerance, with room
+-- and allowance ample, lists it.
+pub readings-give-place : (c : Chain) (p : Place) (a b : ℤ) (w : Window) (tolerance allowance entries : ℕ) →
+    let q = questionOf c a b tolerance allowance entries in
+    expectedAt c p ≡ Readings a b → natAbs a ≤ 1_000_000_000 → natAbs b ≤ 1_000_000_000 →
+    isWindow w ≡ true → IsCellIn w p → tolerance ≤ 100_000 → AmpleRoom q w → AmpleAllowance q w →
+    Listed p (searchOf q w .places)
+unfolding noneTooLarge
+readings-give-place c p a b w tolerance allowance entries e ha hb window inside few room enough =
+    let own = own-readings c p a b e in
+    let Found : ℤ → ℤ → Type 0 =
+    λ a b.
+    let q = questionOf c a b tolerance allowance entries in
+    Accepted q w → AmpleRoom q w → AmpleAllowance q w → Listed p (searchOf q w .places) in
+    let found : Found a b = ? in
+    found (record { readings = and-both (le-leb (natAbs a) 1_000_000_000 ha) (and-both (le-leb (natAbs b) 1_000_000_000 hb) refl); chain = own .2; window = window; tolerance = few }) room enough
