@@ -1,16 +1,17 @@
 -- Demand 2. A place gives the readings that the rule for range differences gives, in whole centimetres, and readings give back
 -- the places that the rule allows. Metres in the log are read by IEEE 754 and rounded as 01 says; centimetres written out read
 -- back the same.
-use Prim.Native.Nat.{ℕ, _+_, _*_, _^_, _≤_, _<_}
+use Prim.Native.Nat.{ℕ, _+_, _-_, _*_, _/_, _^_, _≤_, _<_}
 use mathlib.Core.Path.{_≡_, refl, ap, _∙_, subst, subst⁻¹}
 use mathlib.Core.Logic.{_↔_}
 use mathlib.Core.Bool.{true, false}
 use mathlib.Core.List.{List}
 use native.Mathlib.Omega.{arith}
-use borrow.Author.Tests.{le-leb}
+use borrow.Author.Tests.{leb-true}
 use lib.Dec.{T}
 use lib.IntN.{ℤ, pos, natAbs, subℕ}
 use lib.Ieee.{Float, binary64, fits, ofInt, div}
+use lib.ListN.{length}
 use Rattle.squares.proofs.RootLaws.{root-law, root-unique}
 use Rattle.fields.specs.Fields.{fieldAt}
 use Rattle.metres.specs.declared.Whole.{Whole}
@@ -34,7 +35,7 @@ use Rattle.search.specs.declared.Window.{Window}
 use Rattle.search.specs.Windows.{isWindow, IsCellIn}
 use Rattle.search.specs.Questions.{questionOf, noneTooLarge}
 use Rattle.search.specs.Answers.{Accepted, searchOf}
-use Rattle.search.specs.Cells.{Listed, AmpleRoom, AmpleAllowance}
+use Rattle.search.specs.Cells.{matchingIn, Listed, AmpleRoom, AmpleAllowance}
 use Rattle.search.proofs.Theorems.{own-readings-found, always-enough}
 use Rattle.records.specs.declared.Draft.{Draft}
 use Rattle.records.specs.declared.RawAnswer.the-variants as raw
@@ -51,7 +52,7 @@ use Rattle.records.proofs.Theorems.{reads-back}
 use Rattle.listing.specs.declared.Carried.{Carried}
 use Rattle.listing.specs.Answers.{fixBy, answerBy, answerOf, placesOf, programRoom}
 use Rattle.demands.proofs.NumberLaws.{job-good}
-use Rattle.demands.proofs.WayLaws.{hyperbolic-accepted, grid-accepted, hold-accepted, chain-byte, own-readings, fix-places}
+use Rattle.demands.proofs.WayLaws.{hyperbolic-accepted, grid-accepted, hold-accepted, chain-byte, own-readings, found-by, tests-pass, fix-places}
 
 -- The distance of two places is the whole part of the root of easting difference squared plus northing difference squared:
 -- its square is at most that sum, the next square is more, and no other number is so.
@@ -135,12 +136,25 @@ pub readings-give-place : (c : Chain) (p : Place) (a b : ℤ) (w : Window) (tole
     expectedAt c p ≡ Readings a b → natAbs a ≤ 1_000_000_000 → natAbs b ≤ 1_000_000_000 →
     isWindow w ≡ true → IsCellIn w p → tolerance ≤ 100_000 → AmpleRoom q w → AmpleAllowance q w →
     Listed p (searchOf q w .places)
-unfolding noneTooLarge
 readings-give-place c p a b w tolerance allowance entries e ha hb window inside few room enough =
-    let own = own-readings c p a b e in
-    let Found : ℤ → ℤ → Type 0 =
-    λ a b.
-    let q = questionOf c a b tolerance allowance entries in
-    Accepted q w → AmpleRoom q w → AmpleAllowance q w → Listed p (searchOf q w .places) in
-    let found : Found a b = ? in
-    found (record { readings = and-both (le-leb (natAbs a) 1_000_000_000 ha) (and-both (le-leb (natAbs b) 1_000_000_000 hb) refl); chain = own .2; window = window; tolerance = few }) room enough
+    found-by c p a b w tolerance allowance entries e inside
+    (tests-pass c a b w tolerance allowance entries ha hb (own-readings c p a b e .2) window few)
+    room enough
+
+-- The whole way, from a place to a record and from the record to the place. The readings expected at a place are written as a
+-- record of a chain of the table; the record is read back; and what it answers, by an accepted job whose window has the
+-- place, whose allowance is the greatest that may be needed and whose matching cells are at most 256, lists the place.
+pub place-to-place : (c : Chain) (p : Place) (a b : ℤ) (chain line : ℕ) (job table : List ℕ) (j : Job) (before : Carried) →
+    let s = bufferOf 32 (record { kind = 1; chain = chain; line = line; x = a; y = b }) in
+    expectedAt c p ≡ Readings a b → natAbs a ≤ 1_000_000_000 → natAbs b ≤ 1_000_000_000 →
+    1 ≤ chain → chain ≤ 16 → line < 2 ^ 32 → chainOf table chain ≡ named.Chain c →
+    jobOf job ≡ answer.Job j → IsCellIn (j .window) p → (4 ^ (j .window .k + 1) - 1) / 3 ≤ j .allowance →
+    length (matchingIn (questionOf c a b (j .tolerance) (j .allowance) 512) (j .window)) ≤ 256 →
+    (logEntryOf s ≡ entry.Readings a b) × Listed p (placesOf (answerOf j table before s))
+unfolding answerOf answerBy fixBy
+place-to-place c p a b chain line job table j before e ha hb some few small known good inside enough room =
+    let there = readings-there-and-back chain line a b some few small ha hb in
+    let q = questionOf c a b (j .tolerance) (j .allowance) 512 in
+    let accepted = job-good job j good in
+    let found = readings-give-place c p a b (j .window) (j .tolerance) (j .allowance) 512 e ha hb (accepted .0) inside (leb-true _ _ (accepted .1)) room (always-enough q (j .window) enough) in
+    (there .1, rw (there .1, chain-byte chain line a b (there .0), known) (subst⁻¹ (Listed p) (fix-places q (j .window)) found))

@@ -1,6 +1,6 @@
 -- The steps of the way from a place over a record back to the place.
 use Prim.Native.Nat.{ℕ, _≤_}
-use mathlib.Core.Path.{_≡_, refl, sym, ap}
+use mathlib.Core.Path.{_≡_, refl, sym, ap, subst₂}
 use mathlib.Core.Bool.{Bool, true, false, cond}
 use mathlib.Core.List.{List}
 use native.Mathlib.Omega.{arith}
@@ -13,11 +13,14 @@ use Rattle.chart.specs.declared.Expected.the-variants.{Readings, OutOfRange, Un
 use Rattle.chart.specs.Places.{inRange}
 use Rattle.chart.specs.Chains.{isSound}
 use Rattle.chart.specs.Readings.{readingOf, expectedAt}
-use Rattle.chart.proofs.PlaceLaws.{in-range-says}
+use Rattle.chart.proofs.PlaceLaws.{and-both, in-range-says}
 use Rattle.search.specs.declared.Window.{Window}
-use Rattle.search.specs.Questions.{Question}
-use Rattle.search.specs.Answers.{searchOf, searchFigures}
+use Rattle.search.specs.Windows.{isWindow, IsCellIn}
+use Rattle.search.specs.Questions.{Question, questionOf, noneTooLarge}
+use Rattle.search.specs.Answers.{Accepted, searchOf, searchFigures}
+use Rattle.search.specs.Cells.{Listed, AmpleRoom, AmpleAllowance}
 use Rattle.search.proofs.Outcomes.{ending}
+use Rattle.search.proofs.Theorems.{own-readings-found}
 use Rattle.records.specs.declared.Draft.{Draft}
 use Rattle.records.specs.Bytes.{byteAt}
 use Rattle.records.specs.LogRecords.{isPlace}
@@ -67,6 +70,30 @@ own-readings c p a b e = go (inRange p) (isSound c) refl e
     go true true sound e = (cc, cc, sound)
     go true false sound e = (cc, cc, cc)
     go false t sound e = (cc, cc, cc)
+
+-- A search with them finds the place.
+pub found-by : (c : Chain) (p : Place) (a b : ℤ) (w : Window) (tolerance allowance entries : ℕ) →
+    let q = questionOf c a b tolerance allowance entries in
+    expectedAt c p ≡ Readings a b → IsCellIn w p → Accepted q w → AmpleRoom q w → AmpleAllowance q w → Listed p (searchOf q w .places)
+found-by c p a b w tolerance allowance entries e inside =
+    let own = own-readings c p a b e in
+    let asked : ℤ → ℤ → Question = λ x y. questionOf c x y tolerance allowance entries in
+    subst₂ (λ (x y : ℤ). Accepted (asked x y) w → AmpleRoom (asked x y) w → AmpleAllowance (asked x y) w → Listed p (searchOf (asked x y) w .places))
+    (own .0) (own .1)
+    (λ accepted room enough. own-readings-found c p w tolerance allowance entries accepted room enough inside)
+
+-- Two readings that are not too large, a sound chain, a window and a tolerance pass the tests of a search.
+pub tests-pass : (c : Chain) (a b : ℤ) (w : Window) (tolerance allowance entries : ℕ) →
+    natAbs a ≤ 1_000_000_000 → natAbs b ≤ 1_000_000_000 → isSound c ≡ true → isWindow w ≡ true → tolerance ≤ 100_000 →
+    Accepted (questionOf c a b tolerance allowance entries) w
+unfolding noneTooLarge
+tests-pass c a b w tolerance allowance entries ha hb sound window few =
+    record {
+      readings = and-both (le-leb (natAbs a) 1_000_000_000 ha) (and-both (le-leb (natAbs b) 1_000_000_000 hb) refl);
+      chain = sound;
+      window = window;
+      tolerance = few;
+    }
 
 -- What a record answers lists what its search lists.
 pub fix-places : (q : Question) (w : Window) → placesOf (searched (searchOf q w)) ≡ searchOf q w .places
