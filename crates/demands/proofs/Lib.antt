@@ -1,6 +1,8 @@
 -- The three demands of the request, and the ten cases of 01, as theorems.
 mod NumberLaws
 mod WayLaws
+mod StoppingLaws
 pub mod Demand1
 pub mod Demand2
+pub mod Demand3
 pub mod Cases

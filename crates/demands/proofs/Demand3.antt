@@ -1,0 +1,79 @@
+-- Demand 3. Take a sound chain, two readings, a square of chart and a tolerance, all within their limits, and enough room and
+-- allowance. The list holds every centimetre cell of the square whose two differences are within the tolerance, each once, in
+-- chart order, and no other cell. "No fix" comes exactly when there is no such cell. The squares searched are counted by the
+-- written rule, and the stated greatest allowance always suffices.
+use Prim.Native.Nat.{ℕ, zero, suc, _+_, _-_, _*_, _/_, _^_, _≤_, _<_}
+use mathlib.Core.Path.{_≡_, refl}
+use mathlib.Core.Logic.{_↔_}
+use mathlib.Core.Bool.{true, false}
+use mathlib.Core.List.{List, []}
+use lib.ListN.{length}
+use Rattle.chart.specs.declared.Place.{Place}
+use Rattle.search.specs.declared.Window.{Window}
+use Rattle.search.specs.Windows.{east, north, northEast, IsCellIn}
+use Rattle.search.specs.Questions.{Question, matches, isKept}
+use Rattle.search.specs.Answers.{Accepted, searchOf, figuresIn}
+use Rattle.search.specs.Cells.{matching, matchingIn, visitsOf, visitsIn, AmpleRoom, AmpleAllowance}
+use Rattle.search.proofs.Whole.{visits-kept, visits-dropped}
+use Rattle.search.proofs.Dropping.{dropped-none}
+use Rattle.search.proofs.Theorems.{listed-iff-matches, numbers-rise, only-list, eight-only-then, eight-when-none, visits-are-counted, places-are-counted, always-enough, nine-when-short, nine-only-then, visits-in-allowance}
+use Rattle.demands.specs.Finding.{Enough, IsTheList}
+use Rattle.demands.proofs.StoppingLaws.{rising-once, ten-when-short, ten-only-then, ten-at-once}
+
+-- The list of a search holds every cell of the window that matches, and no other, each once, in chart order.
+pub exactly-the-matching-cells : (q : Question) (w : Window) → Enough q w → IsTheList q w (searchOf q w .places)
+exactly-the-matching-cells q w e =
+    let listed = listed-iff-matches q w (e .accepted) (e .room) (e .allowance) in
+    record {
+      every = λ o inside m. listed o .1 (inside, m);
+      no-other = λ o m. listed o .0 m;
+      once = rising-once _ (searchOf q w .places) (numbers-rise q w);
+      in-order = numbers-rise q w;
+    }
+
+-- Any list of which this may be said is the list of the search.
+pub no-other-list : (q : Question) (w : Window) → Enough q w → (l : List Place) → IsTheList q w l → l ≡ searchOf q w .places
+no-other-list q w e l is =
+    only-list q w (e .accepted) (e .room) (e .allowance) l (is .no-other) (λ o h. is .every o (h .0) (h .1)) (is .in-order)
+
+-- The count is that of the matching cells, and the visits are those that the rule counts.
+pub counts-are-right : (q : Question) (w : Window) → Enough q w →
+    (figuresIn q w .count ≡ length (matchingIn q w)) × (figuresIn q w .visits ≡ visitsIn q w)
+counts-are-right q w e = (
+  places-are-counted q w (e .accepted) (e .room) (e .allowance),
+  visits-are-counted q w (e .accepted) (e .room) (e .allowance),
+)
+
+-- The rule: a cell takes one visit; a larger square that is dropped takes one; any other takes one and those of its quarters.
+-- A square that is dropped has no matching cell.
+pub visits-by-the-rule : (q : Question) (k : ℕ) (p : Place) →
+    (visitsOf q 0 p ≡ 1)
+    × (isKept q k p ≡ false → (visitsOf q (suc k) p ≡ 1) × (matching q (suc k) p ≡ []))
+    × (isKept q k p ≡ true → visitsOf q (suc k) p
+    ≡ 1 + (visitsOf q k p + (visitsOf q k (east (2 ^ k) p) + (visitsOf q k (north (2 ^ k) p) + visitsOf q k (northEast (2 ^ k) p)))))
+unfolding visitsOf
+visits-by-the-rule q k p = (refl, (λ e. (visits-dropped q k p e, dropped-none q k p e)), visits-kept q k p)
+
+-- An allowance of (4^(k+1) - 1)/3 is always enough.
+pub greatest-allowance : (q : Question) (w : Window) → (4 ^ (w .k + 1) - 1) / 3 ≤ q .allowance → visitsIn q w ≤ q .allowance
+greatest-allowance q w h = always-enough q w h
+
+-- 8, "no fix", is answered exactly when no cell of the window matches.
+pub no-fix : (q : Question) (w : Window) → Accepted q w → AmpleAllowance q w →
+    figuresIn q w .refusal ≡ 8 ↔ ((o : Place) → IsCellIn w o → matches q o ≡ false)
+no-fix q w a enough = (eight-only-then q w, eight-when-none q w a enough)
+
+-- 9 is answered, where the allowance is ample, exactly when more cells match than there is room for.
+pub no-room : (q : Question) (w : Window) → Accepted q w → AmpleAllowance q w →
+    figuresIn q w .refusal ≡ 9 ↔ (q .room < length (matchingIn q w))
+no-room q w a enough = (nine-only-then q w a enough, nine-when-short q w a enough)
+
+-- 10 is answered, where the room is ample, exactly when the rule counts more visits than are allowed; and then the visits made
+-- are exactly the allowance.
+pub allowance-used-up : (q : Question) (w : Window) → Accepted q w → AmpleRoom q w →
+    (figuresIn q w .refusal ≡ 10 ↔ (q .allowance < visitsIn q w)) × (figuresIn q w .refusal ≡ 10 → figuresIn q w .visits ≡ q .allowance)
+allowance-used-up q w a room = ((ten-only-then q w a room, ten-when-short q w a room), visits-in-allowance q w .1)
+
+-- Without any allowance the answer is 10, whatever the room.
+pub no-allowance : (q : Question) (w : Window) → Accepted q w → q .allowance ≡ 0 → figuresIn q w .refusal ≡ 10
+no-allowance q w a none = ten-at-once q w a none

@@ -1,0 +1,152 @@
+-- Where a walk stops with 9 the matching cells are more than the room, whatever the allowance; so with ample room only the
+-- allowance stops it. And a list whose numbers rise has each place once.
+use Prim.Native.Nat.{ℕ, zero, suc, _+_, _^_, _≤_, _<_}
+use mathlib.Core.Path.{_≡_, refl, sym, ap, _∙_, subst}
+use mathlib.Core.Logic.{_⊎_, inl, inr}
+use mathlib.Core.Bool.{Bool, true, false}
+use mathlib.Core.List.{List, [], _∷_, _++_, List·Memᴰ·not-nil, List·Memᴰ·cases-cons}
+use native.Mathlib.Omega.{arith}
+use native.Mathlib.Nat.{lt-of-not-le}
+use native.Mathlib.Decide.{decLe, ℕ-discrete}
+use borrow.Author.Tests.{eqb-false}
+use lib.ListN.{length, length-append}
+use Rattle.chart.specs.declared.Place.{Place}
+use Rattle.search.specs.declared.Window.{Window}
+use Rattle.search.specs.Windows.{east, north, northEast}
+use Rattle.search.specs.Questions.{Question, matches, isKept}
+use Rattle.search.specs.Walk.{Standing, either, unchanged, start, visit}
+use Rattle.search.specs.Answers.{Outcome, gone, ended, Accepted, searchOf, searchFigures, figuresIn}
+use Rattle.search.specs.Cells.{Rises, matching, matchingIn, visitsIn, Listed, AmpleRoom}
+use Rattle.search.proofs.WalkLaws.{visit-after, visit-out, visit-cell, visit-square, quarters, cell-missed, cell-full, cell-listed}
+use Rattle.search.proofs.AnswerLaws.{ended-out, ended-full, ended-gone, search-walks}
+use Rattle.search.proofs.CellLaws.{matching-counted}
+use Rattle.search.proofs.Whole.{going, matching-cell}
+use Rattle.search.proofs.Finished.{finished}
+use Rattle.search.proofs.Limits.{bounded}
+use Rattle.search.proofs.Outcomes.{ample-complete}
+use Rattle.demands.specs.Finding.{EachOnce}
+
+-- The numbers behind the first are larger: so it stands once.
+above : (number : Place → ℕ) (p : Place) (l : List Place) → Rises number (p ∷ l) → (o : Place) → Listed o l → number p < number o
+unfolding Rises
+above number p [] r o m = absurd (List·Memᴰ·not-nil m)
+above number p (q ∷ l) r o m = go (List·Memᴰ·cases-cons m) (above number q l (r .1) o)
+  where
+    go : (o ≡ q) ⊎ Listed o l → (Listed o l → number q < number o) → number p < number o
+    go (inl e) rest = omega (arith, r .0, ap number e)
+    go (inr m) rest = omega (arith, r .0, rest m)
+
+tail-rises : (number : Place → ℕ) (p : Place) (l : List Place) → Rises number (p ∷ l) → Rises number l
+unfolding Rises
+tail-rises number p [] r = tt
+tail-rises number p (q ∷ l) r = r .1
+
+pub rising-once : (number : Place → ℕ) (l : List Place) → Rises number l → EachOnce l
+unfolding EachOnce
+rising-once number [] r = tt
+rising-once number (p ∷ l) r = (
+  (λ m. absurd (omega (arith, above number p l r p m))),
+  rising-once number l (tail-rises number p l r),
+)
+
+module _ (q : Question) where
+  -- A part of a walk, of f matching cells: a stop before it stays, and where it stops with 9 the cells are more than the room.
+  record Fills (part : Standing → Standing) (f : ℕ) : Type 0 where
+    stays : (s : Standing) → (s .stop ≡ 0 → ⊥) → part s .stop ≡ s .stop
+    over : (ps : List Place) (v : ℕ) → part (going ps v) .stop ≡ 9 → q .room < length ps + f
+
+  -- A square, and then another part.
+  then : (k : ℕ) (o : Place) (part : Standing → Standing) (f : ℕ) → Fills (visit q k o) (length (matching q k o)) → Fills part f → Fills (λ s. part (visit q k o s)) (length (matching q k o) + f)
+  then k o part f a b =
+      record {
+        stays = λ s n. b .stays (visit q k o s) (λ z. n (sym (a .stays s n) ∙ z)) ∙ a .stays s n;
+        over = λ ps v e. go ps v e (ℕ-discrete (visit q k o (going ps v) .stop) 0);
+      }
+    where
+      go : (ps : List Place) (v : ℕ) → part (visit q k o (going ps v)) .stop ≡ 9 → Dec (visit q k o (going ps v) .stop ≡ 0) → q .room < length ps + (length (matching q k o) + f)
+      go ps v e (yes z) =
+          let on = b .over (ps ++ matching q k o) _ (sym (ap (λ (s : Standing). part s .stop) (finished q k o ps v z)) ∙ e) in
+          omega (arith, on, length-append ps (matching q k o))
+      go ps v e (no n) =
+          let full = a .over ps v (sym (b .stays (visit q k o (going ps v)) n) ∙ e) in
+          omega (arith, full)
+
+  -- The stop of a visit that the allowance does not cover is 10.
+  not-out : (k : ℕ) (p : Place) (ps : List Place) (v : ℕ) → visit q k p (going ps v) .stop ≡ 9 → q .allowance ≤ v → ⊥
+  not-out k p ps v e h = eqb-false 10 9 refl (sym (ap (λ (s : Standing). s .stop) (visit-out q k p (going ps v) refl h)) ∙ e)
+
+  cell-over : (p : Place) (ps : List Place) (v : ℕ) (b : Bool) → matches q p ≡ b → Dec (q .allowance ≤ v) → Dec (q .room ≤ length ps) → visit q 0 p (going ps v) .stop ≡ 9 → q .room < length ps + length (matching q 0 p)
+  cell-over p ps v b m (yes h) r e = absurd (not-out 0 p ps v e h)
+  cell-over p ps v true m (no h) (yes r) e = omega (arith, ap length (matching-cell q p true m))
+  cell-over p ps v true m (no h) (no r) e =
+      let listed = ap (λ (s : Standing). s .stop) (visit-cell q p (going ps v) refl (lt-of-not-le h) ∙ cell-listed q p (going ps (v + 1)) m (lt-of-not-le r)) in
+      absurd (eqb-false 0 9 refl (sym listed ∙ e))
+  cell-over p ps v false m (no h) r e =
+      let missed = ap (λ (s : Standing). s .stop) (visit-cell q p (going ps v) refl (lt-of-not-le h) ∙ cell-missed q p (going ps (v + 1)) m) in
+      absurd (eqb-false 0 9 refl (sym missed ∙ e))
+
+  square-over : (k : ℕ) (p : Place) → ((o : Place) → Fills (visit q k o) (length (matching q k o))) → (ps : List Place) (v : ℕ) (b : Bool) → isKept q k p ≡ b → Dec (q .allowance ≤ v) → visit q (suc k) p (going ps v) .stop ≡ 9 → q .room < length ps + length (matching q (suc k) p)
+  square-over k p ih ps v b t (yes h) e = absurd (not-out (suc k) p ps v e h)
+  square-over k p ih ps v b t (no h) e = go b (sym (ap (λ (s : Standing). s .stop) step) ∙ e)
+    where
+      step : visit q (suc k) p (going ps v) ≡ either b (quarters q k p) unchanged (going ps (v + 1))
+      step = visit-square q k p (going ps v) refl (lt-of-not-le h) ∙ ap (λ (x : Bool). either x (quarters q k p) unchanged (going ps (v + 1))) t
+
+      go : (b : Bool) → either b (quarters q k p) unchanged (going ps (v + 1)) .stop ≡ 9 → q .room < length ps + length (matching q (suc k) p)
+      go false e = absurd (eqb-false 0 9 refl e)
+      go true e =
+          let se : Place = east (2 ^ k) p in
+          let nw : Place = north (2 ^ k) p in
+          let ne : Place = northEast (2 ^ k) p in
+          let over = then k p _ _ (ih p) (then k se _ _ (ih se) (then k nw _ _ (ih nw) (ih ne))) .over ps (v + 1) e in
+          omega (arith, over, matching-counted q k p)
+
+  visit-stays : (k : ℕ) (p : Place) (s : Standing) → (s .stop ≡ 0 → ⊥) → visit q k p s .stop ≡ s .stop
+  visit-stays k p s n = ap (λ (x : Standing). x .stop) (visit-after q k p s n)
+
+  fills : (k : ℕ) (p : Place) → Fills (visit q k p) (length (matching q k p))
+  fills zero p =
+      record { stays = visit-stays 0 p; over = λ ps v e. cell-over p ps v (matches q p) refl (decLe (q .allowance) v) (decLe (q .room) (length ps)) e }
+  fills (suc k) p =
+      let ih : (o : Place) → Fills (visit q k o) (length (matching q k o)) = λ o. fills k o in
+      record { stays = visit-stays (suc k) p; over = λ ps v e. square-over k p ih ps v (isKept q k p) refl (decLe (q .allowance) v) e }
+
+-- How an accepted search is told, by the stop of its walk.
+abbrev walk : Question → Window → Standing
+walk q w = visit q (w .k) (w .corner) start
+
+told : Outcome → ℕ
+told o = searchFigures (o .answer) .refusal
+
+module _ (q : Question) (w : Window) (a : Accepted q w) where
+  stop-10 : walk q w .stop ≡ 10 → figuresIn q w .refusal ≡ 10
+  unfolding searchFigures
+  stop-10 e = ap (λ (o : Outcome). searchFigures (o .answer) .refusal) (search-walks q w a ∙ ended-out (walk q w) e)
+
+  -- With ample room, 10 is answered exactly when the window takes more visits than are allowed.
+  pub ten-when-short : AmpleRoom q w → q .allowance < visitsIn q w → figuresIn q w .refusal ≡ 10
+  ten-when-short room short = go (bounded q (w .k) (w .corner) .stop)
+    where
+      go : (walk q w .stop ≡ 0) ⊎ ((walk q w .stop ≡ 9) ⊎ (walk q w .stop ≡ 10)) → figuresIn q w .refusal ≡ 10
+      go (inl z) =
+          absurd (omega (arith, bounded q (w .k) (w .corner) .most, ap (λ (s : Standing). s .visits) (finished q (w .k) (w .corner) [] 0 z)))
+      go (inr (inl n)) = absurd (omega (arith, fills q (w .k) (w .corner) .over [] 0 n))
+      go (inr (inr t)) = stop-10 t
+
+  gone-small : (ps : List Place) (v : ℕ) → searchFigures (gone ps v .answer) .refusal ≤ 8
+  unfolding searchFigures
+  gone-small [] v = omega arith
+  gone-small (p ∷ ps) v = omega arith
+
+  pub ten-only-then : AmpleRoom q w → figuresIn q w .refusal ≡ 10 → q .allowance < visitsIn q w
+  ten-only-then room e = go (decLe (visitsIn q w) (q .allowance))
+    where
+      go : Dec (visitsIn q w ≤ q .allowance) → q .allowance < visitsIn q w
+      go (no f) = lt-of-not-le f
+      go (yes enough) =
+          let done = ap (λ (o : Outcome). searchFigures (o .answer) .refusal) (ample-complete q w a enough room) in
+          absurd (omega (arith, e, done, gone-small (matchingIn q w) (visitsIn q w)))
+
+  -- With no allowance at all it is answered before anything else.
+  pub ten-at-once : q .allowance ≡ 0 → figuresIn q w .refusal ≡ 10
+  ten-at-once none = stop-10 (ap (λ (s : Standing). s .stop) (visit-out q (w .k) (w .corner) start refl (omega arith)))

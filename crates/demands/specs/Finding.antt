@@ -1,0 +1,29 @@
+-- What the third demand takes for granted of a search, and what it asks of the list.
+use mathlib.Core.Path.{_≡_}
+use mathlib.Core.Bool.{true}
+use mathlib.Core.List.{List, [], _∷_}
+use Rattle.chart.specs.declared.Place.{Place}
+use Rattle.search.specs.declared.Window.{Window}
+use Rattle.search.specs.Windows.{IsCellIn}
+use Rattle.search.specs.Questions.{Question, matches}
+use Rattle.search.specs.Answers.{Accepted}
+use Rattle.search.specs.Cells.{chartNumber, Rises, Listed, AmpleRoom, AmpleAllowance}
+
+-- A sound chain, two readings, a window and a tolerance, all within their limits; room for every matching cell; and an
+-- allowance for every visit that the rule counts.
+pub record Enough (q : Question) (w : Window) : Type 0 where
+  pub accepted : Accepted q w
+  pub room : AmpleRoom q w
+  pub allowance : AmpleAllowance q w
+
+-- No place stands twice in a list.
+unfoldable pub EachOnce : List Place → Type 0
+EachOnce [] = Unit {0}
+EachOnce (p ∷ ps) = (Listed p ps → ⊥) × EachOnce ps
+
+-- The list holds every matching cell of the window and no other, each once, in chart order: by rising interleaved numbers.
+pub record IsTheList (q : Question) (w : Window) (places : List Place) : Type 0 where
+  pub every : (o : Place) → IsCellIn w o → matches q o ≡ true → Listed o places
+  pub no-other : (o : Place) → Listed o places → IsCellIn w o × (matches q o ≡ true)
+  pub once : EachOnce places
+  pub in-order : Rises (chartNumber w) places
