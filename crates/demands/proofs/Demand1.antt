@@ -18,6 +18,11 @@ use Rattle.search.specs.Questions.{Question, questionOf}
 use Rattle.search.specs.Answers.{searchOf, entriesOf, listOf, figuresIn}
 use Rattle.search.proofs.Outcomes.{ending}
 use Rattle.search.proofs.Theorems.{listed-are-counted, visits-in-allowance}
+use Rattle.records.specs.declared.RawAnswer.the-variants as raw
+use Rattle.records.specs.declared.LogRecord.the-variants as log
+use Rattle.records.specs.declared.LogEntry.the-variants as entry
+use Rattle.records.specs.declared.ChainCount.the-variants as count
+use Rattle.records.specs.declared.NamedChain.the-variants as named
 use Rattle.records.specs.declared.Job.{Job}
 use Rattle.records.specs.declared.JobAnswer.the-variants as answer
 use Rattle.records.specs.declared.Draft.{Draft}
@@ -29,10 +34,11 @@ use Rattle.records.specs.Writing.{refusalOf, bufferOf}
 use Rattle.records.specs.Refusals.{rawRefusal, logRefusal, entryRefusal, countRefusal, chainRefusal, jobRefusal}
 use Rattle.records.proofs.Theorems.{raw-refusals, log-refusals, entry-refusals, count-refusals, chain-refusals, job-refusals, write-refusals, refused-write-zeros}
 use Rattle.listing.specs.declared.Carried.{Carried}
-use Rattle.listing.specs.Answers.{answerOf}
+use Rattle.listing.specs.Answers.{Refused, answerOf}
 use Rattle.listing.specs.Listings.{Part, hasRoom, listedIn, bufferWith}
 use Rattle.demands.specs.Numbers.{recordRefusal, listedRefusal, NoneOr, Refuses, Leaves}
 use Rattle.demands.proofs.NumberLaws.{whole-number, length-number, readings-number, listed-number, search-number, refused-lists, refused-early, answered-lists, room-kept, list-length, job-good, answer-number}
+use Rattle.demands.proofs.NeverLaws.{raw-never, log-never, entry-never, count-never, chain-never, job-never, answer-never}
 
 -- A number of metres gets its centimetres, or 3 and then 0 centimetres.
 pub metres-read : (x : Float) →
@@ -117,6 +123,26 @@ unfolding answerOf
 record-answered job table s j before accepted =
     let good = job-good job j accepted in
     answer-number j (good .0) (good .1) (chainOf table (byteAt s 1)) before (logEntryOf s) (chain-refusals table (byteAt s 1)) (entry-refusals s)
+
+-- No refusal has the number 0, which says that there is none: so whatever refuses has one of the numbers above.
+pub no-refusal-is-0 : (s table : List ℕ) (number visits : ℕ) (j : Job) (before : Carried) →
+    (rawRecordOf s ≡ raw.Refused 0 → ⊥)
+    × (logRecordOf s ≡ log.Refused 0 → ⊥)
+    × (logEntryOf s ≡ entry.Refused 0 → ⊥)
+    × (chainCountOf s ≡ count.Refused 0 → ⊥)
+    × (chainOf s number ≡ named.Refused 0 → ⊥)
+    × (jobOf s ≡ answer.Refused 0 → ⊥)
+    × (answerOf j table before s ≡ Refused 0 visits → ⊥)
+unfolding answerOf
+no-refusal-is-0 s table number visits j before = (
+  raw-never s,
+  log-never s,
+  entry-never s,
+  count-never s,
+  chain-never s number,
+  job-never s,
+  answer-never visits j (chainOf table (byteAt s 1)) before (logEntryOf s) (chain-never table (byteAt s 1)) (entry-never s),
+)
 
 -- A listing is put into a buffer, or gets 9 where the buffer has too little room and then stays as it was.
 pub listing-answered : (out log : List ℕ) (p : Part) →

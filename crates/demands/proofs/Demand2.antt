@@ -2,18 +2,16 @@
 -- the places that the rule allows. Metres in the log are read by IEEE 754 and rounded as 01 says; centimetres written out read
 -- back the same.
 use Prim.Native.Nat.{ℕ, _+_, _-_, _*_, _/_, _^_, _≤_, _<_}
-use mathlib.Core.Path.{_≡_, refl, ap, _∙_, subst, subst⁻¹}
+use mathlib.Core.Path.{_≡_, subst⁻¹}
 use mathlib.Core.Logic.{_↔_}
 use mathlib.Core.Bool.{true, false}
 use mathlib.Core.List.{List}
-use native.Mathlib.Omega.{arith}
 use borrow.Author.Tests.{leb-true}
 use lib.Dec.{T}
 use lib.IntN.{ℤ, pos, natAbs, subℕ}
 use lib.Ieee.{Float, binary64, fits, ofInt, div}
 use lib.ListN.{length}
 use Rattle.squares.proofs.RootLaws.{root-law, root-unique}
-use Rattle.fields.specs.Fields.{fieldAt}
 use Rattle.metres.specs.declared.Whole.{Whole}
 use Rattle.metres.specs.declared.Whole.the-variants as whole
 use Rattle.metres.specs.declared.Length.the-variants as metres
@@ -29,18 +27,16 @@ use Rattle.chart.specs.declared.Expected.the-variants.{Readings, OutOfRange, Un
 use Rattle.chart.specs.Places.{inRange, squaredDistance, distanceOf}
 use Rattle.chart.specs.Chains.{isSound}
 use Rattle.chart.specs.Readings.{rangeOf, readingOf, expectedAt}
-use Rattle.chart.proofs.PlaceLaws.{and-both}
 use Rattle.chart.proofs.ReadingLaws.{expected-out, expected-unsound, expected-readings}
 use Rattle.search.specs.declared.Window.{Window}
 use Rattle.search.specs.Windows.{isWindow, IsCellIn}
-use Rattle.search.specs.Questions.{questionOf, noneTooLarge}
-use Rattle.search.specs.Answers.{Accepted, searchOf}
+use Rattle.search.specs.Questions.{questionOf}
+use Rattle.search.specs.Answers.{searchOf}
 use Rattle.search.specs.Cells.{matchingIn, Listed, AmpleRoom, AmpleAllowance}
-use Rattle.search.proofs.Theorems.{own-readings-found, always-enough}
+use Rattle.search.proofs.Theorems.{always-enough}
 use Rattle.records.specs.declared.Draft.{Draft}
 use Rattle.records.specs.declared.RawAnswer.the-variants as raw
 use Rattle.records.specs.declared.LogEntry.the-variants as entry
-use Rattle.records.specs.declared.NamedChain.{NamedChain}
 use Rattle.records.specs.declared.NamedChain.the-variants as named
 use Rattle.records.specs.declared.Job.{Job}
 use Rattle.records.specs.declared.JobAnswer.the-variants as answer
@@ -50,9 +46,10 @@ use Rattle.records.specs.Jobs.{jobOf}
 use Rattle.records.specs.Writing.{refusalOf, usedOf, bufferOf, rawFor, entryFor}
 use Rattle.records.proofs.Theorems.{reads-back}
 use Rattle.listing.specs.declared.Carried.{Carried}
-use Rattle.listing.specs.Answers.{fixBy, answerBy, answerOf, placesOf, programRoom}
+use Rattle.listing.specs.Answers.{fixBy, answerBy, answerOf, placesOf}
 use Rattle.demands.proofs.NumberLaws.{job-good}
-use Rattle.demands.proofs.WayLaws.{hyperbolic-accepted, grid-accepted, hold-accepted, chain-byte, own-readings, found-by, tests-pass, fix-places}
+use Rattle.demands.proofs.WritingLaws.{hyperbolic-accepted, grid-accepted, hold-accepted, chain-byte}
+use Rattle.demands.proofs.AskingLaws.{own-readings, found-by, tests-pass, fix-places}
 
 -- The distance of two places is the whole part of the root of easting difference squared plus northing difference squared:
 -- its square is at most that sum, the next square is more, and no other number is so.

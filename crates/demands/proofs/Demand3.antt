@@ -2,22 +2,27 @@
 -- allowance. The list holds every centimetre cell of the square whose two differences are within the tolerance, each once, in
 -- chart order, and no other cell. "No fix" comes exactly when there is no such cell. The squares searched are counted by the
 -- written rule, and the stated greatest allowance always suffices.
-use Prim.Native.Nat.{ℕ, zero, suc, _+_, _-_, _*_, _/_, _^_, _≤_, _<_}
+use Prim.Native.Nat.{ℕ, suc, _+_, _-_, _/_, _^_, _≤_, _<_}
 use mathlib.Core.Path.{_≡_, refl}
 use mathlib.Core.Logic.{_↔_}
 use mathlib.Core.Bool.{true, false}
 use mathlib.Core.List.{List, []}
+use lib.IntN.{ℤ, natAbs}
 use lib.ListN.{length}
 use Rattle.chart.specs.declared.Place.{Place}
+use Rattle.chart.specs.declared.Chain.{Chain}
+use Rattle.chart.specs.Chains.{isSound}
+use Rattle.chart.specs.Readings.{readingOf, differ}
 use Rattle.search.specs.declared.Window.{Window}
-use Rattle.search.specs.Windows.{east, north, northEast, IsCellIn}
-use Rattle.search.specs.Questions.{Question, matches, isKept}
+use Rattle.search.specs.Windows.{east, north, northEast, isWindow, IsCellIn}
+use Rattle.search.specs.Questions.{Question, questionOf, matches, isKept}
 use Rattle.search.specs.Answers.{Accepted, searchOf, figuresIn}
-use Rattle.search.specs.Cells.{matching, matchingIn, visitsOf, visitsIn, AmpleRoom, AmpleAllowance}
+use Rattle.search.specs.Cells.{chartNumber, Rises, Listed, matching, matchingIn, visitsOf, visitsIn, AmpleRoom, AmpleAllowance}
 use Rattle.search.proofs.Whole.{visits-kept, visits-dropped}
 use Rattle.search.proofs.Dropping.{dropped-none}
-use Rattle.search.proofs.Theorems.{listed-iff-matches, numbers-rise, only-list, eight-only-then, eight-when-none, visits-are-counted, places-are-counted, always-enough, nine-when-short, nine-only-then, visits-in-allowance}
-use Rattle.demands.specs.Finding.{Enough, IsTheList}
+use Rattle.search.proofs.Theorems.{listed-iff-matches, numbers-rise, only-list, eight-only-then, eight-when-none, visits-are-counted, places-are-counted, listed-are-counted, always-enough, nine-when-short, nine-only-then, visits-in-allowance}
+use Rattle.demands.specs.Finding.{Enough, EachOnce, IsTheList}
+use Rattle.demands.proofs.AskingLaws.{tests-pass, both-differ}
 use Rattle.demands.proofs.StoppingLaws.{rising-once, ten-when-short, ten-only-then, ten-at-once}
 
 -- The list of a search holds every cell of the window that matches, and no other, each once, in chart order.
@@ -30,6 +35,12 @@ exactly-the-matching-cells q w e =
       once = rising-once _ (searchOf q w .places) (numbers-rise q w);
       in-order = numbers-rise q w;
     }
+
+-- That a cell matches two readings says that both of its differences are within the tolerance.
+pub matching-means : (c : Chain) (a b : ℤ) (tolerance allowance entries : ℕ) (o : Place) →
+    matches (questionOf c a b tolerance allowance entries) o ≡ true
+    ↔ ((differ (readingOf c (c .a) o) a ≤ tolerance) × (differ (readingOf c (c .b) o) b ≤ tolerance))
+matching-means c a b tolerance allowance entries o = both-differ tolerance c a b o
 
 -- Any list of which this may be said is the list of the search.
 pub no-other-list : (q : Question) (w : Window) → Enough q w → (l : List Place) → IsTheList q w l → l ≡ searchOf q w .places
@@ -77,3 +88,37 @@ allowance-used-up q w a room = ((ten-only-then q w a room, ten-when-short q w a 
 -- Without any allowance the answer is 10, whatever the room.
 pub no-allowance : (q : Question) (w : Window) → Accepted q w → q .allowance ≡ 0 → figuresIn q w .refusal ≡ 10
 no-allowance q w a none = ten-at-once q w a none
+
+-- The demand in the words of its arguments: with a sound chain, readings, a window and a tolerance within their limits, room
+-- for the matching cells and the greatest allowance, a cell is listed exactly if it lies in the window and both its
+-- differences are within the tolerance; the listed cells stand each once, in chart order; and their count and the visits are
+-- right.
+pub every-such-cell : (c : Chain) (a b : ℤ) (w : Window) (tolerance allowance entries : ℕ) →
+    let q = questionOf c a b tolerance allowance entries in
+    let places = searchOf q w .places in
+    isSound c ≡ true → natAbs a ≤ 1_000_000_000 → natAbs b ≤ 1_000_000_000 → isWindow w ≡ true → tolerance ≤ 100_000 →
+    length (matchingIn q w) ≤ entries / 2 → (4 ^ (w .k + 1) - 1) / 3 ≤ allowance →
+    ((o : Place) → Listed o places
+    ↔ (IsCellIn w o × (differ (readingOf c (c .a) o) a ≤ tolerance) × (differ (readingOf c (c .b) o) b ≤ tolerance)))
+    × EachOnce places
+    × Rises (chartNumber w) places
+    × (figuresIn q w .count ≡ length places)
+    × (figuresIn q w .visits ≡ visitsIn q w)
+every-such-cell c a b w tolerance allowance entries sound ha hb window few room enough =
+    let q = questionOf c a b tolerance allowance entries in
+    let all : Enough q w = record {
+      accepted = tests-pass c a b w tolerance allowance entries ha hb sound window few;
+      room = room;
+      allowance = greatest-allowance q w enough;
+    } in
+    let list = exactly-the-matching-cells q w all in
+    let means = both-differ tolerance c a b in (
+      (λ o. (
+        (λ m. (list .no-other o m .0, means o .0 (list .no-other o m .1) .0, means o .0 (list .no-other o m .1) .1)),
+        (λ h. list .every o (h .0) (means o .1 (h .1, h .2))),
+      )),
+      list .once,
+      list .in-order,
+      listed-are-counted q w,
+      counts-are-right q w all .1,
+    )

@@ -1,6 +1,8 @@
 -- The three demands of the request, and the ten cases of 01, as theorems.
 mod NumberLaws
-mod WayLaws
+mod NeverLaws
+mod WritingLaws
+mod AskingLaws
 mod StoppingLaws
 pub mod Demand1
 pub mod Demand2

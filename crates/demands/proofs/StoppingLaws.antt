@@ -1,7 +1,7 @@
 -- Where a walk stops with 9 the matching cells are more than the room, whatever the allowance; so with ample room only the
 -- allowance stops it. And a list whose numbers rise has each place once.
 use Prim.Native.Nat.{ℕ, zero, suc, _+_, _^_, _≤_, _<_}
-use mathlib.Core.Path.{_≡_, refl, sym, ap, _∙_, subst}
+use mathlib.Core.Path.{_≡_, refl, sym, ap, _∙_}
 use mathlib.Core.Logic.{_⊎_, inl, inr}
 use mathlib.Core.Bool.{Bool, true, false}
 use mathlib.Core.List.{List, [], _∷_, _++_, List·Memᴰ·not-nil, List·Memᴰ·cases-cons}
@@ -15,10 +15,10 @@ use Rattle.search.specs.declared.Window.{Window}
 use Rattle.search.specs.Windows.{east, north, northEast}
 use Rattle.search.specs.Questions.{Question, matches, isKept}
 use Rattle.search.specs.Walk.{Standing, either, unchanged, start, visit}
-use Rattle.search.specs.Answers.{Outcome, gone, ended, Accepted, searchOf, searchFigures, figuresIn}
+use Rattle.search.specs.Answers.{Outcome, gone, Accepted, searchFigures, figuresIn}
 use Rattle.search.specs.Cells.{Rises, matching, matchingIn, visitsIn, Listed, AmpleRoom}
-use Rattle.search.proofs.WalkLaws.{visit-after, visit-out, visit-cell, visit-square, quarters, cell-missed, cell-full, cell-listed}
-use Rattle.search.proofs.AnswerLaws.{ended-out, ended-full, ended-gone, search-walks}
+use Rattle.search.proofs.WalkLaws.{visit-after, visit-out, visit-cell, visit-square, quarters, cell-missed, cell-listed}
+use Rattle.search.proofs.AnswerLaws.{ended-out, search-walks}
 use Rattle.search.proofs.CellLaws.{matching-counted}
 use Rattle.search.proofs.Whole.{going, matching-cell}
 use Rattle.search.proofs.Finished.{finished}
@@ -114,9 +114,6 @@ module _ (q : Question) where
 -- How an accepted search is told, by the stop of its walk.
 abbrev walk : Question → Window → Standing
 walk q w = visit q (w .k) (w .corner) start
-
-told : Outcome → ℕ
-told o = searchFigures (o .answer) .refusal
 
 module _ (q : Question) (w : Window) (a : Accepted q w) where
   stop-10 : walk q w .stop ≡ 10 → figuresIn q w .refusal ≡ 10

@@ -1,19 +1,18 @@
--- The steps of the way from a place over a record back to the place.
+-- What a search with two readings asks, and that the readings of a place pass its tests and find the place.
 use Prim.Native.Nat.{ℕ, _≤_}
-use mathlib.Core.Path.{_≡_, refl, sym, ap, subst₂}
+use mathlib.Core.Path.{_≡_, refl, sym, subst₂}
+use mathlib.Core.Logic.{_↔_}
 use mathlib.Core.Bool.{Bool, true, false, cond}
-use mathlib.Core.List.{List}
-use native.Mathlib.Omega.{arith}
-use borrow.Author.Tests.{le-leb, eq-eqb, eqb-false}
-use lib.Dec.{eqb}
-use lib.IntN.{ℤ, pos, natAbs}
+use borrow.Author.Tests.{leb-true, le-leb, eqb-false}
+use lib.Dec.{leb, eqb}
+use lib.IntN.{ℤ, natAbs}
 use Rattle.chart.specs.declared.Place.{Place}
 use Rattle.chart.specs.declared.Chain.{Chain}
 use Rattle.chart.specs.declared.Expected.the-variants.{Readings, OutOfRange, Unsound}
 use Rattle.chart.specs.Places.{inRange}
 use Rattle.chart.specs.Chains.{isSound}
-use Rattle.chart.specs.Readings.{readingOf, expectedAt}
-use Rattle.chart.proofs.PlaceLaws.{and-both, in-range-says}
+use Rattle.chart.specs.Readings.{readingOf, differ, wantedOf, within, expectedAt}
+use Rattle.chart.proofs.PlaceLaws.{both, and-both}
 use Rattle.search.specs.declared.Window.{Window}
 use Rattle.search.specs.Windows.{isWindow, IsCellIn}
 use Rattle.search.specs.Questions.{Question, questionOf, noneTooLarge}
@@ -21,42 +20,8 @@ use Rattle.search.specs.Answers.{Accepted, searchOf, searchFigures}
 use Rattle.search.specs.Cells.{Listed, AmpleRoom, AmpleAllowance}
 use Rattle.search.proofs.Outcomes.{ending}
 use Rattle.search.proofs.Theorems.{own-readings-found}
-use Rattle.records.specs.declared.Draft.{Draft}
-use Rattle.records.specs.Bytes.{byteAt}
-use Rattle.records.specs.LogRecords.{isPlace}
-use Rattle.records.specs.Writing.{refusalOf, usedOf, recordBytes, bufferOf}
 use Rattle.listing.specs.Answers.{searched, placesOf}
 use Rattle.demands.proofs.NumberLaws.{refused-lists}
-
--- What the writer accepts, by kind.
-pub hyperbolic-accepted : (chain line : ℕ) (a b : ℤ) → 1 ≤ chain → chain ≤ 16 → natAbs a ≤ 1_000_000_000 → natAbs b ≤ 1_000_000_000 →
-    refusalOf 32 (record { kind = 1; chain = chain; line = line; x = a; y = b }) ≡ 0
-unfolding refusalOf
-hyperbolic-accepted chain line a b some few ha hb =
-    rw (le-leb (natAbs a) 1_000_000_000 ha, le-leb (natAbs b) 1_000_000_000 hb, le-leb 1 chain some, le-leb chain 16 few)
-
-pub grid-accepted : (chain line : ℕ) (p : Place) → inRange p ≡ true →
-    refusalOf 32 (record { kind = 2; chain = chain; line = line; x = pos (p .easting); y = pos (p .northing) }) ≡ 0
-unfolding refusalOf isPlace
-grid-accepted chain line p h =
-    let says = in-range-says p h in
-    rw (le-leb (p .easting) 1_000_000_000 (omega arith), le-leb (p .northing) 1_000_000_000 (omega arith), h)
-
-pub hold-accepted : (chain line : ℕ) (x y : ℤ) → refusalOf 32 (record { kind = 3; chain = chain; line = line; x = x; y = y }) ≡ 0
-unfolding refusalOf
-hold-accepted chain line x y = refl
-
--- The bytes of what was accepted are those of the record.
-pub put-down : (d : Draft) → refusalOf 32 d ≡ 0 → bufferOf 32 d ≡ recordBytes (usedOf d)
-unfolding bufferOf
-put-down d e = rw (eq-eqb (refusalOf 32 d) 0 e)
-
--- The chain number of a hyperbolic record stands in byte 1.
-pub chain-byte : (chain line : ℕ) (a b : ℤ) →
-    let d : Draft = record { kind = 1; chain = chain; line = line; x = a; y = b } in
-    refusalOf 32 d ≡ 0 → byteAt (bufferOf 32 d) 1 ≡ chain
-unfolding recordBytes usedOf
-chain-byte chain line a b e = ap (λ (s : List ℕ). byteAt s 1) (put-down _ e)
 
 -- A place that has readings has these, by a sound chain.
 pub own-readings : (c : Chain) (p : Place) (a b : ℤ) → expectedAt c p ≡ Readings a b →
@@ -94,6 +59,18 @@ tests-pass c a b w tolerance allowance entries ha hb sound window few =
       window = window;
       tolerance = few;
     }
+
+-- Matching two readings, reading by reading.
+pub both-differ : (t : ℕ) (c : Chain) (a b : ℤ) (o : Place) →
+    within t c (wantedOf c a b) o ≡ true ↔ ((differ (readingOf c (c .a) o) a ≤ t) × (differ (readingOf c (c .b) o) b ≤ t))
+unfolding within
+both-differ t c a b o = (
+  (λ e.
+      let first = both (leb (differ (readingOf c (c .a) o) a) t) _ e in
+      let second = both (leb (differ (readingOf c (c .b) o) b) t) true (first .1) in
+      (leb-true _ _ (first .0), leb-true _ _ (second .0))),
+  (λ h. and-both (le-leb _ _ (h .0)) (and-both (le-leb _ _ (h .1)) refl)),
+)
 
 -- What a record answers lists what its search lists.
 pub fix-places : (q : Question) (w : Window) → placesOf (searched (searchOf q w)) ≡ searchOf q w .places

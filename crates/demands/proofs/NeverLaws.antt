@@ -1,0 +1,135 @@
+-- No refusal has the number 0: the tests leave answers that refuse by another number, or do not refuse.
+use Prim.Native.Nat.{ℕ, _-_, _*_}
+use mathlib.Core.Path.{_≡_, refl}
+use mathlib.Core.Bool.{Bool, true, false, cond, _&&_}
+use mathlib.Core.List.{List}
+use native.Mathlib.Omega.{arith}
+use borrow.Author.Tests.{eqb-false}
+use lib.Dec.{leb, eqb}
+use lib.IntN.{ℤ}
+use lib.ListN.{length}
+use Rattle.metres.specs.declared.Whole.{Whole}
+use Rattle.metres.specs.declared.Whole.the-variants as whole
+use Rattle.metres.specs.Metres.{centimetresOf}
+use Rattle.chart.specs.Chains.{isSound}
+use Rattle.search.specs.Windows.{isWindow}
+use Rattle.search.specs.Questions.{mostTolerance}
+use Rattle.search.specs.declared.SearchFigures.{SearchFigures}
+use Rattle.search.specs.Answers.{Outcome, searchFigures}
+use Rattle.records.specs.declared.RawAnswer.the-variants as raw
+use Rattle.records.specs.declared.LogRecord.{LogRecord}
+use Rattle.records.specs.declared.LogRecord.the-variants as log
+use Rattle.records.specs.declared.LogEntry.{LogEntry}
+use Rattle.records.specs.declared.LogEntry.the-variants as entry
+use Rattle.records.specs.declared.ChainCount.the-variants as count
+use Rattle.records.specs.declared.NamedChain.{NamedChain}
+use Rattle.records.specs.declared.NamedChain.the-variants as named
+use Rattle.records.specs.declared.Job.{Job}
+use Rattle.records.specs.declared.JobAnswer.the-variants as job
+use Rattle.records.specs.Bytes.{areZero, unless}
+use Rattle.records.specs.LogRecords.{logBytes, rawRecordOf, isHyperbolic, isGrid, isHold, logRecordOf, isPlace, placed, withBoth, inCentimetres, logEntryOf}
+use Rattle.records.specs.ChainTables.{chainBytes, oneTo, chainsIn, isTable, chainCountOf, chainAt, chainOf}
+use Rattle.records.specs.Jobs.{jobBytes, jobIn, jobOf}
+use Rattle.listing.specs.declared.Carried.{Carried}
+use Rattle.listing.specs.declared.Carried.the-variants as carried
+use Rattle.listing.specs.Answers.{Fix, Refused, searched, fixBy, holdOf, answerBy}
+
+-- An answer is not this one.
+abbrev Not : {A : Type 0} → A → A → Type 0
+Not zero a = a ≡ zero → ⊥
+
+-- What holds of both ways that a test leaves holds after it.
+either : {A : Type 0} (P : A → Type 0) (t : Bool) {x y : A} → P x → P y → P (unless t x y)
+either P true h k = k
+either P false h k = h
+
+either-kind : {A : Type 0} (P : A → Type 0) (t : Bool) {x y : A} → P x → P y → P (cond t x y)
+either-kind P true h k = h
+either-kind P false h k = k
+
+-- Two ends that differ.
+absurd-equal : _≡_ {A = ℕ} 0 1 → ⊥
+absurd-equal e = omega (arith, e)
+
+pub raw-never : (s : List ℕ) → rawRecordOf s ≡ raw.Refused 0 → ⊥
+unfolding rawRecordOf
+raw-never s = either (Not (raw.Refused 0)) (eqb (length s) logBytes) (λ e. absurd-equal cc) (λ e. absurd-equal cc)
+
+pub log-never : (s : List ℕ) → logRecordOf s ≡ log.Refused 0 → ⊥
+unfolding logRecordOf
+log-never s =
+    let never = Not (log.Refused 0) in
+    either never (eqb (length s) logBytes) (λ e. absurd-equal cc)
+    (either-kind never (isHyperbolic s) (λ e. absurd-equal cc)
+    (either-kind never (isGrid s) (λ e. absurd-equal cc)
+    (either-kind never (isHold s) (λ e. absurd-equal cc) (λ e. absurd-equal cc))))
+
+both-never : (give : ℤ → ℤ → LogEntry) (x y : Whole) → ((a b : ℤ) → give a b ≡ entry.Refused 0 → ⊥) → withBoth give x y ≡ entry.Refused 0 → ⊥
+both-never give (whole.Centimetres x) (whole.Centimetres y) h e = h x y e
+both-never give (whole.Centimetres x) whole.Refused h e = absurd-equal cc
+both-never give whole.Refused y h e = absurd-equal cc
+
+placed-never : (e n : ℤ) → placed e n ≡ entry.Refused 0 → ⊥
+unfolding placed
+placed-never e n = either (Not (entry.Refused 0)) (isPlace e n) (λ e. absurd-equal cc) (λ e. absurd-equal cc)
+
+in-never : (r : LogRecord) → (r ≡ log.Refused 0 → ⊥) → inCentimetres r ≡ entry.Refused 0 → ⊥
+unfolding inCentimetres
+in-never (log.Hyperbolic a b) h e = both-never entry.Readings (centimetresOf a) (centimetresOf b) (λ x y e. absurd-equal cc) e
+in-never (log.Grid a b) h e = both-never placed (centimetresOf a) (centimetresOf b) placed-never e
+in-never log.Hold h e = absurd-equal cc
+in-never (log.Refused number) h e = h cc
+
+pub entry-never : (s : List ℕ) → logEntryOf s ≡ entry.Refused 0 → ⊥
+unfolding logEntryOf
+entry-never s = in-never (logRecordOf s) (log-never s)
+
+pub count-never : (s : List ℕ) → chainCountOf s ≡ count.Refused 0 → ⊥
+unfolding chainCountOf
+count-never s = either (Not (count.Refused 0)) (isTable s) (λ e. absurd-equal cc) (λ e. absurd-equal cc)
+
+pub chain-never : (s : List ℕ) (number : ℕ) → chainOf s number ≡ named.Refused 0 → ⊥
+unfolding chainOf
+chain-never s number =
+    let never = Not (named.Refused 0) in
+    either never (isTable s) (λ e. absurd-equal cc)
+    (either never (oneTo (chainsIn s) number) (λ e. absurd-equal cc)
+    (either never (isSound (chainAt s (chainBytes * (number - 1)))) (λ e. absurd-equal cc) (λ e. absurd-equal cc)))
+
+pub job-never : (s : List ℕ) → jobOf s ≡ job.Refused 0 → ⊥
+unfolding jobOf
+job-never s =
+    let never = Not (job.Refused 0) in
+    either never (eqb (length s) jobBytes) (λ e. absurd-equal cc)
+    (either never (areZero 3 s 9 && areZero 8 s 24) (λ e. absurd-equal cc)
+    (either never (isWindow (jobIn s .window)) (λ e. absurd-equal cc)
+    (either never (leb (jobIn s .tolerance) mostTolerance) (λ e. absurd-equal cc) (λ e. absurd-equal cc))))
+
+module _ (visits : ℕ) where
+  searched-never : (o : Outcome) → searched o ≡ Refused 0 visits → ⊥
+  unfolding searched
+  searched-never o = go (eqb (f .refusal) 0) refl
+    where
+      f : SearchFigures
+      f = searchFigures (o .answer)
+
+      go : (t : Bool) → eqb (f .refusal) 0 ≡ t → cond t (Fix (f .visits) (o .places)) (Refused (f .refusal) (f .visits)) ≡ Refused 0 visits → ⊥
+      go true t e = absurd-equal cc
+      go false t e = eqb-false (f .refusal) 0 t cc
+
+  hold-never : (before : Carried) → holdOf before ≡ Refused 0 visits → ⊥
+  unfolding holdOf
+  hold-never (carried.Place p) e = absurd-equal cc
+  hold-never carried.Nothing e = absurd-equal cc
+
+  fix-never : (j : Job) (a b : ℤ) (chain : NamedChain) → (chain ≡ named.Refused 0 → ⊥) → fixBy j a b chain ≡ Refused 0 visits → ⊥
+  unfolding fixBy
+  fix-never j a b (named.Chain c) h e = searched-never _ e
+  fix-never j a b (named.Refused number) h e = h cc
+
+  pub answer-never : (j : Job) (chain : NamedChain) (before : Carried) (said : LogEntry) → (chain ≡ named.Refused 0 → ⊥) → (said ≡ entry.Refused 0 → ⊥) → answerBy j chain before said ≡ Refused 0 visits → ⊥
+  unfolding answerBy
+  answer-never j chain before (entry.Readings a b) h k e = fix-never j a b chain h e
+  answer-never j chain before (entry.Place p) h k e = absurd-equal cc
+  answer-never j chain before entry.Hold h k e = hold-never before e
+  answer-never j chain before (entry.Refused number) h k e = k cc
