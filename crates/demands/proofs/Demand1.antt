@@ -3,7 +3,8 @@
 -- Every public function takes any content, is proved to return, and answers by one definition: so the work ends. Here stands
 -- what the definitions answer: `NoneOr numbers` says no refusal, which is 0, or one of these numbers, and no other.
 use Prim.Native.Nat.{ℕ, _-_, _*_, _≤_}
-use mathlib.Core.Path.{_≡_, refl, ap, _∙_}
+use mathlib.Core.Path.{_≡_, refl, ap, _∙_, subst}
+use mathlib.Core.Bool.{true}
 use mathlib.Core.List.{List, [], _∷_, _++_}
 use native.Mathlib.Omega.{arith}
 use lib.IntN.{ℤ, pos}
@@ -21,9 +22,11 @@ use Rattle.search.proofs.Theorems.{listed-are-counted, visits-in-allowance}
 use Rattle.records.specs.declared.RawAnswer.the-variants as raw
 use Rattle.records.specs.declared.LogRecord.the-variants as log
 use Rattle.records.specs.declared.LogEntry.the-variants as entry
+use Rattle.records.specs.declared.ChainCount.{ChainCount}
 use Rattle.records.specs.declared.ChainCount.the-variants as count
 use Rattle.records.specs.declared.NamedChain.the-variants as named
 use Rattle.records.specs.declared.Job.{Job}
+use Rattle.records.specs.declared.JobAnswer.{JobAnswer}
 use Rattle.records.specs.declared.JobAnswer.the-variants as answer
 use Rattle.records.specs.declared.Draft.{Draft}
 use Rattle.records.specs.Bytes.{byteAt}
@@ -31,13 +34,15 @@ use Rattle.records.specs.LogRecords.{rawRecordOf, logRecordOf, logEntryOf}
 use Rattle.records.specs.ChainTables.{chainCountOf, chainOf}
 use Rattle.records.specs.Jobs.{jobOf}
 use Rattle.records.specs.Writing.{refusalOf, bufferOf}
-use Rattle.records.specs.Refusals.{rawRefusal, logRefusal, entryRefusal, countRefusal, chainRefusal, jobRefusal}
+use Rattle.records.specs.Refusals.{rawRefusal, logRefusal, entryRefusal, countRefusal, chainRefusal, jobRefusal, isAmong}
 use Rattle.records.proofs.Theorems.{raw-refusals, log-refusals, entry-refusals, count-refusals, chain-refusals, job-refusals, write-refusals, refused-write-zeros}
 use Rattle.listing.specs.declared.Carried.{Carried}
 use Rattle.listing.specs.Answers.{Refused, answerOf}
-use Rattle.listing.specs.Listings.{Part, hasRoom, listedIn, bufferWith}
+use Rattle.listing.specs.Texts.{spaced, bytesIn}
+use Rattle.listing.specs.Listings.{Part, listingOf, hasRoom, listedIn, bufferWith}
+use Rattle.listing.proofs.Theorems.{job-first, then-chain}
 use Rattle.demands.specs.Numbers.{recordRefusal, listedRefusal, NoneOr, Refuses, Leaves}
-use Rattle.demands.proofs.NumberLaws.{whole-number, length-number, readings-number, listed-number, search-number, refused-lists, refused-early, answered-lists, room-kept, list-length, job-good, answer-number}
+use Rattle.demands.proofs.NumberLaws.{some-number, whole-number, length-number, readings-number, listed-number, search-number, refused-lists, refused-early, answered-lists, room-kept, list-length, job-good, answer-number}
 use Rattle.demands.proofs.NeverLaws.{raw-never, log-never, entry-never, count-never, chain-never, job-never, answer-never}
 
 -- A number of metres gets its centimetres, or 3 and then 0 centimetres.
@@ -142,6 +147,28 @@ no-refusal-is-0 s table number visits j before = (
   chain-never s number,
   job-never s,
   answer-never visits j (chainOf table (byteAt s 1)) before (logEntryOf s) (chain-never table (byteAt s 1)) (entry-never s),
+)
+
+-- A refused job prints `JOB REFUSED` and its number, 1, 2, 6 or 7, and nothing else; then a refused table prints
+-- `CHAIN REFUSED` and 1.
+pub job-refused : (job table log : List ℕ) (number : ℕ) → jobOf job ≡ answer.Refused number →
+    (isAmong number (1 ∷ 2 ∷ 6 ∷ 7 ∷ []) ≡ true)
+    × (listingOf job table log ≡ bytesIn "JOB REFUSED" ++ (spaced number ++ bytesIn "\n"))
+unfolding jobRefusal
+job-refused job table log number e = (
+  some-number number (1 ∷ 2 ∷ 6 ∷ 7 ∷ []) (subst (λ (a : JobAnswer). NoneOr (1 ∷ 2 ∷ 6 ∷ 7 ∷ []) (jobRefusal a)) e (job-refusals job))
+      (λ z. job-never job (e ∙ ap answer.Refused z)),
+  job-first job table log number e,
+)
+
+pub table-refused : (job table log : List ℕ) (j : Job) (number : ℕ) → jobOf job ≡ answer.Job j → chainCountOf table ≡ count.Refused number →
+    (isAmong number (1 ∷ []) ≡ true)
+    × (listingOf job table log ≡ bytesIn "CHAIN REFUSED" ++ (spaced number ++ bytesIn "\n"))
+unfolding countRefusal
+table-refused job table log j number good e = (
+  some-number number (1 ∷ []) (subst (λ (a : ChainCount). NoneOr (1 ∷ []) (countRefusal a)) e (count-refusals table))
+      (λ z. count-never table (e ∙ ap count.Refused z)),
+  then-chain job table log j number good e,
 )
 
 -- A listing is put into a buffer, or gets 9 where the buffer has too little room and then stays as it was.

@@ -7,6 +7,7 @@ use mathlib.Core.Path.{_≡_, refl}
 use mathlib.Core.Logic.{_↔_}
 use mathlib.Core.Bool.{true, false}
 use mathlib.Core.List.{List, []}
+use native.Mathlib.Nat.{le-trans}
 use lib.IntN.{ℤ, natAbs}
 use lib.ListN.{length}
 use Rattle.chart.specs.declared.Place.{Place}
@@ -23,7 +24,7 @@ use Rattle.search.proofs.Dropping.{dropped-none}
 use Rattle.search.proofs.Theorems.{listed-iff-matches, numbers-rise, only-list, eight-only-then, eight-when-none, visits-are-counted, places-are-counted, listed-are-counted, always-enough, nine-when-short, nine-only-then, visits-in-allowance}
 use Rattle.demands.specs.Finding.{Enough, EachOnce, IsTheList}
 use Rattle.demands.proofs.AskingLaws.{tests-pass, both-differ}
-use Rattle.demands.proofs.StoppingLaws.{rising-once, ten-when-short, ten-only-then, ten-at-once}
+use Rattle.demands.proofs.StoppingLaws.{rising-once, matching-few, ten-when-short, ten-only-then, ten-at-once}
 
 -- The list of a search holds every cell of the window that matches, and no other, each once, in chart order.
 pub exactly-the-matching-cells : (q : Question) (w : Window) → Enough q w → IsTheList q w (searchOf q w .places)
@@ -68,6 +69,10 @@ visits-by-the-rule q k p = (refl, (λ e. (visits-dropped q k p e, dropped-none q
 -- An allowance of (4^(k+1) - 1)/3 is always enough.
 pub greatest-allowance : (q : Question) (w : Window) → (4 ^ (w .k + 1) - 1) / 3 ≤ q .allowance → visitsIn q w ≤ q .allowance
 greatest-allowance q w h = always-enough q w h
+
+-- Room for 4^k places is always enough too.
+pub greatest-room : (q : Question) (w : Window) → 4 ^ w .k ≤ q .room → length (matchingIn q w) ≤ q .room
+greatest-room q w h = le-trans (matching-few q (w .k) (w .corner)) h
 
 -- 8, "no fix", is answered exactly when no cell of the window matches.
 pub no-fix : (q : Question) (w : Window) → Accepted q w → AmpleAllowance q w →

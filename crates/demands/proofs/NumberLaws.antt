@@ -4,7 +4,7 @@ use mathlib.Core.Path.{_≡_, refl, _∙_, subst, subst⁻¹}
 use mathlib.Core.Bool.{Bool, true, false, cond, _&&_, _||_, false≢true}
 use mathlib.Core.List.{List, [], _∷_}
 use native.Mathlib.Omega.{arith}
-use borrow.Author.Tests.{eqb-true}
+use borrow.Author.Tests.{eqb-true, ne-eqb}
 use lib.Dec.{leb, eqb}
 use lib.IntN.{ℤ, pos}
 use lib.ListN.{length, replicate, length-append, length-replicate}
@@ -60,6 +60,11 @@ wider n (m ∷ ms) many all h =
     go : (b : Bool) → eqb n m ≡ b → (b || isAmong n ms) ≡ true → isAmong m many ≡ true → (isAmong n ms ≡ true → isAmong n many ≡ true) → isAmong n many ≡ true
     go true e h is rest = subst⁻¹ (λ (x : ℕ). isAmong x many ≡ true) (eqb-true n m e) is
     go false e h is rest = rest h
+
+-- A number that refuses is one of the others.
+pub some-number : (n : ℕ) (numbers : List ℕ) → NoneOr numbers n → Refuses n → isAmong n numbers ≡ true
+unfolding isAmong
+some-number n numbers h r = subst (λ (b : Bool). (b || isAmong n numbers) ≡ true) (ne-eqb n 0 r) h
 
 -- Both answers of metres, and the readings at a place: the number, and what stands beside a refusal.
 pub whole-number : (a : Whole) → NoneOr (3 ∷ []) (wholeFigures a .refusal) × (Refuses (wholeFigures a .refusal) → wholeFigures a .centimetres ≡ pos 0)

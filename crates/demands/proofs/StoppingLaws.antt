@@ -1,12 +1,12 @@
 -- Where a walk stops with 9 the matching cells are more than the room, whatever the allowance; so with ample room only the
--- allowance stops it. And a list whose numbers rise has each place once.
+-- allowance stops it. A list whose numbers rise has each place once, and no square has more matching cells than cells.
 use Prim.Native.Nat.{ℕ, zero, suc, _+_, _^_, _≤_, _<_}
 use mathlib.Core.Path.{_≡_, refl, sym, ap, _∙_}
 use mathlib.Core.Logic.{_⊎_, inl, inr}
 use mathlib.Core.Bool.{Bool, true, false}
 use mathlib.Core.List.{List, [], _∷_, _++_, List·Memᴰ·not-nil, List·Memᴰ·cases-cons}
 use native.Mathlib.Omega.{arith}
-use native.Mathlib.Nat.{lt-of-not-le}
+use native.Mathlib.Nat.{lt-of-not-le, pow-succ'}
 use native.Mathlib.Decide.{decLe, ℕ-discrete}
 use borrow.Author.Tests.{eqb-false}
 use lib.ListN.{length, length-append}
@@ -16,7 +16,7 @@ use Rattle.search.specs.Windows.{east, north, northEast}
 use Rattle.search.specs.Questions.{Question, matches, isKept}
 use Rattle.search.specs.Walk.{Standing, either, unchanged, start, visit}
 use Rattle.search.specs.Answers.{Outcome, gone, Accepted, searchFigures, figuresIn}
-use Rattle.search.specs.Cells.{Rises, matching, matchingIn, visitsIn, Listed, AmpleRoom}
+use Rattle.search.specs.Cells.{Rises, cells, ifSo, those, matching, matchingIn, visitsIn, Listed, AmpleRoom}
 use Rattle.search.proofs.WalkLaws.{visit-after, visit-out, visit-cell, visit-square, quarters, cell-missed, cell-listed}
 use Rattle.search.proofs.AnswerLaws.{ended-out, search-walks}
 use Rattle.search.proofs.CellLaws.{matching-counted}
@@ -147,3 +147,27 @@ module _ (q : Question) (w : Window) (a : Accepted q w) where
   -- With no allowance at all it is answered before anything else.
   pub ten-at-once : q .allowance ≡ 0 → figuresIn q w .refusal ≡ 10
   ten-at-once none = stop-10 (ap (λ (s : Standing). s .stop) (visit-out q (w .k) (w .corner) start refl (omega arith)))
+
+-- A square of side 2 ^ k has 4 ^ k cells, and no more of them match.
+cells-counted : (k : ℕ) (p : Place) → length (cells k p) ≡ 4 ^ k
+unfolding cells
+cells-counted zero p = refl
+cells-counted (suc k) p =
+    let se : Place = east (2 ^ k) p in
+    let nw : Place = north (2 ^ k) p in
+    let ne : Place = northEast (2 ^ k) p in
+    let sum : length (cells k p ++ (cells k se ++ (cells k nw ++ cells k ne))) ≡ length (cells k p) + (length (cells k se) + (length (cells k nw) + length (cells k ne))) = simp length-append in
+    omega (arith, sum, cells-counted k p, cells-counted k se, cells-counted k nw, cells-counted k ne, pow-succ' 4 k)
+
+those-fewer : (test : Place → Bool) (l : List Place) → length (those test l) ≤ length l
+unfolding those
+those-fewer test [] = omega arith
+those-fewer test (p ∷ l) = go (test p) (those-fewer test l)
+  where
+    go : (b : Bool) → length (those test l) ≤ length l → length (ifSo b p (those test l)) ≤ length (p ∷ l)
+    go true h = omega arith
+    go false h = omega arith
+
+pub matching-few : (q : Question) (k : ℕ) (p : Place) → length (matching q k p) ≤ 4 ^ k
+unfolding matching
+matching-few q k p = omega (arith, those-fewer (matches q) (cells k p), cells-counted k p)
