@@ -2,7 +2,7 @@
 -- the places that the rule allows. Metres in the log are read by IEEE 754 and rounded as 01 says; centimetres written out read
 -- back the same.
 use Prim.Native.Nat.{ℕ, _+_, _-_, _*_, _/_, _^_, _≤_, _<_}
-use mathlib.Core.Path.{_≡_, subst⁻¹}
+use mathlib.Core.Path.{_≡_, ap, subst⁻¹}
 use mathlib.Core.Logic.{_↔_}
 use mathlib.Core.Bool.{true, false}
 use mathlib.Core.List.{List}
@@ -19,14 +19,14 @@ use Rattle.metres.specs.Metres.{centimetresOf, hundredthOf, metresOf}
 use Rattle.metres.specs.Nearest.{MayAnswer}
 use Rattle.metres.specs.Patterns.{numberOf, patternOf}
 use Rattle.metres.proofs.Answers.{answers, answers-only}
-use Rattle.metres.proofs.Back.{written, hundredth-back}
+use Rattle.metres.proofs.Back.{written, not-written, hundredth-back}
 use Rattle.metres.proofs.PatternLaws.{number-back}
 use Rattle.chart.specs.declared.Place.{Place}
 use Rattle.chart.specs.declared.Chain.{Chain}
-use Rattle.chart.specs.declared.Expected.the-variants.{Readings, OutOfRange, Unsound}
+use Rattle.chart.specs.declared.Expected.the-variants.{Readings}
 use Rattle.chart.specs.Places.{inRange, squaredDistance, distanceOf}
 use Rattle.chart.specs.Chains.{isSound}
-use Rattle.chart.specs.Readings.{rangeOf, readingOf, expectedAt}
+use Rattle.chart.specs.Readings.{rangeOf, readingOf, expectedAt, figuresOf}
 use Rattle.chart.proofs.ReadingLaws.{expected-out, expected-unsound, expected-readings}
 use Rattle.search.specs.declared.Window.{Window}
 use Rattle.search.specs.Windows.{isWindow, IsCellIn}
@@ -68,17 +68,22 @@ distance-is-root p q = (
 -- and for B, each distance cut to a whole number first. A place out of range gets 4, whatever the chain; then an unsound
 -- chain gets 5.
 pub readings-are-differences : (c : Chain) (p : Place) →
-    (inRange p ≡ true → isSound c ≡ true → expectedAt c p
-    ≡ Readings (subℕ (distanceOf p (c .a)) (distanceOf p (c .master))) (subℕ (distanceOf p (c .b)) (distanceOf p (c .master))))
-    × (inRange p ≡ false → expectedAt c p ≡ OutOfRange)
-    × (inRange p ≡ true → isSound c ≡ false → expectedAt c p ≡ Unsound)
-unfolding readingOf rangeOf
-readings-are-differences c p = (expected-readings c p, expected-out c p, expected-unsound c p)
+    let f = figuresOf (expectedAt c p) in
+    let m = distanceOf p (c .master) in
+    (inRange p ≡ true → isSound c ≡ true → f ≡ record { refusal = 0; a = subℕ (distanceOf p (c .a)) m; b = subℕ (distanceOf p (c .b)) m })
+    × (inRange p ≡ false → f ≡ record { refusal = 4; a = pos 0; b = pos 0 })
+    × (inRange p ≡ true → isSound c ≡ false → f ≡ record { refusal = 5; a = pos 0; b = pos 0 })
+unfolding figuresOf readingOf rangeOf
+readings-are-differences c p = (
+  (λ in-range sound. ap figuresOf (expected-readings c p in-range sound)),
+  (λ out. ap figuresOf (expected-out c p out)),
+  (λ in-range unsound. ap figuresOf (expected-unsound c p in-range unsound)),
+)
 
 -- A number of metres is answered by the whole number of centimetres nearest to exactly 100 times the number, a tie going to
 -- the even one, and is refused where it is NaN, infinite or larger than 10,000,000 in size; and by nothing else. `MayAnswer`
 -- says this without a way to find the number.
-pub metres-are-rounded : (x : Float) (answer : Whole) → answer ≡ centimetresOf x ↔ MayAnswer x answer
+pub metres-are-rounded : (x : Float) (answer : Whole) → (answer ≡ centimetresOf x) ↔ MayAnswer x answer
 metres-are-rounded x answer = ((λ e. subst⁻¹ (MayAnswer x) e (answers x)), answers-only x answer)
 
 -- All 2,000,000,001 numbers of centimetres from -1,000,000,000 to 1,000,000,000 are written as one rounded quotient by 100, and
@@ -88,6 +93,10 @@ pub centimetres-there-and-back : (z : ℤ) → natAbs z ≤ 1_000_000_000 →
     (metresOf z ≡ metres.Metres x) × (centimetresOf x ≡ whole.Centimetres z)
 unfolding hundredthOf
 centimetres-there-and-back z h = (written z h, hundredth-back z h)
+
+-- Any other number of centimetres is refused.
+pub centimetres-beyond : (z : ℤ) → 1_000_000_000 < natAbs z → metresOf z ≡ metres.Refused
+centimetres-beyond z h = not-written z h
 
 -- A binary64 number comes back from the pattern of its eight bytes.
 pub number-there-and-back : (x : Float) → T (fits binary64 x) → numberOf (patternOf x) ≡ x

@@ -39,7 +39,7 @@ exactly-the-matching-cells q w e =
 
 -- That a cell matches two readings says that both of its differences are within the tolerance.
 pub matching-means : (c : Chain) (a b : ℤ) (tolerance allowance entries : ℕ) (o : Place) →
-    matches (questionOf c a b tolerance allowance entries) o ≡ true
+    (matches (questionOf c a b tolerance allowance entries) o ≡ true)
     ↔ ((differ (readingOf c (c .a) o) a ≤ tolerance) × (differ (readingOf c (c .b) o) b ≤ tolerance))
 matching-means c a b tolerance allowance entries o = both-differ tolerance c a b o
 
@@ -76,18 +76,19 @@ greatest-room q w h = le-trans (matching-few q (w .k) (w .corner)) h
 
 -- 8, "no fix", is answered exactly when no cell of the window matches.
 pub no-fix : (q : Question) (w : Window) → Accepted q w → AmpleAllowance q w →
-    figuresIn q w .refusal ≡ 8 ↔ ((o : Place) → IsCellIn w o → matches q o ≡ false)
+    (figuresIn q w .refusal ≡ 8) ↔ ((o : Place) → IsCellIn w o → matches q o ≡ false)
 no-fix q w a enough = (eight-only-then q w, eight-when-none q w a enough)
 
 -- 9 is answered, where the allowance is ample, exactly when more cells match than there is room for.
 pub no-room : (q : Question) (w : Window) → Accepted q w → AmpleAllowance q w →
-    figuresIn q w .refusal ≡ 9 ↔ (q .room < length (matchingIn q w))
+    (figuresIn q w .refusal ≡ 9) ↔ (q .room < length (matchingIn q w))
 no-room q w a enough = (nine-only-then q w a enough, nine-when-short q w a enough)
 
 -- 10 is answered, where the room is ample, exactly when the rule counts more visits than are allowed; and then the visits made
 -- are exactly the allowance.
 pub allowance-used-up : (q : Question) (w : Window) → Accepted q w → AmpleRoom q w →
-    (figuresIn q w .refusal ≡ 10 ↔ (q .allowance < visitsIn q w)) × (figuresIn q w .refusal ≡ 10 → figuresIn q w .visits ≡ q .allowance)
+    ((figuresIn q w .refusal ≡ 10) ↔ (q .allowance < visitsIn q w))
+    × (figuresIn q w .refusal ≡ 10 → figuresIn q w .visits ≡ q .allowance)
 allowance-used-up q w a room = ((ten-only-then q w a room, ten-when-short q w a room), visits-in-allowance q w .1)
 
 -- Without any allowance the answer is 10, whatever the room.

@@ -87,8 +87,8 @@ theReadings a b = readings (record { refusal = 0; a = a; b = b })
 abbrev pub thePlaces : List Place → ℕ → Answered
 thePlaces ps visits = searched (record { refusal = 0; count = length ps; visits = visits }) ps
 
-abbrev pub refusal : ℕ → ℕ → Answered
-refusal number visits = searched (record { refusal = number; count = 0; visits = visits }) []
+abbrev pub theRefusal : ℕ → ℕ → Answered
+theRefusal number visits = searched (record { refusal = number; count = 0; visits = visits }) []
 
 abbrev pub theCentimetres : ℤ → Answered
 theCentimetres z = centimetres (record { refusal = 0; centimetres = z })
@@ -104,11 +104,11 @@ table =
     ∷ case "P3" (readingsAt (at 30_000 40_001)) (theReadings (minus 9_999) (minus 20_000))
     ∷ case "P4" (search corner 1 0 rA rB ample ample) (thePlaces (at 30_000 40_000 ∷ at 30_001 40_001 ∷ []) 5)
     ∷ case "P5" (search corner 1 1 rA rB ample ample) (thePlaces (at 30_000 40_000 ∷ at 30_001 40_000 ∷ at 30_000 40_001 ∷ at 30_001 40_001 ∷ []) 5)
-    ∷ case "P6" (search corner 1 0 rA rB 1 ample) (refusal 9 5)
-    ∷ case "P7" (search corner 1 0 rA rB ample 4) (refusal 10 4)
-    ∷ case "P7, with room 1 as well" (search corner 1 0 rA rB 1 4) (refusal 10 4)
-    ∷ case "P8" (search (at 30_001 40_000) 0 0 rA rB ample ample) (refusal 8 1)
-    ∷ case "P9" (search corner 1 0 (pos 0) (pos 0) ample ample) (refusal 8 1)
+    ∷ case "P6" (search corner 1 0 rA rB 1 ample) (theRefusal 9 5)
+    ∷ case "P7" (search corner 1 0 rA rB ample 4) (theRefusal 10 4)
+    ∷ case "P7, with room 1 as well" (search corner 1 0 rA rB 1 4) (theRefusal 10 4)
+    ∷ case "P8" (search (at 30_001 40_000) 0 0 rA rB ample ample) (theRefusal 8 1)
+    ∷ case "P9" (search corner 1 0 (pos 0) (pos 0) ample ample) (theRefusal 8 1)
     ∷ case "P10, 0.125" (centimetresIn (thousandths (pos 125))) (theCentimetres (pos 12))
     ∷ case "P10, 0.375" (centimetresIn (thousandths (pos 375))) (theCentimetres (pos 38))
     ∷ case "P10, -0.125" (centimetresIn (thousandths (minus 125))) (theCentimetres (minus 12))
