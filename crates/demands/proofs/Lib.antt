@@ -8,3 +8,5 @@ pub mod Demand1
 pub mod Demand2
 pub mod Demand3
 pub mod Cases
+mod OnlyLaws
+pub mod OnlyAnswers
