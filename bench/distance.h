@@ -1,0 +1,20 @@
+// Places, and the distance of two of them by the processor's square root.
+#include <math.h>
+#include <stdint.h>
+
+typedef struct {
+    int64_t easting, northing;
+} Place;
+
+// The whole part of the root. Just below a perfect square the root of a double is one too large, so it is put right.
+static int64_t whole_root(int64_t n) {
+    int64_t r = (int64_t)sqrt((double)n);
+    while (r * r > n) r--;
+    while ((r + 1) * (r + 1) <= n) r++;
+    return r;
+}
+
+static int64_t distance(Place p, Place q) {
+    int64_t e = p.easting - q.easting, n = p.northing - q.northing;
+    return whole_root(e * e + n * n);
+}

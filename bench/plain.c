@@ -1,0 +1,237 @@
+// Lists a lay log in the plain way: the measure that the bench holds the other programs against.
+//     cc -O2 -o target/bench/plain bench/plain.c -lm && target/bench/plain FOLDER
+// It prints what laylist prints of the folder, or of the one it is run in. Each visit takes three roots.
+#include <inttypes.h>
+#include <stdbool.h>
+#include <stdio.h>
+#include <stdlib.h>
+#include <string.h>
+
+#include "distance.h"
+
+enum { ROOM = 256, LOG_RECORD = 32, CHAIN_RECORD = 24, JOB_RECORD = 32, MOST_CHAINS = 16 };
+enum { MOST_EASTING = 100000000, MOST_NORTHING = 1000000000, MOST_EXPONENT = 24, MOST_TOLERANCE = 100000 };
+enum { HYPERBOLIC = 1, GRID = 2, HOLD = 3 };
+
+typedef struct {
+    uint8_t *bytes;
+    size_t length;
+} File;
+
+typedef struct {
+    Place master, a, b;
+} Chain;
+
+typedef struct {
+    Place corner;
+    int k;
+    int64_t tolerance;
+    uint64_t allowance;
+} Job;
+
+// A search: what it goes by, and how far it is.
+typedef struct {
+    Chain chain;
+    int64_t a, b, tolerance;
+    uint64_t allowance, visits;
+    int refusal, count;
+    Place places[ROOM];
+} Search;
+
+static uint64_t number(const uint8_t *bytes, int width) {
+    uint64_t n = 0;
+    for (int i = width - 1; i >= 0; i--) n = n << 8 | bytes[i];
+    return n;
+}
+
+static bool zeros(const uint8_t *bytes, int width) { return number(bytes, width) == 0; }
+
+static Place place_at(const uint8_t *bytes) {
+    return (Place){(int64_t)number(bytes, 4), (int64_t)number(bytes + 4, 4)};
+}
+
+static bool in_range(Place p) {
+    return p.easting >= 0 && p.easting <= MOST_EASTING && p.northing >= 0 && p.northing <= MOST_NORTHING;
+}
+
+static bool same(Place p, Place q) { return p.easting == q.easting && p.northing == q.northing; }
+
+static bool sound(Chain c) {
+    if (!in_range(c.master) || !in_range(c.a) || !in_range(c.b)) return false;
+    return !same(c.master, c.a) && !same(c.master, c.b) && !same(c.a, c.b);
+}
+
+// Metres to the nearest centimetre, a tie to the even one; false for what is no number or too large. A double's 53 digits
+// times 100 fit 64, so the product is exact and rounded once.
+static bool centimetres(const uint8_t *bytes, int64_t *answer) {
+    uint64_t bits = number(bytes, 8);
+    double metres;
+    memcpy(&metres, &bits, sizeof metres);
+    if (!(fabs(metres) <= 10000000.0)) return false;
+    int exponent;
+    uint64_t digits = (uint64_t)ldexp(frexp(fabs(metres), &exponent), 53) * 100;
+    int shift = 53 - exponent;
+    int64_t size = 0;
+    if (shift < 63) {
+        uint64_t half = (uint64_t)1 << (shift - 1), rest = digits & (2 * half - 1);
+        size = (int64_t)(digits >> shift);
+        if (rest > half || (rest == half && size % 2 == 1)) size++;
+    }
+    *answer = metres < 0 ? -size : size;
+    return true;
+}
+
+// Whether both readings at a place are as wanted, give or take slack.
+static bool matches(const Search *s, Place p, int64_t slack) {
+    int64_t master = distance(p, s->chain.master);
+    int64_t a = distance(p, s->chain.a) - master, b = distance(p, s->chain.b) - master;
+    return llabs(a - s->a) <= slack && llabs(b - s->b) <= slack;
+}
+
+static void visit(Search *s, Place p, int64_t side) {
+    if (s->refusal) return;
+    if (s->visits == s->allowance) {
+        s->refusal = 10;
+        return;
+    }
+    s->visits++;
+    if (side == 1) {
+        if (!matches(s, p, s->tolerance)) return;
+        if (s->count == ROOM)
+            s->refusal = 9;
+        else
+            s->places[s->count++] = p;
+        return;
+    }
+    int64_t half = side / 2;
+    Place middle = {p.easting + half, p.northing + half};
+    if (!matches(s, middle, s->tolerance + 2 * side + 2)) return;
+    visit(s, p, half);
+    visit(s, (Place){middle.easting, p.northing}, half);
+    visit(s, (Place){p.easting, middle.northing}, half);
+    visit(s, middle, half);
+}
+
+static int job_of(File f, Job *job) {
+    if (f.length != JOB_RECORD) return 1;
+    if (!zeros(f.bytes + 9, 3) || !zeros(f.bytes + 24, 8)) return 2;
+    job->corner = place_at(f.bytes);
+    job->k = f.bytes[8];
+    job->tolerance = (int64_t)number(f.bytes + 12, 4);
+    job->allowance = number(f.bytes + 16, 8);
+    if (job->k > MOST_EXPONENT) return 6;
+    int64_t last = ((int64_t)1 << job->k) - 1;
+    if (!in_range((Place){job->corner.easting + last, job->corner.northing + last})) return 6;
+    return job->tolerance > MOST_TOLERANCE ? 7 : 0;
+}
+
+static int table_refusal(File f) {
+    bool fits = f.length > 0 && f.length <= MOST_CHAINS * CHAIN_RECORD && f.length % CHAIN_RECORD == 0;
+    return fits ? 0 : 1;
+}
+
+// The tests of a log record by itself, with its two numbers in centimetres.
+static int record_refusal(const uint8_t *r, int64_t numbers[2]) {
+    if (r[0] < HYPERBOLIC || r[0] > HOLD || !zeros(r + 2, 2) || !zeros(r + 24, 8)) return 2;
+    if (r[0] != HYPERBOLIC && r[1] != 0) return 2;
+    if (r[0] == HOLD) return zeros(r + 8, 8) && zeros(r + 16, 8) ? 0 : 2;
+    if (!centimetres(r + 8, &numbers[0]) || !centimetres(r + 16, &numbers[1])) return 3;
+    if (r[0] == GRID && !in_range((Place){numbers[0], numbers[1]})) return 4;
+    return 0;
+}
+
+static int chain_of(File table, int which, Chain *chain) {
+    if (which == 0 || (size_t)which * CHAIN_RECORD > table.length) return 5;
+    const uint8_t *r = table.bytes + (which - 1) * CHAIN_RECORD;
+    *chain = (Chain){place_at(r), place_at(r + 8), place_at(r + 16)};
+    return sound(*chain) ? 0 : 5;
+}
+
+static void search(Search *s, const Job *job, File table, int which, const int64_t readings[2]) {
+    s->refusal = chain_of(table, which, &s->chain);
+    if (s->refusal) return;
+    s->a = readings[0];
+    s->b = readings[1];
+    s->tolerance = job->tolerance;
+    s->allowance = job->allowance;
+    visit(s, job->corner, (int64_t)1 << job->k);
+    if (!s->refusal && s->count == 0) s->refusal = 8;
+}
+
+// What a record answers, in the search's own terms. A hold finds in it what the record before answered.
+static void answer(Search *s, const Job *job, File table, const uint8_t *r) {
+    int64_t numbers[2];
+    bool held = !s->refusal && s->count == 1;
+    s->visits = 0;
+    s->refusal = record_refusal(r, numbers);
+    if (s->refusal) return;
+    if (r[0] == HOLD) {
+        s->refusal = held ? 0 : 11;
+        return;
+    }
+    s->count = 0;
+    if (r[0] == HYPERBOLIC) {
+        search(s, job, table, r[1], numbers);
+        return;
+    }
+    s->count = 1;
+    s->places[0] = (Place){numbers[0], numbers[1]};
+}
+
+static void print(const Search *s, const uint8_t *r) {
+    static const char *const words[] = {"", "FIX", "GRID", "HOLD"};
+    uint32_t line = (uint32_t)number(r + 4, 4);
+    if (s->refusal) {
+        printf("%" PRIu32 " REFUSED %d %" PRIu64 "\n", line, s->refusal, s->visits);
+        return;
+    }
+    printf("%" PRIu32 " %s %d %" PRIu64, line, words[r[0]], s->count, s->visits);
+    for (int i = 0; i < s->count; i++) printf(" %" PRId64 " %" PRId64, s->places[i].easting, s->places[i].northing);
+    putchar('\n');
+}
+
+static void list(const Job *job, File table, File log) {
+    static Search s;
+    size_t at = 0;
+    for (; log.length - at >= LOG_RECORD; at += LOG_RECORD) {
+        answer(&s, job, table, log.bytes + at);
+        print(&s, log.bytes + at);
+    }
+    if (at < log.length) puts("- REFUSED 1 0");
+}
+
+// A whole file; one that is missing is empty.
+static File read_file(const char *folder, const char *name) {
+    char path[4096];
+    snprintf(path, sizeof path, "%s/%s", folder, name);
+    File f = {NULL, 0};
+    FILE *in = fopen(path, "rb");
+    if (!in) return f;
+    fseek(in, 0, SEEK_END);
+    f.length = (size_t)ftell(in);
+    rewind(in);
+    f.bytes = malloc(f.length + 1);
+    if (fread(f.bytes, 1, f.length, in) != f.length) exit(1);
+    fclose(in);
+    return f;
+}
+
+int main(int argc, char **argv) {
+    static char buffer[1 << 16];
+    setvbuf(stdout, buffer, _IOFBF, sizeof buffer);
+    const char *folder = argc > 1 ? argv[1] : ".";
+    File table = read_file(folder, "chain.dat");
+    Job job;
+    int refusal = job_of(read_file(folder, "job.dat"), &job);
+    if (refusal) {
+        printf("JOB REFUSED %d\n", refusal);
+        return 0;
+    }
+    refusal = table_refusal(table);
+    if (refusal) {
+        printf("CHAIN REFUSED %d\n", refusal);
+        return 0;
+    }
+    list(&job, table, read_file(folder, "lay.dat"));
+    return 0;
+}
