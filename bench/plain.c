@@ -88,7 +88,16 @@ static bool matches(const Search *s, Place p, int64_t slack) {
     return llabs(a - s->a) <= slack && llabs(b - s->b) <= slack;
 }
 
-static void visit(Search *s, Place p, int64_t side) {
+static void test_cell(Search *s, Place p) {
+    if (!matches(s, p, s->tolerance)) return;
+    if (s->count == ROOM)
+        s->refusal = 9;
+    else
+        s->places[s->count++] = p;
+}
+
+// Easting and northing go as two numbers: some compilers pass a struct of both by way of memory, at half the cost again.
+static void visit(Search *s, int64_t e, int64_t n, int64_t side) {
     if (s->refusal) return;
     if (s->visits == s->allowance) {
         s->refusal = 10;
@@ -96,20 +105,15 @@ static void visit(Search *s, Place p, int64_t side) {
     }
     s->visits++;
     if (side == 1) {
-        if (!matches(s, p, s->tolerance)) return;
-        if (s->count == ROOM)
-            s->refusal = 9;
-        else
-            s->places[s->count++] = p;
+        test_cell(s, (Place){e, n});
         return;
     }
     int64_t half = side / 2;
-    Place middle = {p.easting + half, p.northing + half};
-    if (!matches(s, middle, s->tolerance + 2 * side + 2)) return;
-    visit(s, p, half);
-    visit(s, (Place){middle.easting, p.northing}, half);
-    visit(s, (Place){p.easting, middle.northing}, half);
-    visit(s, middle, half);
+    if (!matches(s, (Place){e + half, n + half}, s->tolerance + 2 * side + 2)) return;
+    visit(s, e, n, half);
+    visit(s, e + half, n, half);
+    visit(s, e, n + half, half);
+    visit(s, e + half, n + half, half);
 }
 
 static int job_of(File f, Job *job) {
@@ -154,7 +158,7 @@ static void search(Search *s, const Job *job, File table, int which, const int64
     s->b = readings[1];
     s->tolerance = job->tolerance;
     s->allowance = job->allowance;
-    visit(s, job->corner, (int64_t)1 << job->k);
+    visit(s, job->corner.easting, job->corner.northing, (int64_t)1 << job->k);
     if (!s->refusal && s->count == 0) s->refusal = 8;
 }
 
@@ -178,6 +182,16 @@ static void answer(Search *s, const Job *job, File table, const uint8_t *r) {
     s->places[0] = (Place){numbers[0], numbers[1]};
 }
 
+// A space and a number; printf would cost more than the search where there are many places.
+static void print_number(int64_t n) {
+    char text[21];
+    int at = sizeof text;
+    do text[--at] = (char)('0' + n % 10);
+    while (n /= 10);
+    text[--at] = ' ';
+    fwrite(text + at, 1, sizeof text - at, stdout);
+}
+
 static void print(const Search *s, const uint8_t *r) {
     static const char *const words[] = {"", "FIX", "GRID", "HOLD"};
     uint32_t line = (uint32_t)number(r + 4, 4);
@@ -186,7 +200,10 @@ static void print(const Search *s, const uint8_t *r) {
         return;
     }
     printf("%" PRIu32 " %s %d %" PRIu64, line, words[r[0]], s->count, s->visits);
-    for (int i = 0; i < s->count; i++) printf(" %" PRId64 " %" PRId64, s->places[i].easting, s->places[i].northing);
+    for (int i = 0; i < s->count; i++) {
+        print_number(s->places[i].easting);
+        print_number(s->places[i].northing);
+    }
     putchar('\n');
 }
 

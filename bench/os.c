@@ -1,0 +1,11 @@
+// The C code behind the toolchain's library os, as far as laylist calls it. The toolchain has it for x86-64 alone; this is
+// for measuring on other machines, and no program of target/bin has it.
+#include <errno.h>
+#include <fcntl.h>
+#include <stdint.h>
+
+int32_t rattle_open_to_read(const char *path) { return open(path, O_RDONLY | O_NOCTTY | O_CLOEXEC); }
+
+int32_t rattle_errno(void) { return errno; }
+
+void rattle_set_errno(int32_t error) { errno = error; }
