@@ -182,29 +182,32 @@ static void answer(Search *s, const Job *job, File table, const uint8_t *r) {
     s->places[0] = (Place){numbers[0], numbers[1]};
 }
 
-// A space and a number; printf would cost more than the search where there are many places.
-static void print_number(int64_t n) {
-    char text[21];
-    int at = sizeof text;
-    do text[--at] = (char)('0' + n % 10);
+// Puts a space and a number, and tells where they end: printf would take longer than the search where places are many.
+static char *put_number(char *at, int64_t n) {
+    char digits[20];
+    int count = 0;
+    do digits[count++] = (char)('0' + n % 10);
     while (n /= 10);
-    text[--at] = ' ';
-    fwrite(text + at, 1, sizeof text - at, stdout);
+    *at++ = ' ';
+    while (count > 0) *at++ = digits[--count];
+    return at;
 }
 
 static void print(const Search *s, const uint8_t *r) {
     static const char *const words[] = {"", "FIX", "GRID", "HOLD"};
+    char text[64 + 2 * ROOM * 21], *at = text;
     uint32_t line = (uint32_t)number(r + 4, 4);
     if (s->refusal) {
         printf("%" PRIu32 " REFUSED %d %" PRIu64 "\n", line, s->refusal, s->visits);
         return;
     }
-    printf("%" PRIu32 " %s %d %" PRIu64, line, words[r[0]], s->count, s->visits);
+    at += sprintf(at, "%" PRIu32 " %s %d %" PRIu64, line, words[r[0]], s->count, s->visits);
     for (int i = 0; i < s->count; i++) {
-        print_number(s->places[i].easting);
-        print_number(s->places[i].northing);
+        at = put_number(at, s->places[i].easting);
+        at = put_number(at, s->places[i].northing);
     }
-    putchar('\n');
+    *at++ = '\n';
+    fwrite(text, 1, (size_t)(at - text), stdout);
 }
 
 static void list(const Job *job, File table, File log) {
