@@ -189,11 +189,11 @@ pub extern "C" fn desk_write(
     kind: u32,
     chain: u32,
     line: u32,
-    x: i64,
-    y: i64,
+    first: i64,
+    second: i64,
 ) -> u32
-    ensures answer { λ r. ⌜ r ≡ refusalOf (length (now (buffer .entry))) (draftBy kind chain line x y) ⌝ }
-    ensures buffer { λ _. ⌜ now (buffer .exit) ≡ bufferOf (length (now (buffer .entry))) (draftBy kind chain line x y) ⌝ }
+    ensures answer { λ r. ⌜ r ≡ refusalOf (length (now (buffer .entry))) (draftBy kind chain line first second) ⌝ }
+    ensures buffer { λ _. ⌜ now (buffer .exit) ≡ bufferOf (length (now (buffer .entry))) (draftBy kind chain line first second) ⌝ }
 {
     records::write(
         buffer,
@@ -201,8 +201,8 @@ pub extern "C" fn desk_write(
             kind,
             chain,
             line,
-            x,
-            y,
+            x: first,
+            y: second,
         },
     )
 }

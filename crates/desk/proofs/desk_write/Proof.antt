@@ -18,8 +18,8 @@ returns : tie.Need-returns
 returns c =
     let start = c .before .before .before .before .before in
     let d = start .args in
-    let same : draftBy (d .kind) (d .chain) (d .line) _ _ ≡ draftBy (d .kind) (d .chain) (d .line) (d .x) (d .y) =
-    ap₂ (draftBy (d .kind) (d .chain) (d .line)) (toZ-ofZ w64 (d .x) (start .fits .x)) (toZ-ofZ w64 (d .y) (start .fits .y)) in (
+    let same : draftBy (d .kind) (d .chain) (d .line) _ _ ≡ draftBy (d .kind) (d .chain) (d .line) (d .first) (d .second) =
+    ap₂ (draftBy (d .kind) (d .chain) (d .line)) (toZ-ofZ w64 (d .first) (start .fits .first)) (toZ-ofZ w64 (d .second) (start .fits .second)) in (
       c .before .before .write .ensures .0 ∙ ap (refusalOf _) same,
       c .before .before .write .ensures .1 ∙ ap (bufferOf _) same,
     )
