@@ -37,12 +37,15 @@ use Rattle.records.specs.Writing.{refusalOf, bufferOf}
 use Rattle.records.specs.Refusals.{rawRefusal, logRefusal, entryRefusal, countRefusal, chainRefusal, jobRefusal, isAmong}
 use Rattle.records.proofs.Theorems.{raw-refusals, log-refusals, entry-refusals, count-refusals, chain-refusals, job-refusals, write-refusals, refused-write-zeros}
 use Rattle.listing.specs.declared.Carried.{Carried}
+use Rattle.listing.specs.declared.Carried.the-variants as carried
 use Rattle.listing.specs.Answers.{Refused, answerOf}
 use Rattle.listing.specs.Texts.{spaced, bytesIn}
 use Rattle.listing.specs.Listings.{Part, listingOf, hasRoom, listedIn, bufferWith}
 use Rattle.listing.proofs.Theorems.{job-first, then-chain}
+use Rattle.desk.specs.Figures.{chainBy, windowBy, recordFigures, countFigures, chainFigures, jobFigures, heldFigures, listedFigures}
 use Rattle.demands.specs.Numbers.{recordRefusal, listedRefusal, NoneOr, Refuses, Leaves}
 use Rattle.demands.proofs.NumberLaws.{some-number, whole-number, length-number, readings-number, listed-number, search-number, refused-lists, refused-early, answered-lists, room-kept, list-length, job-good, answer-number}
+use Rattle.demands.proofs.LibraryLaws.{record-told, count-told, chain-told, job-told, listing-told}
 use Rattle.demands.proofs.NeverLaws.{raw-never, log-never, entry-never, count-never, chain-never, job-never, answer-never}
 
 -- A number of metres gets its centimetres, or 3 and then 0 centimetres.
@@ -177,3 +180,36 @@ pub listing-answered : (out log : List ℕ) (p : Part) →
     NoneOr (9 ∷ []) (listedRefusal answer) × (Refuses (listedRefusal answer) → bufferWith out log p ≡ out)
 unfolding listedIn bufferWith
 listing-answered out log p = listed-number (hasRoom (length out) log) p out (p .text ++ drop (length (p .text)) out)
+
+-- The library for C tells the same numbers in its figures. A log record: after 1 to 4 kind, chain number and both numbers
+-- are 0.
+pub record-figures-told : (s : List ℕ) →
+    let f = recordFigures s in
+    NoneOr (1 ∷ 2 ∷ 3 ∷ 4 ∷ []) (f .refusal)
+    × (Refuses (f .refusal) → (f .kind ≡ 0) × (f .chain ≡ 0) × (f .x ≡ pos 0) × (f .y ≡ pos 0))
+record-figures-told s = record-told (rawRecordOf s) (logEntryOf s) (raw-refusals s) (entry-refusals s)
+
+-- A table: after 1 the count is 0; and after 1 or 5 all six numbers of a chain are.
+pub table-figures-told : (s : List ℕ) (number : ℕ) →
+    let f = countFigures (chainCountOf s) in
+    let g = chainFigures (chainOf s number) in
+    (NoneOr (1 ∷ []) (f .refusal) × (Refuses (f .refusal) → f .count ≡ 0))
+    × (NoneOr (1 ∷ 5 ∷ []) (g .refusal) × (Refuses (g .refusal) → g .chain ≡ chainBy 0 0 0 0 0 0))
+table-figures-told s number = (
+  count-told (chainCountOf s) (1 ∷ []) (count-refusals s),
+  chain-told (chainOf s number) (1 ∷ 5 ∷ []) (chain-refusals s number),
+)
+
+-- A job: after 1, 2, 6 or 7 window, tolerance and allowance are all 0.
+pub job-figures-told : (s : List ℕ) →
+    let f = jobFigures (jobOf s) in
+    NoneOr (1 ∷ 2 ∷ 6 ∷ 7 ∷ []) (f .refusal)
+    × (Refuses (f .refusal) → f .job ≡ record { window = windowBy 0 0 0; tolerance = 0; allowance = 0 })
+job-figures-told s = job-told (jobOf s) (1 ∷ 2 ∷ 6 ∷ 7 ∷ []) (job-refusals s)
+
+-- A listing: after 9 the length of the text is 0, and no place is handed on.
+pub listing-figures-told : (out log : List ℕ) (p : Part) →
+    let f = listedFigures (listedIn (length out) log p) in
+    NoneOr (9 ∷ []) (f .refusal)
+    × (Refuses (f .refusal) → (f .length ≡ 0) × (f .carried ≡ heldFigures carried.Nothing))
+listing-figures-told out log p = listing-told (listedIn (length out) log p) (9 ∷ []) (listing-answered out log p .0)

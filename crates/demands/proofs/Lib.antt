@@ -1,6 +1,7 @@
 -- The three demands of the request, and the ten cases of 01, as theorems.
 mod NumberLaws
 mod NeverLaws
+mod LibraryLaws
 mod WritingLaws
 mod AskingLaws
 mod StoppingLaws
