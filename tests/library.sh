@@ -1,0 +1,17 @@
+#!/usr/bin/env bash
+# That the examples of the library, in C and in Rust, are linked as docs/LIBRARY.md says, and print P4 of document 01.
+cd "$(dirname "$0")/.." && . tests/common.bash && . tests/library.bash
+listing=$'refusal 0, 2 places, 5 visits\n30000 40000\n30001 40001'
+
+quietly "$compiler" -Wall -Wextra -Werror -static -I crates/desk -o "$asked/c" examples/library/places.c "$library"
+pass_if 'the example in C prints P4' [ "$("${emulator[@]}" "$asked/c")" = "$listing" ]
+
+# As C++ reads it too.
+pass_if 'desk.h is a header of C++' quietly "$compiler" -x c++ -Wall -Wextra -Werror -fsyntax-only -I crates/desk crates/desk/desk.h
+
+# Off x86-64 Debian's Rust makes no programs for x86-64.
+if [ "$(uname -m)" = x86_64 ]; then
+    quietly rustc --edition 2021 -D warnings -L target/staticlib -o "$asked/rust" examples/library/places.rs
+    pass_if 'the example in Rust prints P4' [ "$("$asked/rust")" = "$listing" ]
+fi
+done_testing
