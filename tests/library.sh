@@ -3,7 +3,7 @@
 cd "$(dirname "$0")/.." && . tests/common.bash && . tests/library.bash
 listing=$'refusal 0, 2 places, 5 visits\n30000 40000\n30001 40001'
 
-quietly "$compiler" -Wall -Wextra -Werror -static -I crates/desk -o "$asked/c" examples/library/places.c "$library"
+quietly "$compiler" -Wall -Wextra -Werror -static -I crates/desk -o "$asked/c" examples/places.c "$library"
 pass_if 'the example in C prints P4' [ "$("${emulator[@]}" "$asked/c")" = "$listing" ]
 
 # As C++ reads it too.
@@ -11,7 +11,7 @@ pass_if 'desk.h is a header of C++' quietly "$compiler" -x c++ -Wall -Wextra -We
 
 # Off x86-64 Debian's Rust makes no programs for x86-64.
 if [ "$(uname -m)" = x86_64 ]; then
-    quietly rustc --edition 2021 -D warnings -L target/staticlib -o "$asked/rust" examples/library/places.rs
+    quietly rustc --edition 2021 -D warnings -L target/staticlib -o "$asked/rust" examples/places.rs
     pass_if 'the example in Rust prints P4' [ "$("$asked/rust")" = "$listing" ]
 fi
 done_testing
