@@ -1,4 +1,4 @@
--- 01's examples of rounding, P10, and numbers at the limits, computed from the definitions.
+-- Numbers at the limits, computed from the definitions. 01's P cases stand in `demands`.
 use mathlib.Core.Path.{_≡_, refl}
 use mathlib.Core.Bool.{true, false}
 use lib.IntN.{pos, negsuc}
@@ -7,23 +7,6 @@ use Rattle.metres.specs.declared.Whole.the-variants as whole
 use Rattle.metres.specs.declared.Length.the-variants as length
 use Rattle.metres.specs.Metres.{centimetresOf, metresOf, wholeFigures, lengthFigures, plusZero}
 use Rattle.metres.specs.Patterns.{numberOf, isPlusZero}
-
--- P10: 0.125 gives 12, 0.375 gives 38, -0.125 gives -12, 0.625 gives 62.
-p10-a : centimetresOf (numberOf 0x3fc0_0000_0000_0000) ≡ whole.Centimetres (pos 12)
-unfolding centimetresOf ofBits
-p10-a = refl
-
-p10-b : centimetresOf (numberOf 0x3fd8_0000_0000_0000) ≡ whole.Centimetres (pos 38)
-unfolding centimetresOf ofBits
-p10-b = refl
-
-p10-c : centimetresOf (numberOf 0xbfc0_0000_0000_0000) ≡ whole.Centimetres (negsuc 11)
-unfolding centimetresOf ofBits
-p10-c = refl
-
-p10-d : centimetresOf (numberOf 0x3fe4_0000_0000_0000) ≡ whole.Centimetres (pos 62)
-unfolding centimetresOf ofBits
-p10-d = refl
 
 -- The binary64 numbers next to 0.005 lie on both sides of it: the upper gives 1, the lower 0.
 above-half : centimetresOf (numberOf 0x3f74_7ae1_47ae_147b) ≡ whole.Centimetres (pos 1)

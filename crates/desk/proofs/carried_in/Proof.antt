@@ -1,5 +1,4 @@
 -- `desk::carried_in` meets its contract.
-use mathlib.Core.Path.{ap}
 use borrow.Author.Tests.{eq-eqb, ne-eqb}
 use Rattle.desk.specs.Figures.{carriedIn}
 use Rattle.desk.proofs.carried_in.Statement.{statement}

@@ -1,5 +1,5 @@
 -- `desk::desk_centimetres` meets its contract: the figures of what `centimetres` answers.
-use mathlib.Core.Path.{_≡_, ap, _∙_}
+use mathlib.Core.Path.{ap, _∙_}
 use borrow.Author.Needs.{needs}
 use mir.Syntax.{w64}
 use mir.ValLaws.{toZ-ofZ}

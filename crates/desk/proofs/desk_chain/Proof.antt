@@ -1,5 +1,5 @@
 -- `desk::desk_chain` meets its contract: the figures of what `chain_of` answers.
-use mathlib.Core.Path.{_≡_, ap, _∙_}
+use mathlib.Core.Path.{ap, _∙_}
 use borrow.Author.Needs.{needs}
 use Rattle.desk.specs.declared.ChainFigures.{ChainFigures}
 use Rattle.desk.specs.Figures.{chainFigures}

@@ -1,5 +1,5 @@
 -- `desk::desk_chain_count` meets its contract: the figures of what `chain_count` answers.
-use mathlib.Core.Path.{_≡_, ap, _∙_}
+use mathlib.Core.Path.{ap, _∙_}
 use borrow.Author.Needs.{needs}
 use Rattle.desk.specs.declared.CountFigures.{CountFigures}
 use Rattle.desk.specs.Figures.{countFigures}

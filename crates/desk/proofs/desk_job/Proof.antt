@@ -1,5 +1,5 @@
 -- `desk::desk_job` meets its contract: the figures of what `job_of` answers.
-use mathlib.Core.Path.{_≡_, ap, _∙_}
+use mathlib.Core.Path.{ap, _∙_}
 use borrow.Author.Needs.{needs}
 use Rattle.desk.specs.declared.JobFigures.{JobFigures}
 use Rattle.desk.specs.Figures.{jobFigures}

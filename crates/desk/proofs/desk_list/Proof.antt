@@ -1,5 +1,5 @@
 -- `desk::desk_list` meets its contract: the figures of what `list` answers, and its text.
-use mathlib.Core.Path.{_≡_, ap, _∙_}
+use mathlib.Core.Path.{ap, _∙_}
 use borrow.Author.Needs.{needs}
 use denote.Ref.{now}
 use lib.ListN.{length}

@@ -1,5 +1,5 @@
 -- `desk::desk_metres` meets its contract: the figures of what `metres` answers.
-use mathlib.Core.Path.{_≡_, ap, _∙_}
+use mathlib.Core.Path.{ap, _∙_}
 use borrow.Author.Needs.{needs}
 use lib.IntN.{ℤ}
 use mir.Syntax.{w64}

@@ -1,5 +1,5 @@
 -- `desk::desk_search` meets its contract: the figures of what `search` answers, and its list.
-use mathlib.Core.Path.{_≡_, ap, ap₂, _∙_}
+use mathlib.Core.Path.{ap, ap₂, _∙_}
 use borrow.Author.Needs.{needs}
 use denote.Ref.{now}
 use lib.IntN.{ℤ}
