@@ -67,9 +67,10 @@ uint32_t desk_chain(const uint8_t *table, size_t length, uint32_t number, uint32
 
 /* What the listing program prints of a log, or of a further part of one, as text at the start of a buffer: with a log of 32
  * bytes, the line of one record. A bad job or table gives the one line that the program would print. `held` is 1 where the
- * record before gave exactly one place, which a hold repeats, and 0 where not (any other number is taken as 1); the results
- * say the same of the last record here. The text needs no more than 5,760 bytes a record; 9 where the buffer has not that
- * many for each whole record and for one more, and it is left as it was. Behind the text it is left as it was too. */
+ * record before gave exactly one place, which a hold repeats, and 0 where not (any other number is taken as 1). The results
+ * say the same of the last record here; an empty log hands on what it was given, a bad job or table nothing. The text needs no
+ * more than 5,760 bytes a record; 9 where the buffer has not that many for each whole record and for one more, and it is left
+ * as it was. Behind the text it is left as it was too. */
 uint32_t desk_list(uint8_t *text, size_t length, const uint8_t *job, size_t job_length, const uint8_t *table,
                    size_t table_length, const uint8_t *log, size_t log_length, uint32_t held, uint32_t held_easting,
                    uint32_t held_northing, size_t *text_length, uint32_t *now_held, uint32_t *now_easting,
