@@ -28,14 +28,15 @@ use Rattle.records.specs.declared.NamedChain.the-variants as named
 use Rattle.records.specs.declared.Job.{Job}
 use Rattle.records.specs.declared.JobAnswer.{JobAnswer}
 use Rattle.records.specs.declared.JobAnswer.the-variants as answer
-use Rattle.records.specs.declared.Draft.{Draft}
 use Rattle.records.specs.Bytes.{byteAt}
 use Rattle.records.specs.LogRecords.{rawRecordOf, logRecordOf, logEntryOf}
 use Rattle.records.specs.ChainTables.{chainCountOf, chainOf}
 use Rattle.records.specs.Jobs.{jobOf}
-use Rattle.records.specs.Writing.{refusalOf, bufferOf}
 use Rattle.records.specs.Refusals.{rawRefusal, logRefusal, entryRefusal, countRefusal, chainRefusal, jobRefusal, isAmong}
-use Rattle.records.proofs.Theorems.{raw-refusals, log-refusals, entry-refusals, count-refusals, chain-refusals, job-refusals, write-refusals, refused-write-zeros}
+use Rattle.records.proofs.Theorems.{raw-refusals, log-refusals, entry-refusals, count-refusals, chain-refusals, job-refusals}
+use Rattle.writing.specs.declared.Draft.{Draft}
+use Rattle.writing.specs.Writing.{refusalOf, bufferOf}
+use Rattle.writing.proofs.Theorems.{write-refusals, refused-write-zeros}
 use Rattle.listing.specs.declared.Carried.{Carried}
 use Rattle.listing.specs.declared.Carried.the-variants as carried
 use Rattle.listing.specs.Answers.{Refused, answerOf}

@@ -34,7 +34,6 @@ use Rattle.search.specs.Questions.{questionOf}
 use Rattle.search.specs.Answers.{searchOf}
 use Rattle.search.specs.Cells.{matchingIn, Listed, AmpleRoom, AmpleAllowance}
 use Rattle.search.proofs.Theorems.{always-enough}
-use Rattle.records.specs.declared.Draft.{Draft}
 use Rattle.records.specs.declared.RawAnswer.the-variants as raw
 use Rattle.records.specs.declared.LogEntry.the-variants as entry
 use Rattle.records.specs.declared.NamedChain.the-variants as named
@@ -43,8 +42,9 @@ use Rattle.records.specs.declared.JobAnswer.the-variants as answer
 use Rattle.records.specs.LogRecords.{rawRecordOf, logEntryOf}
 use Rattle.records.specs.ChainTables.{chainOf}
 use Rattle.records.specs.Jobs.{jobOf}
-use Rattle.records.specs.Writing.{refusalOf, usedOf, bufferOf, rawFor, entryFor}
-use Rattle.records.proofs.Theorems.{reads-back}
+use Rattle.writing.specs.declared.Draft.{Draft}
+use Rattle.writing.specs.Writing.{refusalOf, usedOf, bufferOf, rawFor, entryFor}
+use Rattle.writing.proofs.Theorems.{reads-back}
 use Rattle.listing.specs.declared.Carried.{Carried}
 use Rattle.listing.specs.Answers.{fixBy, answerBy, answerOf, placesOf}
 use Rattle.demands.proofs.NumberLaws.{job-good}

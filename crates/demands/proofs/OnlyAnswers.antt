@@ -42,7 +42,7 @@ use Rattle.records.proofs.log_entry as log-entry
 use Rattle.records.proofs.chain_count as chain-count
 use Rattle.records.proofs.chain_of as chain-of
 use Rattle.records.proofs.job_of as job-of
-use Rattle.records.proofs.write as write
+use Rattle.writing.proofs.write as write
 use Rattle.listing.proofs.list as list
 use Rattle.desk.proofs.desk_centimetres as desk-centimetres
 use Rattle.desk.proofs.desk_metres as desk-metres
@@ -177,7 +177,7 @@ module _ {M : Type 1} (𝓤 : URA M) (H : Heap 𝓤) (A : Atoms 𝓤) (mem : Mem
   pub job-of-only : OneAnswer 𝓤 job-of.ended (job-of.clauses 𝓤 H A mem run)
   job-of-only κs a g x y = only 𝓤 same (λ answer. answer & refl)
 
-  -- records::write, by `ensures-answer`, `ensures-buffer`.
+  -- writing::write, by `ensures-answer`, `ensures-buffer`.
   pub write-only : OneAnswer 𝓤 write.ended (write.clauses 𝓤 H A mem run)
   write-only κs a g x y = only 𝓤 (same beside same) (λ (answer, buffer). answer & buffer & refl)
 

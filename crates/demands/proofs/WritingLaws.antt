@@ -9,10 +9,10 @@ use lib.IntN.{ℤ, pos, natAbs}
 use Rattle.chart.specs.declared.Place.{Place}
 use Rattle.chart.specs.Places.{inRange}
 use Rattle.chart.proofs.PlaceLaws.{in-range-says}
-use Rattle.records.specs.declared.Draft.{Draft}
 use Rattle.records.specs.Bytes.{byteAt}
 use Rattle.records.specs.LogRecords.{isPlace}
-use Rattle.records.specs.Writing.{refusalOf, usedOf, recordBytes, bufferOf}
+use Rattle.writing.specs.declared.Draft.{Draft}
+use Rattle.writing.specs.Writing.{refusalOf, usedOf, recordBytes, bufferOf}
 
 -- What the writer accepts, by kind.
 pub hyperbolic-accepted : (chain line : ℕ) (a b : ℤ) → 1 ≤ chain → chain ≤ 16 → natAbs a ≤ 1_000_000_000 → natAbs b ≤ 1_000_000_000 →

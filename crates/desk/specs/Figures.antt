@@ -9,7 +9,6 @@ use Rattle.chart.specs.declared.Place.{Place}
 use Rattle.chart.specs.declared.Chain.{Chain}
 use Rattle.search.specs.declared.Window.{Window}
 use Rattle.records.specs.declared.Job.{Job}
-use Rattle.records.specs.declared.Draft.{Draft}
 use Rattle.records.specs.declared.RawAnswer.{RawAnswer}
 use Rattle.records.specs.declared.RawAnswer.the-variants as raw
 use Rattle.records.specs.declared.LogEntry.{LogEntry}
@@ -21,6 +20,7 @@ use Rattle.records.specs.declared.NamedChain.the-variants as named
 use Rattle.records.specs.declared.JobAnswer.{JobAnswer}
 use Rattle.records.specs.declared.JobAnswer.the-variants as job
 use Rattle.records.specs.LogRecords.{rawRecordOf, logEntryOf}
+use Rattle.writing.specs.declared.Draft.{Draft}
 use Rattle.listing.specs.declared.Carried.{Carried}
 use Rattle.listing.specs.declared.Carried.the-variants as carried
 use Rattle.listing.specs.declared.Listed.{Listed}

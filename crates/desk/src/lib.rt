@@ -8,7 +8,7 @@ ghost use Rattle.search.specs.Questions.{questionOf};
 ghost use Rattle.search.specs.Answers.{searchOf, listOf, figuresIn};
 ghost use Rattle.records.specs.ChainTables.{chainCountOf, chainOf};
 ghost use Rattle.records.specs.Jobs.{jobOf};
-ghost use Rattle.records.specs.Writing.{refusalOf, bufferOf};
+ghost use Rattle.writing.specs.Writing.{refusalOf, bufferOf};
 ghost use Rattle.listing.specs.Listings.{listingFrom, bufferWith};
 ghost use Rattle.desk.specs.Figures.{placeBy, chainBy, windowBy, draftBy, entryFigures, recordFigures, countFigures, chainFigures, jobFigures, carriedIn, heldFigures, listedFigures, listFigures};
 use chart::Chain;
@@ -16,13 +16,13 @@ use chart::Place;
 use listing::Carried;
 use listing::Listed;
 use records::ChainCount;
-use records::Draft;
 use records::Job;
 use records::JobAnswer;
 use records::LogEntry;
 use records::NamedChain;
 use records::RawAnswer;
 use search::Window;
+use writing::Draft;
 
 // A log record in centimetres.
 struct RecordFigures {
@@ -195,7 +195,7 @@ pub extern "C" fn desk_write(
     ensures answer { λ r. ⌜ r ≡ refusalOf (length (now (buffer .entry))) (draftBy kind chain line first second) ⌝ }
     ensures buffer { λ _. ⌜ now (buffer .exit) ≡ bufferOf (length (now (buffer .entry))) (draftBy kind chain line first second) ⌝ }
 {
-    records::write(
+    writing::write(
         buffer,
         Draft {
             kind,

@@ -3,11 +3,9 @@ pub mod Theorems
 mod ByteLaws
 mod ReadLaws
 mod LogLaws
-mod GridLaws
-mod TableLaws
+pub mod GridLaws
+pub mod TableLaws
 mod JobLaws
-mod WriteLaws
-mod ReadBack
-mod RefusalLaws
+pub mod RefusalLaws
 mod LineLaws
-mod Worked
+pub mod Worked

@@ -2,18 +2,17 @@
 use Prim.Native.Nat.{ℕ}
 use mathlib.Core.Path.{_≡_, refl}
 use mathlib.Core.List.{List, [], _∷_, _++_}
-use lib.IntN.{pos, negsuc}
-use lib.Ieee.{ofBits, toBits}
+use lib.IntN.{negsuc}
+use lib.Ieee.{ofBits}
 use Rattle.fields.specs.Fields.{valueOf, bytesOf}
-use Rattle.metres.specs.Metres.{centimetresOf, metresOf, lengthFigures}
+use Rattle.metres.specs.Metres.{centimetresOf}
 use Rattle.chart.specs.Places.{inRange}
 use Rattle.records.specs.declared.LogEntry.the-variants as entry
 use Rattle.records.specs.Bytes.{allZero}
 use Rattle.records.specs.LogRecords.{logRecordOf, isPlace, placed, inCentimetres, logEntryOf}
-use Rattle.records.specs.Writing.{recordBytes}
 
 -- Line 1: chain 1, readings -100.0 m and -200.0 m.
-abbrev line-1 : List ℕ
+abbrev pub line-1 : List ℕ
 line-1 =
     1 ∷ 1 ∷ 0 ∷ 0 ∷ 1 ∷ 0 ∷ 0 ∷ 0
     ∷ 0 ∷ 0 ∷ 0 ∷ 0 ∷ 0 ∷ 0 ∷ 0x59 ∷ 0xc0
@@ -24,12 +23,8 @@ line-1-read : logEntryOf line-1 ≡ entry.Readings (negsuc 9_999) (negsuc 19_999
 unfolding logEntryOf logRecordOf inCentimetres allZero valueOf centimetresOf ofBits
 line-1-read = refl
 
-line-1-written : recordBytes (record { kind = 1; chain = 1; line = 1; x = negsuc 9_999; y = negsuc 19_999 }) ≡ line-1
-unfolding recordBytes bytesOf metresOf lengthFigures toBits
-line-1-written = refl
-
 -- Line 2: a grid record of 300.01 m and 400.00 m.
-abbrev line-2 : List ℕ
+abbrev pub line-2 : List ℕ
 line-2 =
     2 ∷ 0 ∷ 0 ∷ 0 ∷ 2 ∷ 0 ∷ 0 ∷ 0
     ∷ 0x5c ∷ 0x8f ∷ 0xc2 ∷ 0xf5 ∷ 0x28 ∷ 0xc0 ∷ 0x72 ∷ 0x40
@@ -40,12 +35,8 @@ line-2-read : logEntryOf line-2 ≡ entry.Place (record { easting = 30_001; nort
 unfolding logEntryOf logRecordOf inCentimetres placed isPlace inRange allZero valueOf centimetresOf ofBits
 line-2-read = refl
 
-line-2-written : recordBytes (record { kind = 2; chain = 0; line = 2; x = pos 30_001; y = pos 40_000 }) ≡ line-2
-unfolding recordBytes bytesOf metresOf lengthFigures toBits
-line-2-written = refl
-
 -- Line 3: a hold.
-abbrev line-3 : List ℕ
+abbrev pub line-3 : List ℕ
 line-3 =
     3 ∷ 0 ∷ 0 ∷ 0 ∷ 3 ∷ 0 ∷ 0 ∷ 0
     ∷ 0 ∷ 0 ∷ 0 ∷ 0 ∷ 0 ∷ 0 ∷ 0 ∷ 0
@@ -55,10 +46,6 @@ line-3 =
 line-3-read : logEntryOf line-3 ≡ entry.Hold
 unfolding logEntryOf logRecordOf inCentimetres allZero
 line-3-read = refl
-
-line-3-written : recordBytes (record { kind = 3; chain = 0; line = 3; x = pos 0; y = pos 0 }) ≡ line-3
-unfolding recordBytes bytesOf metresOf lengthFigures toBits
-line-3-written = refl
 
 -- A grid record of line 1, by the patterns of its three numbers.
 abbrev gridOf : ℕ → ℕ → ℕ → List ℕ

@@ -3,7 +3,7 @@ use mathlib.Core.Path.{_≡_, ap, ap₂, _∙_}
 use borrow.Author.Needs.{needs}
 use mir.Syntax.{w64}
 use mir.ValLaws.{toZ-ofZ}
-use Rattle.records.specs.Writing.{refusalOf, bufferOf}
+use Rattle.writing.specs.Writing.{refusalOf, bufferOf}
 use Rattle.desk.specs.Figures.{draftBy}
 use Rattle.desk.proofs.desk_write.Statement.{statement}
 use Rattle.desk.proofs.desk_write.Tie as tie

@@ -1,9 +1,9 @@
--- `records::chain_fits` meets its contract: only a hyperbolic record has a chain.
+-- `writing::chain_fits` meets its contract: only a hyperbolic record has a chain.
 use mathlib.Core.Path.{sym, _∙_}
 use borrow.Author.Needs.{needs}
-use Rattle.records.proofs.WriteLaws.{no-chain, by-chain}
-use Rattle.records.proofs.chain_fits.Statement.{statement}
-use Rattle.records.proofs.chain_fits.Tie as tie
+use Rattle.writing.proofs.WriteLaws.{no-chain, by-chain}
+use Rattle.writing.proofs.chain_fits.Statement.{statement}
+use Rattle.writing.proofs.chain_fits.Tie as tie
 
 returns : tie.Need-returns
 returns c = sym (no-chain (c .before .before .args .d) (c .if1 .taken))

@@ -1,4 +1,4 @@
--- `records::put` meets its contract: each field is put into zeros, and together they are the record.
+-- `writing::put` meets its contract: each field is put into zeros, and together they are the record.
 use Prim.Native.Nat.{ℕ, _<_}
 use mathlib.Core.Path.{_≡_, sym, ap, ap₂, _∙_, subst⁻¹}
 use mathlib.Core.List.{List}
@@ -10,10 +10,10 @@ use mir.ValLaws.{toZ-ofZ}
 use borrow.Author.Needs.{needs}
 use Rattle.fields.specs.Fields.{putAt}
 use Rattle.metres.specs.Patterns.{putNumberAt}
-use Rattle.records.specs.Writing.{inMetres, recordBytes}
-use Rattle.records.proofs.WriteLaws.{put-together, record-length}
-use Rattle.records.proofs.put.Statement.{statement}
-use Rattle.records.proofs.put.Tie as tie
+use Rattle.writing.specs.Writing.{inMetres, recordBytes}
+use Rattle.writing.proofs.WriteLaws.{put-together, record-length}
+use Rattle.writing.proofs.put.Statement.{statement}
+use Rattle.writing.proofs.put.Tie as tie
 
 in-metres-requires : tie.Need-in-metres-requires
 in-metres-requires c κs = search needs

@@ -1,11 +1,11 @@
--- `records::used` meets its contract, kind by kind.
+-- `writing::used` meets its contract, kind by kind.
 use mathlib.Core.Path.{ap₂, _∙_}
 use lib.IntN.{ℤ}
 use mir.Syntax.{w64}
 use mir.ValLaws.{toZ-ofZ}
-use Rattle.records.proofs.WriteLaws.{used-hyperbolic, used-hold, used-grid}
-use Rattle.records.proofs.used.Statement.{statement}
-use Rattle.records.proofs.used.Tie as tie
+use Rattle.writing.proofs.WriteLaws.{used-hyperbolic, used-hold, used-grid}
+use Rattle.writing.proofs.used.Statement.{statement}
+use Rattle.writing.proofs.used.Tie as tie
 
 returns : tie.Need-returns
 returns c = used-hyperbolic (c .before .args .d) (c .if1 .taken)

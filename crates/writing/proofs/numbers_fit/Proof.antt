@@ -1,4 +1,4 @@
--- `records::numbers_fit` meets its contract: a hold uses none, and else the first that is too large decides.
+-- `writing::numbers_fit` meets its contract: a hold uses none, and else the first that is too large decides.
 use Prim.Native.Nat.{ℕ}
 use mathlib.Core.Path.{_≡_, sym, ap, _∙_}
 use native.Mathlib.Omega.{arith}
@@ -8,9 +8,9 @@ use mir.Syntax.{w64}
 use mir.ValLaws.{toZ-ofZ}
 use borrow.Author.Needs.{needs}
 use Rattle.metres.specs.Metres.{mostCentimetres}
-use Rattle.records.proofs.WriteLaws.{hold-fits, first-too-large, by-second}
-use Rattle.records.proofs.numbers_fit.Statement.{statement}
-use Rattle.records.proofs.numbers_fit.Tie as tie
+use Rattle.writing.proofs.WriteLaws.{hold-fits, first-too-large, by-second}
+use Rattle.writing.proofs.numbers_fit.Statement.{statement}
+use Rattle.writing.proofs.numbers_fit.Tie as tie
 
 first-size : (c : tie.After-size) → c .size .result ≡ natAbs (c .before .before .before .before .args .d .x)
 first-size c = c .size .ensures ∙ ap natAbs (toZ-ofZ w64 (c .before .before .before .before .args .d .x) (record { sfits = c .before .struct-told .given .1 .1 .1 .0 .1 }))

@@ -1,13 +1,13 @@
--- `records::in_metres` meets its contract: the metres of the figures.
+-- `writing::in_metres` meets its contract: the metres of the figures.
 use mathlib.Core.Path.{ap, _∙_}
 use mir.Syntax.{w64}
 use mir.ValLaws.{toZ-ofZ}
 use borrow.Author.Needs.{needs}
 use Rattle.metres.specs.declared.LengthFigures.{LengthFigures}
 use Rattle.metres.specs.Metres.{lengthFigures}
-use Rattle.records.specs.Writing.{inMetres}
-use Rattle.records.proofs.in_metres.Statement.{statement}
-use Rattle.records.proofs.in_metres.Tie as tie
+use Rattle.writing.specs.Writing.{inMetres}
+use Rattle.writing.proofs.in_metres.Statement.{statement}
+use Rattle.writing.proofs.in_metres.Tie as tie
 
 metres-requires : tie.Need-metres-requires
 metres-requires c κs = search needs

@@ -1,4 +1,4 @@
--- `records::clear` meets its contract: each turn makes one byte more zero.
+-- `writing::clear` meets its contract: each turn makes one byte more zero.
 use Prim.Native.Nat.{ℕ, _-_}
 use mathlib.Core.Path.{ap, _∙_}
 use native.Mathlib.Omega.{arith}
@@ -6,8 +6,8 @@ use native.Mathlib.Nat.{sub-zero}
 use lib.ListN.{length, replicate, length-set}
 use borrow.Author.Needs.{needs}
 use Rattle.search.proofs.Clearing.{Cleared, cleared-none, cleared-more, cleared-all}
-use Rattle.records.proofs.clear.Statement.{statement}
-use Rattle.records.proofs.clear.Tie as tie
+use Rattle.writing.proofs.clear.Statement.{statement}
+use Rattle.writing.proofs.clear.Tie as tie
 
 abbrev Inv-loop : tie.InvT-loop
 Inv-loop buffer₀ i₀ buffer i = Cleared 0 i buffer₀ buffer

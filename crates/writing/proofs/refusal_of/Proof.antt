@@ -1,11 +1,11 @@
--- `records::refusal_of` meets its contract: the first test that fails refuses.
+-- `writing::refusal_of` meets its contract: the first test that fails refuses.
 use mathlib.Core.Path.{_≡_, sym, _∙_}
 use borrow.Author.Tests.{not-true, not-false}
 use borrow.Author.Needs.{needs}
-use Rattle.records.specs.Writing.{isKind, numbersFit, placeFits}
-use Rattle.records.proofs.WriteLaws.{write-1, write-2, write-3, write-4, write-5, accepted}
-use Rattle.records.proofs.refusal_of.Statement.{statement}
-use Rattle.records.proofs.refusal_of.Tie as tie
+use Rattle.writing.specs.Writing.{isKind, numbersFit, placeFits}
+use Rattle.writing.proofs.WriteLaws.{write-1, write-2, write-3, write-4, write-5, accepted}
+use Rattle.writing.proofs.refusal_of.Statement.{statement}
+use Rattle.writing.proofs.refusal_of.Tie as tie
 
 abbrev start : tie.After-chain-fits → tie.Start
 start c = c .before .before .before .before

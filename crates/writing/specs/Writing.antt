@@ -10,14 +10,14 @@ use lib.ListN.{replicate}
 use Rattle.fields.specs.Fields.{bytesOf}
 use Rattle.metres.specs.Metres.{mostCentimetres, metresOf, lengthFigures, plusZero}
 use Rattle.metres.specs.Patterns.{patternOf}
-use Rattle.records.specs.declared.Draft.{Draft}
 use Rattle.records.specs.declared.RawRecord.{RawRecord}
 use Rattle.records.specs.declared.RawAnswer.the-variants as raw
 use Rattle.records.specs.declared.LogEntry.{LogEntry}
 use Rattle.records.specs.declared.LogEntry.the-variants as entry
 use Rattle.records.specs.Bytes.{unless}
 use Rattle.records.specs.LogRecords.{logBytes, rawRecordOf, isPlace, logEntryOf}
 use Rattle.records.specs.ChainTables.{mostChains, oneTo}
+use Rattle.writing.specs.declared.Draft.{Draft}
 
 -- A kind that is known: 1 hyperbolic, 2 grid, 3 hold.
 abbrev pub isKind : ℕ → Bool

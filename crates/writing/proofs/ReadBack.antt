@@ -19,14 +19,14 @@ use Rattle.metres.specs.Patterns.{numberOf, patternOf}
 use Rattle.metres.proofs.PatternLaws.{number-back}
 use Rattle.metres.proofs.Back.{way-back}
 use Rattle.chart.proofs.PlaceLaws.{both}
-use Rattle.records.specs.declared.Draft.{Draft}
 use Rattle.records.specs.declared.RawAnswer.the-variants as raw
 use Rattle.records.specs.declared.LogEntry.{LogEntry}
 use Rattle.records.specs.declared.LogEntry.the-variants as entry
 use Rattle.records.specs.Bytes.{allZero}
 use Rattle.records.specs.LogRecords.{rawRecordOf, logRecordOf, isPlace, placed, withBoth, inCentimetres, logEntryOf}
-use Rattle.records.specs.Writing.{refusalOf, usedOf, inMetres, metresBytes, recordBytes, rawFor, entryFor}
-use Rattle.records.proofs.WriteLaws.{passed, known-kind}
+use Rattle.writing.specs.declared.Draft.{Draft}
+use Rattle.writing.specs.Writing.{refusalOf, usedOf, inMetres, metresBytes, recordBytes, rawFor, entryFor}
+use Rattle.writing.proofs.WriteLaws.{passed, known-kind}
 
 -- binary64 holds the metres of every number of centimetres: a quotient, or plus zero for one that is not written.
 length-fits : (t : Bool) (z : ℤ) → T (fits binary64 (lengthFigures (cond t (Metres (hundredthOf z)) Refused) .metres))

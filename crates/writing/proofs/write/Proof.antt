@@ -1,13 +1,13 @@
--- `records::write` meets its contract: the buffer is cleared, and a draft that is not refused is put.
+-- `writing::write` meets its contract: the buffer is cleared, and a draft that is not refused is put.
 use Prim.Native.Nat.{ℕ, _<_}
 use mathlib.Core.Path.{_≡_, sym, ap, _∙_, subst⁻¹}
 use lib.ListN.{length, replicate}
 use borrow.Author.Needs.{needs}
-use Rattle.records.specs.declared.Draft.{Draft}
-use Rattle.records.specs.Writing.{refusalOf, recordBytes}
-use Rattle.records.proofs.WriteLaws.{buffer-written, buffer-zero, written-bytes, used-small}
-use Rattle.records.proofs.write.Statement.{statement}
-use Rattle.records.proofs.write.Tie as tie
+use Rattle.writing.specs.declared.Draft.{Draft}
+use Rattle.writing.specs.Writing.{refusalOf, recordBytes}
+use Rattle.writing.proofs.WriteLaws.{buffer-written, buffer-zero, written-bytes, used-small}
+use Rattle.writing.proofs.write.Statement.{statement}
+use Rattle.writing.proofs.write.Tie as tie
 
 refusal-of-requires : tie.Need-refusal-of-requires
 refusal-of-requires c κs = search needs

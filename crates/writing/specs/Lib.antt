@@ -1,0 +1,2 @@
+-- The writer: what it accepts, and the bytes that it makes.
+pub mod Writing

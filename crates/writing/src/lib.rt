@@ -1,0 +1,173 @@
+// Log records written: a draft is tested, and its bytes are put into a buffer.
+ghost use mathlib.Core.Path.{_≡_};
+ghost use Prim.Native.Nat.{_<_};
+ghost use lib.ListN.{length, replicate};
+ghost use Rattle.records.specs.LogRecords.{logBytes};
+ghost use Rattle.records.specs.ChainTables.{oneTo};
+ghost use Rattle.writing.specs.Writing.{numbersFit, placeFits, chainFits, refusalOf, usedOf, inMetres, recordBytes, bufferOf};
+
+// What a log record is to say. x and y are readings A and B, or easting and northing, in centimetres.
+pub struct Draft {
+    pub kind: u32,
+    pub chain: u32,
+    pub line: u32,
+    pub x: i64,
+    pub y: i64,
+}
+
+const LOG_BYTES: usize = 32;
+
+const MOST_CHAINS: u32 = 16;
+
+const MOST_EASTING: i64 = 100_000_000;
+
+const MOST_NORTHING: i64 = 1_000_000_000;
+
+const MOST_CENTIMETRES: u64 = 1_000_000_000;
+
+// Writes a draft into a buffer of 32 bytes. Answers with the number of the refusal, 0 for none; a refused write leaves the
+// whole buffer zero, whatever its length.
+pub fn write(buffer: &mut [u8], d: Draft) -> u32
+    ensures answer { λ r. ⌜ r ≡ refusalOf (length (now (buffer .entry))) d ⌝ }
+    ensures buffer { λ r. ⌜ now (buffer .exit) ≡ bufferOf (length (now (buffer .entry))) d ⌝ }
+{
+    let refusal = refusal_of(buffer.len(), d);
+    clear(buffer);
+    if refusal != 0 {
+        return refusal;
+    }
+    put(buffer, used(d));
+    0
+}
+
+// Why a draft is not written into a buffer of so many bytes, or 0.
+fn refusal_of(bytes: usize, d: Draft) -> u32
+    ensures { λ r. ⌜ r ≡ refusalOf bytes d ⌝ }
+{
+    let kind = one_to(3, d.kind);
+    let numbers = numbers_fit(d);
+    let place = place_fits(d);
+    let chain = chain_fits(d);
+    if bytes != LOG_BYTES {
+        return 1;
+    }
+    if !kind {
+        return 2;
+    }
+    if !numbers {
+        return 3;
+    }
+    if !place {
+        return 4;
+    }
+    if !chain {
+        return 5;
+    }
+    0
+}
+
+fn numbers_fit(d: Draft) -> bool
+    ensures { λ r. ⌜ r ≡ numbersFit d ⌝ }
+{
+    if d.kind == 3 {
+        return true;
+    }
+    if metres::size(d.x) > MOST_CENTIMETRES {
+        return false;
+    }
+    metres::size(d.y) <= MOST_CENTIMETRES
+}
+
+fn place_fits(d: Draft) -> bool
+    ensures { λ r. ⌜ r ≡ placeFits d ⌝ }
+{
+    if d.kind != 2 {
+        return true;
+    }
+    if d.x < 0 {
+        return false;
+    }
+    if d.y < 0 {
+        return false;
+    }
+    if d.x > MOST_EASTING {
+        return false;
+    }
+    d.y <= MOST_NORTHING
+}
+
+fn chain_fits(d: Draft) -> bool
+    ensures { λ r. ⌜ r ≡ chainFits d ⌝ }
+{
+    if d.kind != 1 {
+        return true;
+    }
+    one_to(MOST_CHAINS, d.chain)
+}
+
+fn one_to(most: u32, n: u32) -> bool
+    ensures { λ r. ⌜ r ≡ oneTo most n ⌝ }
+{
+    if n == 0 {
+        return false;
+    }
+    n <= most
+}
+
+// A draft with 0 for what its kind does not use.
+fn used(d: Draft) -> Draft
+    ensures { λ r. ⌜ r ≡ usedOf d ⌝ }
+{
+    let kind = d.kind;
+    let line = d.line;
+    if kind == 1 {
+        return d;
+    }
+    if kind == 3 {
+        return Draft {
+            kind,
+            chain: 0,
+            line,
+            x: 0,
+            y: 0,
+        };
+    }
+    Draft {
+        kind,
+        chain: 0,
+        line,
+        x: d.x,
+        y: d.y,
+    }
+}
+
+fn clear(buffer: &mut [u8])
+    ensures { λ _. ⌜ now (buffer .exit) ≡ replicate (length (now (buffer .entry))) 0 ⌝ }
+{
+    let mut i = 0;
+    while i < buffer.len() {
+        buffer[i] = 0;
+        i += 1;
+    }
+}
+
+// The bytes of a record in a buffer that is clear.
+fn put(buffer: &mut [u8], d: Draft)
+    requires { ⌜ (now buffer ≡ replicate logBytes 0) × (d .kind < 256) × (d .chain < 256) ⌝ }
+    ensures { λ _. ⌜ now (buffer .exit) ≡ recordBytes d ⌝ }
+{
+    let x = in_metres(d.x);
+    let y = in_metres(d.y);
+    buffer[0] = d.kind as u8;
+    buffer[1] = d.chain as u8;
+    fields::put_four(buffer, 4, d.line);
+    metres::put_number(buffer, 8, x);
+    metres::put_number(buffer, 16, y);
+}
+
+fn in_metres(c: i64) -> f64
+    ensures { λ r. ⌜ r ≡ inMetres c ⌝ }
+{
+    let f = metres::length_figures(metres::metres(c));
+    f.metres
+}
