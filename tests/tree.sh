@@ -38,6 +38,7 @@ for crate in crates/*/; do
         done
     done < <(cat "$crate"/src/*.rt | public -)
     for edit in "$crate"must-fail/*.edit; do
+        [ -f "$edit" ] || continue
         pass_if "docs/CONTRACTS.md names $edit" grep -q "^| \`$name::.*\`$(basename "$edit" .edit)\`" docs/CONTRACTS.md
     done
 done
