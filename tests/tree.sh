@@ -26,12 +26,14 @@ edits() {
     sed -n "s/^| \`$1\` |.*| \([^|]*\) |\$/\1/p" docs/CONTRACTS.md | grep -o '`[a-z_0-9]*`' | tr -d '`'
 }
 
+one_answer=crates/demands/proofs/OnlyAnswers.antt
 for crate in crates/*/; do
     name=$(basename "$crate")
     [ -f "$crate/src/lib.rt" ] || continue
     while read -r function kind; do
         pass_if "$name::$function fixes what it returns and requires nothing" [ "$kind" = full ]
         shown=$(edits "$name::$function")
+        pass_if "$name::$function is proved to have one answer" grep -q "^  -- $name::$function, by " "$one_answer"
         pass_if "docs/CONTRACTS.md names two edits for $name::$function" [ "$(wc -w <<<"$shown")" -ge 2 ]
         for edit in $shown; do
             pass_if "$name::$function: the edit $edit is there" [ -f "$crate/must-fail/$edit.edit" ]
@@ -42,4 +44,12 @@ for crate in crates/*/; do
         pass_if "docs/CONTRACTS.md names $edit" grep -q "^| \`$name::.*\`$(basename "$edit" .edit)\`" docs/CONTRACTS.md
     done
 done
+
+# Links of the documents to files of the tree.
+links() { grep -oE '\]\([^)# ]+' "$1" | cut -c 3-; }
+while read -r page; do
+    for link in $(links "$page"); do
+        pass_if "$page: $link is there" [ -e "$(dirname "$page")/$link" ]
+    done
+done < <(find . -name '*.md' -not -path './target/*' | sort)
 done_testing
