@@ -21,27 +21,37 @@ public() {
     ' "$1"
 }
 
-# edits FUNCTION: the names in the last cell of its row.
-edits() {
+# shown FUNCTION: the faults in the last cell of its row.
+shown() {
     sed -n "s/^| \`$1\` |.*| \([^|]*\) |\$/\1/p" docs/CONTRACTS.md | grep -o '`[a-z_0-9]*`' | tr -d '`'
+}
+
+# faults CRATE: the names of its faults. An edit that names none is one itself.
+faults() {
+    local edit
+    for edit in "crates/$1/must-fail/"*.edit; do
+        [ -f "$edit" ] || continue
+        sed -n 's/^fault: \([a-z_0-9]*\) in .*/\1/p' "$edit" | grep . || basename "$edit" .edit
+    done
 }
 
 one_answer=crates/demands/proofs/OnlyAnswers.antt
 for crate in crates/*/; do
     name=$(basename "$crate")
     [ -f "$crate/src/lib.rt" ] || continue
+    there=$(faults "$name")
     while read -r function kind; do
         pass_if "$name::$function fixes what it returns and requires nothing" [ "$kind" = full ]
-        shown=$(edits "$name::$function")
         pass_if "$name::$function is proved to have one answer" grep -q "^  -- $name::$function, by " "$one_answer"
-        pass_if "docs/CONTRACTS.md names two edits for $name::$function" [ "$(wc -w <<<"$shown")" -ge 2 ]
-        for edit in $shown; do
-            pass_if "$name::$function: the edit $edit is there" [ -f "$crate/must-fail/$edit.edit" ]
+        named=$(shown "$name::$function")
+        pass_if "docs/CONTRACTS.md names two faults for $name::$function" [ "$(wc -w <<<"$named")" -ge 2 ]
+        for fault in $named; do
+            pass_if "$name::$function: the fault $fault is there" grep -qx "$fault" <<<"$there"
         done
     done < <(cat "$crate"/src/*.rt | public -)
-    for edit in "$crate"must-fail/*.edit; do
-        [ -f "$edit" ] || continue
-        pass_if "docs/CONTRACTS.md names $edit" grep -q "^| \`$name::.*\`$(basename "$edit" .edit)\`" docs/CONTRACTS.md
+    pass_if "no two faults of $name have one name" [ -z "$(sort <<<"$there" | uniq -d)" ]
+    for fault in $there; do
+        pass_if "docs/CONTRACTS.md names the fault $fault of $name" grep -q "^| \`$name::.*\`$fault\`" docs/CONTRACTS.md
     done
 done
 
