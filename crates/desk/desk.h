@@ -1,9 +1,16 @@
 /* The library for C: metres and centimetres, expected readings, the search, records read and written, and the listing.
  *
- * Each function answers with the number of the refusal, 1 to 11 as document 01 counts them, or 0 for none, and sets every
- * result that is lent to it, whatever it held: after a refusal to 0, unless its comment says otherwise. Each is proved to
- * end, for every number and every content and length of a buffer. Places, readings and tolerances are whole centimetres;
- * a place is its easting, 0 to 100000000, and its northing, 0 to 1000000000.
+ * Each function answers with the number of the refusal, or 0 for none, and sets every result that is lent to it, whatever it
+ * held: after a refusal to 0, unless its comment says otherwise. Each is proved to end, for every number and every content and
+ * length of a buffer. Places, readings and tolerances are whole centimetres; a place is its easting, 0 to 100000000, and its
+ * northing, 0 to 1000000000.
+ *
+ *    1  a length that does not fit                     7  tolerance over 100,000
+ *    2  unknown kind, or a byte that must be zero      8  no matching cell
+ *    3  a number that is NaN, infinite or too large    9  no room
+ *    4  a place out of range                          10  allowance used up
+ *    5  no such chain, or a chain that is not sound   11  a hold with nothing to hold (in the text of a listing alone)
+ *    6  k over 24, or a window out of range
  *
  * What the caller owes, as for any C function: a result's pointer points to one variable of its type; a buffer's pointer
  * points to as many elements as the length behind it says, and is not NULL even where that is 0; and no two of the
