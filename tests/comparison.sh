@@ -1,6 +1,6 @@
 #!/usr/bin/env bash
-# The listing program and the library against the second program, second/, which shares nothing with them but document 01:
-# folders listed by both, byte for byte, and requests answered by both.
+# The listing program and the library against the second program, second/, which shares no code and no definition with
+# them: folders listed by both, byte for byte, and requests answered by both.
 #
 #   bash tests/comparison.sh [SEED [FOLDERS [REQUESTS]]]
 cd "$(dirname "$0")/.." && . tests/common.bash && . tests/library.bash

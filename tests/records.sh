@@ -15,6 +15,12 @@ refuses job 0 1 2 6 7
 refuses count 0 1
 refuses chain 0 1 5
 
+# each VERB: that each line of standard input, BYTES: ANSWER, is so; the bytes may be spaced
+each() {
+    local bytes answer
+    while IFS=: read -r bytes answer; do told "$1 ${bytes// /}" "${answer# }"; done
+}
+
 # 01's log of three records.
 told 'record 010100000100000000000000000059c000000000000069c00000000000000000' '0 1 1 1 -10000 -20000'
 told 'record 02000000020000005c8fc2f528c0724000000000000079400000000000000000' '0 2 0 2 30001 40000'
@@ -23,9 +29,7 @@ told 'record 0300000003000000000000000000000000000000000000000000000000000000' '
 # Log records by their bytes, and what they give in centimetres. Records too short and too long; the kinds beside the known
 # ones; the largest sizes and the next numbers; an infinity, a NaN, minus zero in a used field; 01's roundings; chain numbers
 # that are no matter of the record.
-while IFS=: read -r bytes answer; do
-    told "record ${bytes// /}" "${answer# }"
-done <<'END'
+each record <<'END'
 -: 1 0 0 0 0 0
 01 01 0000 01000000 00000000000059c0 00000000000069c0 00000000000000: 1 0 0 0 0 0
 01 01 0000 01000000 00000000000059c0 00000000000069c0 0000000000000000 00: 1 0 0 0 0 0
@@ -53,9 +57,7 @@ END
 # Bytes that must be zero: bytes 2 and 3, the chain of a grid record and of a hold, minus zero in a field that is not used;
 # also where a number is NaN. Then places: -0.001 m and -0.01 m, 1,000,000 m, 1,000,000.005 m, the northing 10,000,000 m,
 # and an easting out of range beside a northing that is NaN.
-while IFS=: read -r bytes answer; do
-    told "record ${bytes// /}" "${answer# }"
-done <<'END'
+each record <<'END'
 01 01 0100 01000000 00000000000059c0 00000000000069c0 0000000000000000: 2 0 0 1 0 0
 01 01 0001 01000000 00000000000059c0 00000000000069c0 0000000000000000: 2 0 0 1 0 0
 01 01 0100 01000000 000000000000f87f 000000000000f07f 0000000000000000: 2 0 0 1 0 0
@@ -106,9 +108,7 @@ told "chain 16 $zeros" '1 0 0 0 0 0 0'
 
 # Jobs: 01's, and its limits of k, of the corner, of the tolerance and of the allowance; a byte that must be zero, beside a
 # wrong k as well.
-while IFS=: read -r bytes answer; do
-    told "job ${bytes// /}" "${answer# }"
-done <<'END'
+each job <<'END'
 -: 1 0 0 0 0 0
 30750000 409c0000 01 000000 00000000 6400000000000000 00000000000000: 1 0 0 0 0 0
 30750000 409c0000 01 000000 00000000 6400000000000000 0000000000000000: 0 30000 40000 1 0 100

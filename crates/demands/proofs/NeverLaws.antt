@@ -26,10 +26,11 @@ use Rattle.records.specs.declared.NamedChain.{NamedChain}
 use Rattle.records.specs.declared.NamedChain.the-variants as named
 use Rattle.records.specs.declared.Job.{Job}
 use Rattle.records.specs.declared.JobAnswer.the-variants as job
-use Rattle.records.specs.Bytes.{areZero, unless}
+use Rattle.records.specs.Bytes.{areZero}
 use Rattle.records.specs.LogRecords.{logBytes, rawRecordOf, isHyperbolic, isGrid, isHold, logRecordOf, isPlace, placed, withBoth, inCentimetres, logEntryOf}
 use Rattle.records.specs.ChainTables.{chainBytes, oneTo, chainsIn, isTable, chainCountOf, chainAt, chainOf}
 use Rattle.records.specs.Jobs.{jobBytes, jobIn, jobOf}
+use Rattle.records.proofs.RefusalLaws.{either, either-kind}
 use Rattle.listing.specs.declared.Carried.{Carried}
 use Rattle.listing.specs.declared.Carried.the-variants as carried
 use Rattle.listing.specs.Answers.{Fix, Refused, searched, fixBy, holdOf, answerBy}
@@ -37,15 +38,6 @@ use Rattle.listing.specs.Answers.{Fix, Refused, searched, fixBy, holdOf, answer
 -- An answer is not this one.
 abbrev Not : {A : Type 0} → A → A → Type 0
 Not zero a = a ≡ zero → ⊥
-
--- What holds of both ways that a test leaves holds after it.
-either : {A : Type 0} (P : A → Type 0) (t : Bool) {x y : A} → P x → P y → P (unless t x y)
-either P true h k = k
-either P false h k = h
-
-either-kind : {A : Type 0} (P : A → Type 0) (t : Bool) {x y : A} → P x → P y → P (cond t x y)
-either-kind P true h k = h
-either-kind P false h k = k
 
 -- Two ends that differ.
 absurd-equal : _≡_ {A = ℕ} 0 1 → ⊥

@@ -24,11 +24,12 @@ use Rattle.search.specs.declared.Answer.{Answer}
 use Rattle.search.specs.declared.Answer.the-variants.{Places, ReadingTooLarge, Unsound, BadWindow, BadTolerance, NoMatch, NoRoom, AllowanceUsed}
 use Rattle.search.specs.Windows.{isWindow}
 use Rattle.search.specs.Questions.{Question, questionOf, mostTolerance, noneTooLarge}
-use Rattle.search.specs.Walk.{Standing, start, visit}
+use Rattle.search.specs.Walk.{Standing, start}
 use Rattle.search.specs.Answers.{Outcome, refused, gone, ended, unless, searchOf, entriesOf, listOf, searchFigures}
 use Rattle.search.specs.Cells.{matchingIn, visitsIn}
+use Rattle.search.proofs.AnswerLaws.{length-entries}
 use Rattle.search.proofs.Keeping.{visit-keeps}
-use Rattle.search.proofs.Outcomes.{Ending, early, done, full, out}
+use Rattle.search.proofs.Outcomes.{walk, Ending, early, done, full, out}
 use Rattle.records.specs.declared.Job.{Job}
 use Rattle.records.specs.declared.JobAnswer.the-variants as job
 use Rattle.records.specs.declared.LogEntry.{LogEntry}
@@ -90,10 +91,6 @@ pub listed-number : (b : Bool) (p : Part) (held text : List ℕ) →
 unfolding listedRefusal isAmong
 listed-number true p held text = (refl, λ r. absurd (r refl))
 listed-number false p held text = (refl, λ r. refl)
-
--- The walk of a search.
-abbrev walk : Question → Window → Standing
-walk q w = visit q (w .k) (w .corner) start
 
 -- What holds of both ways that a test leaves, or of the one that it takes, holds after it.
 module _ (P : Outcome → Type 0) where
@@ -206,17 +203,12 @@ room-kept q w =
     go [] v h = h
     go (p ∷ ps) v h = h
 
--- The entries of so many places, and of a list that has room for them.
-pub entries-length : (ps : List Place) → length (entriesOf ps) ≡ 2 * length ps
-unfolding entriesOf
-entries-length [] = refl
-entries-length (p ∷ ps) = omega (arith, entries-length ps)
-
+-- A list keeps its length where it has room for the places.
 pub list-length : (n : ℕ) (ps : List Place) → 2 * length ps ≤ n → length (listOf n ps) ≡ n
 unfolding listOf
 list-length n ps h =
     length-append (entriesOf ps) (replicate (n - 2 * length ps) 0)
-    ∙ omega (arith, entries-length ps, length-replicate {A = ℕ} (n - 2 * length ps) 0)
+    ∙ omega (arith, length-entries ps, length-replicate {A = ℕ} (n - 2 * length ps) 0)
 
 -- The window and the tolerance of an accepted job are good.
 pub job-good : (s : List ℕ) (j : Job) → jobOf s ≡ job.Job j → (isWindow (j .window) ≡ true) × (leb (j .tolerance) mostTolerance ≡ true)

@@ -15,7 +15,7 @@ use Rattle.search.specs.declared.Window.{Window}
 use Rattle.search.specs.Windows.{east, north, northEast}
 use Rattle.search.specs.Questions.{Question, matches, isKept}
 use Rattle.search.specs.Walk.{Standing, either, unchanged, start, visit}
-use Rattle.search.specs.Answers.{Outcome, gone, Accepted, searchFigures, figuresIn}
+use Rattle.search.specs.Answers.{Outcome, Accepted, searchFigures, figuresIn}
 use Rattle.search.specs.Cells.{Rises, cells, ifSo, those, matching, matchingIn, visitsIn, Listed, AmpleRoom}
 use Rattle.search.proofs.WalkLaws.{visit-after, visit-out, visit-cell, visit-square, quarters, cell-missed, cell-listed}
 use Rattle.search.proofs.AnswerLaws.{ended-out, search-walks}
@@ -23,7 +23,8 @@ use Rattle.search.proofs.CellLaws.{matching-counted}
 use Rattle.search.proofs.Whole.{going, matching-cell}
 use Rattle.search.proofs.Finished.{finished}
 use Rattle.search.proofs.Limits.{bounded}
-use Rattle.search.proofs.Outcomes.{ample-complete}
+use Rattle.search.proofs.Outcomes.{walk, ample-complete}
+use Rattle.search.proofs.Telling.{gone-small}
 use Rattle.demands.specs.Finding.{EachOnce}
 
 -- The numbers behind the first are larger: so it stands once.
@@ -112,9 +113,6 @@ module _ (q : Question) where
       record { stays = visit-stays (suc k) p; over = λ ps v e. square-over k p ih ps v (isKept q k p) refl (decLe (q .allowance) v) e }
 
 -- How an accepted search is told, by the stop of its walk.
-abbrev walk : Question → Window → Standing
-walk q w = visit q (w .k) (w .corner) start
-
 module _ (q : Question) (w : Window) (a : Accepted q w) where
   stop-10 : walk q w .stop ≡ 10 → figuresIn q w .refusal ≡ 10
   unfolding searchFigures
@@ -129,11 +127,6 @@ module _ (q : Question) (w : Window) (a : Accepted q w) where
           absurd (omega (arith, bounded q (w .k) (w .corner) .most, ap (λ (s : Standing). s .visits) (finished q (w .k) (w .corner) [] 0 z)))
       go (inr (inl n)) = absurd (omega (arith, fills q (w .k) (w .corner) .over [] 0 n))
       go (inr (inr t)) = stop-10 t
-
-  gone-small : (ps : List Place) (v : ℕ) → searchFigures (gone ps v .answer) .refusal ≤ 8
-  unfolding searchFigures
-  gone-small [] v = omega arith
-  gone-small (p ∷ ps) v = omega arith
 
   pub ten-only-then : AmpleRoom q w → figuresIn q w .refusal ≡ 10 → q .allowance < visitsIn q w
   ten-only-then room e = go (decLe (visitsIn q w) (q .allowance))

@@ -4,7 +4,7 @@ use mathlib.Core.Path.{_≡_, refl, ap}
 use mathlib.Core.Bool.{true}
 use mathlib.Core.List.{List}
 use native.Mathlib.Omega.{arith}
-use borrow.Author.Tests.{le-leb, eq-eqb}
+use borrow.Author.Tests.{le-leb}
 use lib.IntN.{ℤ, pos, natAbs}
 use Rattle.chart.specs.declared.Place.{Place}
 use Rattle.chart.specs.Places.{inRange}
@@ -13,6 +13,7 @@ use Rattle.records.specs.Bytes.{byteAt}
 use Rattle.records.specs.LogRecords.{isPlace}
 use Rattle.writing.specs.declared.Draft.{Draft}
 use Rattle.writing.specs.Writing.{refusalOf, usedOf, recordBytes, bufferOf}
+use Rattle.writing.proofs.WriteLaws.{buffer-written}
 
 -- What the writer accepts, by kind.
 pub hyperbolic-accepted : (chain line : ℕ) (a b : ℤ) → 1 ≤ chain → chain ≤ 16 → natAbs a ≤ 1_000_000_000 → natAbs b ≤ 1_000_000_000 →
@@ -32,14 +33,9 @@ pub hold-accepted : (chain line : ℕ) (x y : ℤ) → refusalOf 32 (record { ki
 unfolding refusalOf
 hold-accepted chain line x y = refl
 
--- The bytes of what was accepted are those of the record.
-pub put-down : (d : Draft) → refusalOf 32 d ≡ 0 → bufferOf 32 d ≡ recordBytes (usedOf d)
-unfolding bufferOf
-put-down d e = rw (eq-eqb (refusalOf 32 d) 0 e)
-
 -- The chain number of a hyperbolic record stands in byte 1.
 pub chain-byte : (chain line : ℕ) (a b : ℤ) →
     let d : Draft = record { kind = 1; chain = chain; line = line; x = a; y = b } in
     refusalOf 32 d ≡ 0 → byteAt (bufferOf 32 d) 1 ≡ chain
 unfolding recordBytes usedOf
-chain-byte chain line a b e = ap (λ (s : List ℕ). byteAt s 1) (put-down _ e)
+chain-byte chain line a b e = ap (λ (s : List ℕ). byteAt s 1) (buffer-written 32 _ e)

@@ -33,7 +33,7 @@ use Rattle.desk.specs.declared.JobFigures.{JobFigures}
 use Rattle.desk.specs.declared.HeldFigures.{HeldFigures}
 use Rattle.desk.specs.declared.ListedFigures.{ListedFigures}
 
--- A place and a chain by their figures.
+-- A place, a chain, a window and a draft by their figures.
 abbrev pub placeBy : ℕ → ℕ → Place
 placeBy e n = record { easting = e; northing = n }
 

@@ -16,6 +16,7 @@ use Rattle.search.specs.declared.Answer.{Answer}
 use Rattle.search.specs.declared.SearchFigures.{SearchFigures}
 use Rattle.search.specs.Questions.{Question, questionOf}
 use Rattle.search.specs.Answers.{Outcome, searchOf, entriesOf, listOf, searchFigures, figuresIn}
+use Rattle.search.proofs.AnswerLaws.{length-entries}
 use Rattle.search.proofs.Theorems.{listed-are-counted}
 use Rattle.records.specs.declared.Job.{Job}
 use Rattle.records.specs.declared.LogEntry.{LogEntry}
@@ -56,12 +57,6 @@ grid-tells p l = single-tells (Grid p) p l refl refl refl
 pub hold-tells : (p : Place) (l : List ℕ) → take 2 l ≡ p .easting ∷ p .northing ∷ [] → Tells (Hold p) (record { word = word.Hold; figure = 1; visits = 0; count = 1 }) l
 unfolding wordOf figureOf visitsOf placesOf
 hold-tells p l = single-tells (Hold p) p l refl refl refl
-
--- The places of a list, two entries each.
-pub length-entries : (ps : List Place) → length (entriesOf ps) ≡ 2 * length ps
-unfolding entriesOf
-length-entries [] = refl
-length-entries (p ∷ ps) = omega (arith, length-entries ps)
 
 -- The list of a search begins with its places.
 pub search-first : (ps : List Place) (count : ℕ) (l : List ℕ) → count ≡ length ps → length l ≡ listEntries → l ≡ listOf listEntries ps → Begins ps count l

@@ -1,15 +1,19 @@
 -- What a search answers, case by case: the first test that fails, or how the walk ended.
-use Prim.Native.Nat.{_<_}
-use mathlib.Core.Path.{_≡_}
+use Prim.Native.Nat.{_*_, _<_}
+use mathlib.Core.Path.{_≡_, refl}
 use mathlib.Core.Bool.{true, false}
+use mathlib.Core.List.{List, [], _∷_}
+use native.Mathlib.Omega.{arith}
 use borrow.Author.Tests.{le-leb, lt-leb, eq-eqb, ne-eqb}
+use lib.ListN.{length}
+use Rattle.chart.specs.declared.Place.{Place}
 use Rattle.chart.specs.Chains.{isSound}
 use Rattle.search.specs.declared.Window.{Window}
 use Rattle.search.specs.declared.Answer.the-variants.{ReadingTooLarge, Unsound, BadWindow, BadTolerance, NoRoom, AllowanceUsed}
 use Rattle.search.specs.Windows.{isWindow}
 use Rattle.search.specs.Questions.{Question, mostTolerance, noneTooLarge}
 use Rattle.search.specs.Walk.{Standing, start, visit}
-use Rattle.search.specs.Answers.{refused, gone, ended, Accepted, searchOf}
+use Rattle.search.specs.Answers.{refused, gone, ended, Accepted, searchOf, entriesOf}
 
 -- The end of a walk: 10, 9, or gone to its end.
 module _ (s : Standing) where
@@ -47,3 +51,9 @@ module _ (q : Question) (w : Window) where
   pub search-walks : Accepted q w → searchOf q w ≡ ended (visit q (w .k) (w .corner) start)
   unfolding searchOf
   search-walks a = rw (a .readings, a .chain, a .window, le-leb (q .tolerance) mostTolerance (a .tolerance))
+
+-- The places of a list, two entries each.
+pub length-entries : (ps : List Place) → length (entriesOf ps) ≡ 2 * length ps
+unfolding entriesOf
+length-entries [] = refl
+length-entries (p ∷ ps) = omega (arith, length-entries ps)

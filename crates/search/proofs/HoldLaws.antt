@@ -13,6 +13,7 @@ use Rattle.search.specs.Questions.{Question, matches, isKept}
 use Rattle.search.specs.Walk.{Standing, either, unchanged, stopped, counted, listed, cell, visit}
 use Rattle.search.specs.Answers.{entriesOf}
 use Rattle.search.specs.Holding.{Holds}
+use Rattle.search.proofs.AnswerLaws.{length-entries}
 use Rattle.search.proofs.WalkLaws.{visit-after, visit-out, visit-cell, visit-square, quarters, cell-missed, cell-full, cell-listed}
 
 -- The entries of one place more.
@@ -20,11 +21,6 @@ entries-more : (ps : List Place) (p : Place) → entriesOf (ps ++ (p ∷ [])) �
 unfolding entriesOf
 entries-more [] p = refl
 entries-more (o ∷ ps) p = ap (λ (l : List ℕ). o .easting ∷ o .northing ∷ l) (entries-more ps p)
-
-length-entries : (ps : List Place) → length (entriesOf ps) ≡ 2 * length ps
-unfolding entriesOf
-length-entries [] = refl
-length-entries (p ∷ ps) = omega (arith, length-entries ps)
 
 -- Two entries set, one after the other.
 set-two : (l : List ℕ) (i e n : ℕ) → i + 1 < length l → take (i + 2) (set (set l i e) (i + 1) n) ≡ (take i l ++ (e ∷ [])) ++ (n ∷ [])

@@ -11,7 +11,7 @@ pub mod Counting
 pub mod Keeping
 pub mod Limits
 pub mod Outcomes
-mod Telling
+pub mod Telling
 pub mod Theorems
 mod Agreeing
 pub mod Clearing

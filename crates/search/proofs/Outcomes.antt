@@ -24,7 +24,7 @@ use Rattle.search.proofs.Finished.{finished}
 use Rattle.search.proofs.Limits.{bounded, too-little-room}
 
 -- The walk of a search.
-abbrev walk : Question → Window → Standing
+abbrev pub walk : Question → Window → Standing
 walk q w = visit q (w .k) (w .corner) start
 
 -- The outcome of a walk that goes to its end.

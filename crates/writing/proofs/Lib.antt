@@ -1,5 +1,5 @@
 -- What follows from the definitions of the writer.
 pub mod Theorems
-mod WriteLaws
+pub mod WriteLaws
 mod ReadBack
 mod Worked
