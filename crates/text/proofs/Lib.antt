@@ -1,0 +1,5 @@
+-- What follows from the definitions of text and of putting it.
+pub mod Digits
+pub mod WholeLaws
+pub mod HexLaws
+pub mod PutLaws

@@ -1,0 +1,25 @@
+-- A text put into a buffer: where it ends, and what the buffer then holds.
+use Prim.Native.Nat.{ℕ, _+_, _≤_}
+use mathlib.Core.Path.{_≡_}
+use mathlib.Core.Bool.{Bool, cond}
+use mathlib.Core.List.{List, _++_}
+use lib.Dec.{leb}
+use lib.ListN.{length, take, drop}
+
+-- A buffer of so many bytes has room for a text from `at` on.
+abbrev pub roomFor : ℕ → ℕ → List ℕ → Bool
+roomFor bytes at text = leb (at + length text) bytes
+
+-- Where the text ends; without the room nothing is put, and that is `at`.
+unfoldable pub endAfter : ℕ → ℕ → List ℕ → ℕ
+endAfter bytes at text = cond (roomFor bytes at text) (at + length text) at
+
+-- The buffer then: the text from `at` on, and nothing else changed; without the room, as it was.
+unfoldable pub withText : List ℕ → ℕ → List ℕ → List ℕ
+withText out at text = cond (roomFor (length out) at text) (take at out ++ (text ++ drop (at + length text) out)) out
+
+-- A text that had the room was put into a buffer from `at` on, up to `end`, and nothing else in it changed.
+pub record Put (before : List ℕ) (at : ℕ) (text now : List ℕ) (end : ℕ) : Type 0 where
+  pub fits : at + length text ≤ length before
+  pub end-is : end ≡ at + length text
+  pub now-is : now ≡ take at before ++ (text ++ drop (at + length text) before)

@@ -1,0 +1,53 @@
+-- Text as bytes in ASCII: numbers in decimal, bytes in hexadecimal, and quoted words (01, The program; docs/FORMATS.md, Text).
+use Prim.Native.Nat.{ℕ, zero, suc, _+_, _-_, _*_, _/_, _%_}
+use mathlib.Core.Bool.{Bool, true, false, cond}
+use mathlib.Core.List.{List, [], _∷_, _++_}
+use lib.Dec.{leb, ltb}
+use lib.IntN.{ℤ, pos, negsuc}
+use Prim.Native.Char.{code}
+use Prim.Native.String.{String, [] as ε, _∷_ as _∷ˢ_}
+
+-- Text that is worked out only if so; else none.
+abbrev pub whereSo : Bool → (Unit {0} → List ℕ) → List ℕ
+whereSo true text = text tt
+whereSo false text = []
+
+-- The last digits of a number, at most so many, and none in front of its first.
+unfoldable pub lastDigits : ℕ → ℕ → List ℕ
+lastDigits zero n = []
+lastDigits (suc most) n = whereSo (leb 10 n) (λ _. lastDigits most (n / 10)) ++ ((48 + n % 10) ∷ [])
+
+-- A number in decimal without spare zeros. It has fewer digits than one more than itself.
+unfoldable pub digitsOf : ℕ → List ℕ
+digitsOf n = lastDigits (suc n) n
+
+-- A number behind a space.
+abbrev pub spaced : ℕ → List ℕ
+spaced n = 32 ∷ digitsOf n
+
+-- A whole number in decimal: one below 0 has a minus sign in front.
+unfoldable pub wholeText : ℤ → List ℕ
+wholeText (pos n) = digitsOf n
+wholeText (negsuc n) = 45 ∷ digitsOf (suc n)
+
+-- The value of decimal digits, behind the value of those before them.
+unfoldable pub numeralFrom : ℕ → List ℕ → ℕ
+numeralFrom before [] = before
+numeralFrom before (b ∷ bs) = numeralFrom (10 * before + (b - 48)) bs
+
+unfoldable pub numeral : List ℕ → ℕ
+numeral bs = numeralFrom 0 bs
+
+-- A number below 16 as a digit: 0 to 9, then a to f.
+unfoldable pub hexDigit : ℕ → ℕ
+hexDigit n = cond (ltb n 10) (48 + n) (87 + n)
+
+-- Bytes in hexadecimal: two digits a byte, the high half first.
+unfoldable pub hexOf : List ℕ → List ℕ
+hexOf [] = []
+hexOf (b ∷ bs) = hexDigit (b / 16) ∷ hexDigit (b % 16) ∷ hexOf bs
+
+-- The bytes of a quoted text.
+unfoldable pub bytesIn : String → List ℕ
+bytesIn ε = []
+bytesIn (c ∷ˢ s) = code c ∷ bytesIn s
