@@ -3,3 +3,4 @@ pub mod Digits
 pub mod WholeLaws
 pub mod HexLaws
 pub mod PutLaws
+mod Worked

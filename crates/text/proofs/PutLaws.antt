@@ -47,6 +47,14 @@ put-then {o} {at} {x} {o′} {end} {y} {o″} {end′} p q =
           ∙ ap (λ (z : List ℕ). take at o ++ z) (sym (append-assoc x y tail));
     }
 
+-- Two texts that are put where there is room for each are put where there is room for both.
+pub put-both : {o : List ℕ} {at : ℕ} {x o′ : List ℕ} {end : ℕ} {y o″ : List ℕ} {end′ : ℕ} →
+    (at + length x ≤ length o → Put o at x o′ end) → (end + length y ≤ length o′ → Put o′ end y o″ end′) →
+    at + length (x ++ y) ≤ length o → Put o at (x ++ y) o″ end′
+put-both {o} {at} {x} {o′} {end} {y} first second room =
+    let p = first (omega (arith, length-append x y)) in
+    put-then p (second (omega (arith, p .end-is, put-length p, length-append x y)))
+
 -- It ends no farther on than the text is long.
 pub end-within : {o : List ℕ} {at : ℕ} {x o′ : List ℕ} {end most : ℕ} → Put o at x o′ end → length x ≤ most → end ≤ at + most
 end-within p h = omega (arith, p .end-is, h)
