@@ -63,7 +63,10 @@ fn has_room(bytes: usize, at: usize, more: usize) -> bool
     if bytes < more {
         return false;
     }
-    at <= bytes - more
+    if bytes - more < at {
+        return false;
+    }
+    true
 }
 
 fn put_all(out: &mut [u8], at: usize, s: &[u8]) -> usize
