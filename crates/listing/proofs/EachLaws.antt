@@ -9,12 +9,14 @@ use lib.ListN.{length, take, drop, length-drop, drop-of-length-le}
 use lib.Seq.{take-all, drop-drop}
 use Rattle.records.specs.declared.Job.{Job}
 use Rattle.records.specs.LogRecords.{logBytes}
+use Rattle.text.specs.Puts.{Put}
+use Rattle.text.proofs.PutLaws.{put-then, put-none, put-as}
 use Rattle.listing.specs.declared.Carried.{Carried}
 use Rattle.listing.specs.declared.Listed.the-variants as listed
 use Rattle.listing.specs.Answers.{answerOf, carriedBy}
 use Rattle.listing.specs.Listings.{lineOf, Part, lineBefore, firstAnswer, firstLine, linesFrom, recordsIn, linesOf, longestLine}
-use Rattle.listing.specs.Putting.{Put, Gives}
-use Rattle.listing.proofs.PutLaws.{put-then, put-none, put-as, put-first}
+use Rattle.listing.specs.Putting.{Gives}
+use Rattle.listing.proofs.ListingLaws.{put-first}
 
 -- The bytes of one record, and those behind it.
 module _ (log : List ℕ) (done next : ℕ) (e : next ≡ min (done + logBytes) (length log)) where

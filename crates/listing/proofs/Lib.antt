@@ -1,8 +1,6 @@
 -- What follows from the definitions of the listing.
 pub mod Theorems
-pub mod Digits
 mod Parts
-mod PutLaws
 mod TellLaws
 mod LineLaws
 mod EachLaws

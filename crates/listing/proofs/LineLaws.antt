@@ -14,8 +14,8 @@ use Rattle.records.specs.declared.RawAnswer.{RawAnswer}
 use Rattle.records.specs.declared.RawAnswer.the-variants as raw
 use Rattle.records.specs.Bytes.{unless}
 use Rattle.records.specs.LogRecords.{logBytes, rawIn, rawRecordOf}
+use Rattle.text.specs.Texts.{digitsOf, spaced, bytesIn}
 use Rattle.listing.specs.declared.Told.{Told}
-use Rattle.listing.specs.Texts.{digitsOf, spaced, bytesIn}
 use Rattle.listing.specs.Answers.{RecordAnswer, Fix, Grid, Hold, Refused, placesOf}
 use Rattle.listing.specs.Listings.{headOf, placesText, answerText, lineOf}
 use Rattle.listing.specs.Putting.{Tells, entriesText, wordText, wordOf, figureOf, visitsOf}

@@ -1,9 +1,10 @@
 -- A listing by its job and its table, and what is answered of it in a buffer.
-use Prim.Native.Nat.{ℕ, _/_, _≤_, _<_}
-use mathlib.Core.Path.{_≡_, refl, sym, ap, subst}
-use mathlib.Core.List.{List}
+use Prim.Native.Nat.{ℕ, _+_, _/_, _≤_, _<_}
+use mathlib.Core.Path.{_≡_, refl, sym, ap, ap₂, _∙_, subst}
+use mathlib.Core.List.{List, _++_}
+use native.Mathlib.Omega.{arith}
 use borrow.Author.Tests.{lt-ltb, le-ltb}
-use lib.ListN.{length}
+use lib.ListN.{length, drop}
 use Rattle.records.specs.declared.Job.{Job}
 use Rattle.records.specs.declared.JobAnswer.{JobAnswer}
 use Rattle.records.specs.declared.JobAnswer.the-variants as job
@@ -11,6 +12,7 @@ use Rattle.records.specs.declared.ChainCount.{ChainCount}
 use Rattle.records.specs.LogRecords.{logBytes}
 use Rattle.records.specs.ChainTables.{chainCountOf}
 use Rattle.records.specs.Jobs.{jobOf}
+use Rattle.text.specs.Puts.{Put}
 use Rattle.listing.specs.declared.Carried.{Carried}
 use Rattle.listing.specs.declared.Listed.{Listed}
 use Rattle.listing.specs.declared.Listed.the-variants as listed
@@ -20,6 +22,15 @@ use Rattle.listing.specs.Putting.{Gives}
 -- The same listing is given the same.
 pub gives-as : {o : List ℕ} {p q : Part} {o′ : List ℕ} {a : Listed} → p ≡ q → Gives o p o′ a → Gives o q o′ a
 gives-as {o} {p} {q} {o′} {a} e h = subst (λ (x : Part). Gives o x o′ a) e h
+
+-- Text put at the start of a buffer is a listing in it.
+pub put-first : {o : List ℕ} {p : Part} {o′ : List ℕ} {end : ℕ} (place : Carried) → place ≡ p .carried → Put o 0 (p .text) o′ end → Gives o p o′ (listed.Text end place)
+put-first {o} {p} {o′} {end} place e h =
+    let none : 0 + length (p .text) ≡ length (p .text) = omega arith in
+    record {
+      answer-is = ap₂ listed.Text (h .end-is ∙ none) e;
+      now-is = h .now-is ∙ ap (λ (n : ℕ). p .text ++ drop n o) none;
+    }
 
 module _ (table log : List ℕ) (before : Carried) where
   -- With a job, by what the count of chains is.

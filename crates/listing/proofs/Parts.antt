@@ -14,8 +14,8 @@ use Rattle.records.specs.declared.ChainCount.the-variants as count
 use Rattle.records.specs.LogRecords.{logBytes, logRecordOf, inCentimetres, logEntryOf}
 use Rattle.records.specs.ChainTables.{chainCountOf}
 use Rattle.records.specs.Jobs.{jobOf}
+use Rattle.text.specs.Texts.{lastDigits, digitsOf, bytesIn}
 use Rattle.listing.specs.declared.Carried.{Carried}
-use Rattle.listing.specs.Texts.{lastDigits, digitsOf, bytesIn}
 use Rattle.listing.specs.Answers.{Refused, answerBy, answerOf, carriedBy}
 use Rattle.listing.specs.Listings.{headOf, answerText, Part, lineBefore, joined, firstAnswer, firstLine, linesFrom, recordsIn, linesOf, listingBy, listingFrom}
 

@@ -14,9 +14,9 @@ use Rattle.records.specs.declared.LogEntry.the-variants as entry
 use Rattle.records.specs.LogRecords.{logBytes, logEntryOf}
 use Rattle.records.specs.ChainTables.{chainCountOf}
 use Rattle.records.specs.Jobs.{jobOf}
+use Rattle.text.specs.Texts.{spaced, bytesIn}
 use Rattle.listing.specs.declared.Carried.{Carried}
 use Rattle.listing.specs.declared.Carried.the-variants as carried
-use Rattle.listing.specs.Texts.{spaced, bytesIn}
 use Rattle.listing.specs.Answers.{Fix, Grid, Hold, Refused, holdOf, answerBy, answerOf, placesOf, only, carriedBy}
 use Rattle.listing.specs.Listings.{Part, joined, linesFrom, listingBy, listingFrom, listingOf}
 use Rattle.listing.proofs.Parts.{short-line, listing-lines, listing-joined}

@@ -17,7 +17,7 @@ use Rattle.records.specs.Bytes.{allZero}
 use Rattle.records.specs.LogRecords.{logRecordOf, isPlace, placed, inCentimetres, logEntryOf}
 use Rattle.records.specs.ChainTables.{chainCountOf, chainOf}
 use Rattle.records.specs.Jobs.{jobOf}
-use Rattle.listing.specs.Texts.{lastDigits, digitsOf, bytesIn}
+use Rattle.text.specs.Texts.{lastDigits, digitsOf, bytesIn}
 use Rattle.listing.specs.Answers.{searched, fixBy, holdOf, answerBy, answerOf, placesOf, only}
 use Rattle.listing.specs.Listings.{headOf, placesText, answerText, linesFrom, listingBy, listingFrom, listingOf}
 

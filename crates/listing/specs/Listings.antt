@@ -13,11 +13,11 @@ use Rattle.records.specs.declared.ChainCount.the-variants as count
 use Rattle.records.specs.LogRecords.{logBytes, rawIn}
 use Rattle.records.specs.ChainTables.{chainCountOf}
 use Rattle.records.specs.Jobs.{jobOf}
+use Rattle.text.specs.Texts.{digitsOf, spaced, bytesIn}
 use Rattle.listing.specs.declared.Carried.{Carried}
 use Rattle.listing.specs.declared.Carried.the-variants as carried
 use Rattle.listing.specs.declared.Listed.{Listed}
 use Rattle.listing.specs.declared.Listed.the-variants as listed
-use Rattle.listing.specs.Texts.{digitsOf, spaced, bytesIn}
 use Rattle.listing.specs.Answers.{RecordAnswer, Fix, Grid, Hold, Refused, answerOf, carriedBy}
 
 -- What stands first in a record's line: its line number, or a dash where the record is too short to have one.

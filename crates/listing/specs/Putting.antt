@@ -1,24 +1,18 @@
--- How the code puts text into a buffer: what its private functions promise each other. No public promise rests on it.
+-- How the code puts lines into a buffer: what its private functions promise each other. No public promise rests on it.
 use Prim.Native.Nat.{ℕ, _+_, _*_, _≤_}
 use mathlib.Core.Path.{_≡_}
 use mathlib.Core.List.{List, [], _∷_, _++_}
 use lib.ListN.{length, take, drop}
 use Rattle.chart.specs.declared.Place.{Place}
 use Rattle.search.specs.Answers.{entriesOf}
+use Rattle.text.specs.Texts.{bytesIn, spaced}
 use Rattle.listing.specs.declared.Word.{Word}
 use Rattle.listing.specs.declared.Word.the-variants as word
 use Rattle.listing.specs.declared.Told.{Told}
 use Rattle.listing.specs.declared.Listed.{Listed}
 use Rattle.listing.specs.declared.Listed.the-variants as listed
-use Rattle.listing.specs.Texts.{bytesIn, spaced}
 use Rattle.listing.specs.Answers.{RecordAnswer, Fix, Grid, Hold, Refused, programRoom, placesOf}
 use Rattle.listing.specs.Listings.{Part}
-
--- A text was put into a buffer from `at` on, up to `end`, and nothing else in it changed.
-pub record Put (before : List ℕ) (at : ℕ) (text now : List ℕ) (end : ℕ) : Type 0 where
-  pub fits : at + length text ≤ length before
-  pub end-is : end ≡ at + length text
-  pub now-is : now ≡ take at before ++ (text ++ drop (at + length text) before)
 
 -- A listing was put at the start of a buffer, and this is answered of it.
 pub record Gives (before : List ℕ) (p : Part) (now : List ℕ) (answer : Listed) : Type 0 where

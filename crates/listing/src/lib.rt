@@ -9,10 +9,11 @@ ghost use Rattle.records.specs.declared.JobAnswer.the-variants as job;
 ghost use Rattle.records.specs.Bytes.{byteAt};
 ghost use Rattle.records.specs.LogRecords.{logBytes};
 ghost use Rattle.records.specs.ChainTables.{chainCountOf};
-ghost use Rattle.listing.specs.Texts.{digitsOf, spaced};
+ghost use Rattle.text.specs.Texts.{spaced};
+ghost use Rattle.text.specs.Puts.{Put};
 ghost use Rattle.listing.specs.Answers.{RecordAnswer, Refused, fixBy, holdOf, answerOf, searched, carriedBy, only, programRoom};
 ghost use Rattle.listing.specs.Listings.{headOf, lineOf, linesOf, noticeOf, listingBy, listingFrom, longestLine, listedIn, bufferWith};
-ghost use Rattle.listing.specs.Putting.{Put, Gives, Begins, Tells, listEntries, wordText, entriesText};
+ghost use Rattle.listing.specs.Putting.{Gives, Begins, Tells, listEntries, wordText, entriesText};
 use chart::Place;
 use records::ChainCount;
 use records::Job;
@@ -90,10 +91,10 @@ fn notice(out: &mut [u8], word: &[u8], number: u32) -> Listed
     requires { ⌜ (length (now word) ≤ 5) × (longestLine ≤ length (now out)) ⌝ }
     ensures { λ r. ⌜ Gives (now (out .entry)) (noticeOf (now (word .entry)) number) (now (out .exit)) r ⌝ }
 {
-    let a = put_text(out, 0, word);
-    let b = put_text(out, a, b" REFUSED");
+    let a = text::put(out, 0, word);
+    let b = text::put(out, a, b" REFUSED");
     let c = put_figure(out, b, number as u64);
-    let length = put_text(out, c, b"\n");
+    let length = text::put(out, c, b"\n");
     Listed::Text {
         length,
         carried: Carried::Nothing,
@@ -282,7 +283,7 @@ fn put_line(out: &mut [u8], at: usize, list: &[u32], s: &[u8], t: Told) -> usize
     let c = put_figure(out, b, t.figure);
     let d = put_figure(out, c, t.visits);
     let e = put_entries(out, d, list, 2 * t.count);
-    put_text(out, e, b"\n")
+    text::put(out, e, b"\n")
 }
 
 // The line number, or a dash where the record is too short to have one.
@@ -292,8 +293,8 @@ fn put_head(out: &mut [u8], at: usize, s: &[u8]) -> usize
     ensures end { λ r. ⌜ r ≤ at + 10 ⌝ }
 {
     match records::raw_record(s) {
-        RawAnswer::Record(r) => put_number(out, at, r.line as u64),
-        RawAnswer::Refused(_) => put_text(out, at, b"-"),
+        RawAnswer::Record(r) => text::put_number(out, at, r.line as u64),
+        RawAnswer::Refused(_) => text::put(out, at, b"-"),
     }
 }
 
@@ -303,10 +304,10 @@ fn put_word(out: &mut [u8], at: usize, w: Word) -> usize
     ensures end { λ r. ⌜ r ≤ at + 8 ⌝ }
 {
     match w {
-        Word::Fix => put_text(out, at, b" FIX"),
-        Word::Grid => put_text(out, at, b" GRID"),
-        Word::Hold => put_text(out, at, b" HOLD"),
-        Word::Refused => put_text(out, at, b" REFUSED"),
+        Word::Fix => text::put(out, at, b" FIX"),
+        Word::Grid => text::put(out, at, b" GRID"),
+        Word::Hold => text::put(out, at, b" HOLD"),
+        Word::Refused => text::put(out, at, b" REFUSED"),
     }
 }
 
@@ -331,39 +332,6 @@ fn put_figure(out: &mut [u8], at: usize, n: u64) -> usize
     ensures text { λ r. ⌜ Put (now (out .entry)) at (spaced n) (now (out .exit)) r ⌝ }
     ensures end { λ r. ⌜ r ≤ at + 21 ⌝ }
 {
-    let a = put_text(out, at, b" ");
-    put_number(out, a, n)
-}
-
-// A number in decimal, its first digits first.
-fn put_number(out: &mut [u8], at: usize, n: u64) -> usize
-    requires { ⌜ at + length (digitsOf n) ≤ length (now out) ⌝ }
-    ensures { λ r. ⌜ Put (now (out .entry)) at (digitsOf n) (now (out .exit)) r ⌝ }
-{
-    if n < 10 {
-        return put_digit(out, at, n);
-    }
-    let a = put_number(out, at, n / 10);
-    put_digit(out, a, n % 10)
-}
-
-fn put_digit(out: &mut [u8], at: usize, digit: u64) -> usize
-    requires { ⌜ (digit < 10) × (at < length (now out)) ⌝ }
-    ensures { λ r. ⌜ Put (now (out .entry)) at ((48 + digit) ∷ []) (now (out .exit)) r ⌝ }
-{
-    out[at] = 48 + digit as u8;
-    at + 1
-}
-
-// Some bytes, as they are.
-fn put_text(out: &mut [u8], at: usize, s: &[u8]) -> usize
-    requires { ⌜ at + length (now s) ≤ length (now out) ⌝ }
-    ensures { λ r. ⌜ Put (now (out .entry)) at (now (s .entry)) (now (out .exit)) r ⌝ }
-{
-    let mut i = 0;
-    while i < s.len() {
-        out[at + i] = s[i];
-        i += 1;
-    }
-    at + s.len()
+    let a = text::put(out, at, b" ");
+    text::put_number(out, a, n)
 }

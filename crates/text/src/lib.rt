@@ -63,7 +63,10 @@ fn has_room(bytes: usize, at: usize, more: usize) -> bool
     if bytes < more {
         return false;
     }
-    at <= bytes - more
+    if bytes - more < at {
+        return false;
+    }
+    true
 }
 
 fn put_all(out: &mut [u8], at: usize, s: &[u8]) -> usize
@@ -137,14 +140,14 @@ fn put_pair(out: &mut [u8], at: usize, b: u8) -> usize
     put_one(out, a, hex_digit(b % 16))
 }
 
-fn hex_digit(n: u8) -> u8
-    requires { ⌜ n < 16 ⌝ }
-    ensures { λ r. ⌜ r ≡ hexDigit n ⌝ }
+fn hex_digit(half: u8) -> u8
+    requires { ⌜ half < 16 ⌝ }
+    ensures { λ r. ⌜ r ≡ hexDigit half ⌝ }
 {
-    if n < 10 {
-        return 48 + n;
+    if half < 10 {
+        return 48 + half;
     }
-    87 + n
+    87 + half
 }
 
 fn put_one(out: &mut [u8], at: usize, b: u8) -> usize

@@ -1,7 +1,7 @@
 -- `listing::by_job` meets its contract: the table's refusal, or the lines.
 use mathlib.Core.Path.{sym, _∙_}
 use borrow.Author.Needs.{needs}
-use Rattle.listing.specs.Texts.{bytesIn}
+use Rattle.text.specs.Texts.{bytesIn}
 use Rattle.listing.specs.Listings.{listingBy}
 use Rattle.listing.proofs.ListingLaws.{gives-as, by-count}
 use Rattle.listing.proofs.by_job.Statement.{statement}

@@ -4,8 +4,8 @@ use mathlib.Core.Path.{_≡_, sym, _∙_}
 use native.Mathlib.Omega.{arith}
 use borrow.Author.Needs.{needs}
 use lib.ListN.{length, length-drop}
+use Rattle.text.proofs.PutLaws.{put-length}
 use Rattle.listing.specs.Putting.{listEntries}
-use Rattle.listing.proofs.PutLaws.{put-length}
 use Rattle.listing.proofs.EachLaws.{Reached, reached-none, reached-more, reached-all}
 use Rattle.listing.proofs.each_line.Statement.{statement}
 use Rattle.listing.proofs.each_line.Tie as tie

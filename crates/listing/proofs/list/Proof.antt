@@ -2,7 +2,7 @@
 use mathlib.Core.Path.{sym, _∙_}
 use native.Mathlib.Omega.{arith}
 use borrow.Author.Needs.{needs}
-use Rattle.listing.specs.Texts.{bytesIn}
+use Rattle.text.specs.Texts.{bytesIn}
 use Rattle.listing.specs.Listings.{listingBy}
 use Rattle.listing.proofs.ListingLaws.{gives-as, by-job, with-room, without-room}
 use Rattle.listing.proofs.list.Statement.{statement}

@@ -4,9 +4,10 @@ use mathlib.Core.Path.{_≡_, subst}
 use native.Mathlib.Omega.{arith}
 use borrow.Author.Needs.{needs}
 use lib.ListN.{getD, take}
-use Rattle.listing.specs.Putting.{Put, entriesText}
-use Rattle.listing.proofs.Digits.{digits-32}
-use Rattle.listing.proofs.PutLaws.{put-length, put-then, put-none, put-as}
+use Rattle.text.specs.Puts.{Put}
+use Rattle.text.proofs.Digits.{digits-32}
+use Rattle.text.proofs.PutLaws.{put-length, put-then, put-none, put-as}
+use Rattle.listing.specs.Putting.{entriesText}
 use Rattle.listing.proofs.LineLaws.{entries-more}
 use Rattle.listing.proofs.put_entries.Statement.{statement}
 use Rattle.listing.proofs.put_entries.Tie as tie

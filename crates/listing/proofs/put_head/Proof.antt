@@ -4,9 +4,9 @@ use mathlib.Core.Path.{sym, _∙_}
 use native.Mathlib.Omega.{arith}
 use borrow.Author.Needs.{needs}
 use lib.ListN.{length}
-use Rattle.listing.specs.Texts.{bytesIn}
-use Rattle.listing.proofs.Digits.{digits-32}
-use Rattle.listing.proofs.PutLaws.{put-as, end-within, room-32}
+use Rattle.text.specs.Texts.{bytesIn}
+use Rattle.text.proofs.Digits.{digits-32}
+use Rattle.text.proofs.PutLaws.{put-from, put-as, end-within, room-32}
 use Rattle.listing.proofs.LineLaws.{head-line, head-dash}
 use Rattle.listing.proofs.put_head.Statement.{statement}
 use Rattle.listing.proofs.put_head.Tie as tie
@@ -25,18 +25,16 @@ small : (c : tie.After-struct-known) → c .before .before .before .r .given .0 
 small c = search (needs, c .struct-known .given)
 
 put-number-requires : tie.Need-put-number-requires
-put-number-requires c κs =
-    let start = c .before .before .before .before .before .before .before .before in
-    room-32 (start .args .at) (length (start .args .out .now)) (omega (arith, small c)) (start .pre)
+put-number-requires c κs = search needs
 
 enum-told : tie.Need-enum-told
 enum-told c = search needs
 
-slice-aggregate-put-text : tie.Need-slice-aggregate-put-text
-slice-aggregate-put-text c = search needs
+slice-aggregate-put : tie.Need-slice-aggregate-put
+slice-aggregate-put c = search needs
 
-put-text-requires : tie.Need-put-text-requires
-put-text-requires c κs = search needs
+put-requires : tie.Need-put-requires
+put-requires c κs = search needs
 
 same-length : tie.Need-same-length
 same-length c = search needs
@@ -45,7 +43,8 @@ returns : tie.Need-returns
 returns c =
     let put = c .before .before in
     let read = put .before .before .before .before .before .before in
-    let number = put .put-number .ensures in (
+    let start = put .before .before .before .before .before .before .before .before .before in
+    let number = put-from (put .put-number .ensures) (room-32 (start .args .at) (length (start .args .out .now)) (omega (arith, small (put .before))) (start .pre)) in (
       put-as (head-line _ _ (sym (read .raw-record .ensures) ∙ put .before .before .before .before .r .given .1)) number,
       end-within number (digits-32 _ (omega (arith, small (put .before)))),
     )
@@ -58,7 +57,7 @@ unfolding bytesIn
 returns-2 c =
     let put = c .before .before in
     let told = put .before .before .before in
-    let dash = put .put-text .ensures in (
+    let dash = put-from (put .put .ensures) (omega arith) in (
       put-as (head-dash _ _ (sym (told .before .before .raw-record .ensures) ∙ told .enum-told .given .1)) dash,
       end-within dash (omega arith),
     )
@@ -72,8 +71,8 @@ put-head-spec =
     cast-put-number
     put-number-requires
     enum-told
-    slice-aggregate-put-text
-    put-text-requires
+    slice-aggregate-put
+    put-requires
     same-length
     returns
     same-length-2

@@ -1,10 +1,8 @@
 -- `listing::put_line` meets its contract: its six pieces, one behind the other.
-use Prim.Native.Nat.{_+_}
-use mathlib.Core.Path.{_≡_}
 use native.Mathlib.Omega.{arith}
 use borrow.Author.Needs.{needs}
-use Rattle.listing.specs.Texts.{bytesIn}
-use Rattle.listing.proofs.PutLaws.{put-then, put-as}
+use Rattle.text.specs.Texts.{bytesIn}
+use Rattle.text.proofs.PutLaws.{put-from, put-then, put-as}
 use Rattle.listing.proofs.LineLaws.{line-text}
 use Rattle.listing.proofs.put_line.Statement.{statement}
 use Rattle.listing.proofs.put_line.Tie as tie
@@ -58,18 +56,11 @@ put-entries-requires c κs =
       omega (arith, start .pre .1, start .pre .2, head .put-head .ensures .1, word .put-word .ensures .1, figure .put-figure .ensures .1, visits .put-figure2 .ensures .1, head .put-head .kept .0, word .put-word .kept .0, figure .put-figure .kept .0, visits .put-figure2 .kept .0),
     )
 
-slice-aggregate-put-text : tie.Need-slice-aggregate-put-text
-slice-aggregate-put-text c = search needs
+slice-aggregate-put : tie.Need-slice-aggregate-put
+slice-aggregate-put c = search needs
 
-put-text-requires : tie.Need-put-text-requires
-put-text-requires c κs =
-    let entries = c .before .before .before .before in
-    let visits = visits-of entries in
-    let figure = figure-of visits in
-    let word = word-of figure in
-    let head = head-of word in
-    let start = started head in
-    omega (arith, start .pre .1, start .pre .2, head .put-head .ensures .1, word .put-word .ensures .1, figure .put-figure .ensures .1, visits .put-figure2 .ensures .1, entries .put-entries .ensures .1, head .put-head .kept .0, word .put-word .kept .0, figure .put-figure .kept .0, visits .put-figure2 .kept .0, entries .put-entries .kept .0)
+put-requires : tie.Need-put-requires
+put-requires c κs = search needs
 
 same-length : tie.Need-same-length
 same-length c = search needs
@@ -84,14 +75,15 @@ returns c =
     let word = word-of figure in
     let head = head-of word in
     let start = started head in
-    let newline : end .put-text .result ≡ entries .put-entries .result + 1 = end .put-text .ensures .end-is in (
+    let newline =
+    put-from (end .put .ensures) (omega (arith, start .pre .1, start .pre .2, head .put-head .ensures .1, word .put-word .ensures .1, figure .put-figure .ensures .1, visits .put-figure2 .ensures .1, entries .put-entries .ensures .1, head .put-head .kept .0, word .put-word .kept .0, figure .put-figure .kept .0, visits .put-figure2 .kept .0, entries .put-entries .kept .0)) in (
       λ a told.
           put-as (line-text (start .args .s .now) a (start .args .t) (start .args .list .now) told)
           (put-then (head .put-head .ensures .0)
           (put-then (word .put-word .ensures .0)
           (put-then (figure .put-figure .ensures .0)
-          (put-then (visits .put-figure2 .ensures .0) (put-then (entries .put-entries .ensures .0) (end .put-text .ensures)))))),
-      omega (arith, start .pre .1, newline, head .put-head .ensures .1, word .put-word .ensures .1, figure .put-figure .ensures .1, visits .put-figure2 .ensures .1, entries .put-entries .ensures .1),
+          (put-then (visits .put-figure2 .ensures .0) (put-then (entries .put-entries .ensures .0) newline))))),
+      omega (arith, start .pre .1, newline .end-is, head .put-head .ensures .1, word .put-word .ensures .1, figure .put-figure .ensures .1, visits .put-figure2 .ensures .1, entries .put-entries .ensures .1),
     )
 
 pub put-line-spec : {M : Type 1} → statement M
@@ -104,7 +96,7 @@ put-line-spec =
     put-figure-requires-2
     mul-put-entries
     put-entries-requires
-    slice-aggregate-put-text
-    put-text-requires
+    slice-aggregate-put
+    put-requires
     same-length
     returns)

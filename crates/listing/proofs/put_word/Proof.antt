@@ -2,47 +2,47 @@
 use mathlib.Core.Path.{sym, ap}
 use native.Mathlib.Omega.{arith}
 use borrow.Author.Needs.{needs}
-use Rattle.listing.specs.Texts.{bytesIn}
+use Rattle.text.specs.Texts.{bytesIn}
+use Rattle.text.proofs.PutLaws.{put-from, put-as, end-within}
 use Rattle.listing.specs.Putting.{wordText}
-use Rattle.listing.proofs.PutLaws.{put-as, end-within}
 use Rattle.listing.proofs.put_word.Statement.{statement}
 use Rattle.listing.proofs.put_word.Tie as tie
 
 enum-told : tie.Need-enum-told
 enum-told c = search needs
 
-slice-aggregate-put-text : tie.Need-slice-aggregate-put-text
-slice-aggregate-put-text c = search needs
+slice-aggregate-put : tie.Need-slice-aggregate-put
+slice-aggregate-put c = search needs
 
-put-text-requires : tie.Need-put-text-requires
-put-text-requires c κs = search needs
+put-requires : tie.Need-put-requires
+put-requires c κs = search needs
 
 enum-told-2 : tie.Need-enum-told-2
 enum-told-2 c = search needs
 
-slice-aggregate-put-text-2 : tie.Need-slice-aggregate-put-text-2
-slice-aggregate-put-text-2 c = search needs
+slice-aggregate-put-2 : tie.Need-slice-aggregate-put-2
+slice-aggregate-put-2 c = search needs
 
-put-text-requires-2 : tie.Need-put-text-requires-2
-put-text-requires-2 c κs = search needs
+put-requires-2 : tie.Need-put-requires-2
+put-requires-2 c κs = search needs
 
 enum-told-3 : tie.Need-enum-told-3
 enum-told-3 c = search needs
 
-slice-aggregate-put-text-3 : tie.Need-slice-aggregate-put-text-3
-slice-aggregate-put-text-3 c = search needs
+slice-aggregate-put-3 : tie.Need-slice-aggregate-put-3
+slice-aggregate-put-3 c = search needs
 
-put-text-requires-3 : tie.Need-put-text-requires-3
-put-text-requires-3 c κs = search needs
+put-requires-3 : tie.Need-put-requires-3
+put-requires-3 c κs = search needs
 
 enum-told-4 : tie.Need-enum-told-4
 enum-told-4 c = search needs
 
-slice-aggregate-put-text-4 : tie.Need-slice-aggregate-put-text-4
-slice-aggregate-put-text-4 c = search needs
+slice-aggregate-put-4 : tie.Need-slice-aggregate-put-4
+slice-aggregate-put-4 c = search needs
 
-put-text-requires-4 : tie.Need-put-text-requires-4
-put-text-requires-4 c κs = search needs
+put-requires-4 : tie.Need-put-requires-4
+put-requires-4 c κs = search needs
 
 same-length : tie.Need-same-length
 same-length c = search needs
@@ -51,7 +51,7 @@ returns : tie.Need-returns
 unfolding wordText bytesIn
 returns c =
     let put = c .before .before in
-    let told = put .put-text .ensures in
+    let told = put-from (put .put .ensures) (omega arith) in
     (put-as (sym (ap wordText (put .before .before .before .enum-told .given .1))) told, end-within told (omega arith))
 
 same-length-2 : tie.Need-same-length-2
@@ -61,7 +61,7 @@ returns-2 : tie.Need-returns-2
 unfolding wordText bytesIn
 returns-2 c =
     let put = c .before .before in
-    let told = put .put-text2 .ensures in
+    let told = put-from (put .put2 .ensures) (omega arith) in
     (put-as (sym (ap wordText (put .before .before .before .enum-told2 .given .1))) told, end-within told (omega arith))
 
 same-length-3 : tie.Need-same-length-3
@@ -71,7 +71,7 @@ returns-3 : tie.Need-returns-3
 unfolding wordText bytesIn
 returns-3 c =
     let put = c .before .before in
-    let told = put .put-text3 .ensures in
+    let told = put-from (put .put3 .ensures) (omega arith) in
     (put-as (sym (ap wordText (put .before .before .before .enum-told3 .given .1))) told, end-within told (omega arith))
 
 same-length-4 : tie.Need-same-length-4
@@ -81,7 +81,7 @@ returns-4 : tie.Need-returns-4
 unfolding wordText bytesIn
 returns-4 c =
     let put = c .before .before in
-    let told = put .put-text4 .ensures in
+    let told = put-from (put .put4 .ensures) (omega arith) in
     (put-as (sym (ap wordText (put .before .before .before .enum-told4 .given .1))) told, end-within told (omega arith))
 
 pub put-word-spec : {M : Type 1} → statement M
@@ -89,17 +89,17 @@ put-word-spec =
     tie.close
     (tie.spec
     enum-told
-    slice-aggregate-put-text
-    put-text-requires
+    slice-aggregate-put
+    put-requires
     enum-told-2
-    slice-aggregate-put-text-2
-    put-text-requires-2
+    slice-aggregate-put-2
+    put-requires-2
     enum-told-3
-    slice-aggregate-put-text-3
-    put-text-requires-3
+    slice-aggregate-put-3
+    put-requires-3
     enum-told-4
-    slice-aggregate-put-text-4
-    put-text-requires-4
+    slice-aggregate-put-4
+    put-requires-4
     same-length
     returns
     same-length-2

@@ -8,13 +8,13 @@ add-result : tie.Need-add-result
 add-result c = search needs
 
 returns : tie.Need-returns
-returns c = hex-few (c .before .args .n) (c .if1 .taken)
+returns c = hex-few (c .before .args .half) (c .if1 .taken)
 
 add-result-2 : tie.Need-add-result-2
 add-result-2 c = search needs
 
 returns-2 : tie.Need-returns-2
-returns-2 c = hex-letter (c .before .args .n) (c .if1 .left)
+returns-2 c = hex-letter (c .before .args .half) (c .if1 .left)
 
 pub hex-digit-spec : {M : Type 1} → statement M
 hex-digit-spec = tie.close (tie.spec add-result returns add-result-2 returns-2)

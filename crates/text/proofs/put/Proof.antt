@@ -1,5 +1,8 @@
 -- `text::put` meets its contract: without room nothing changes, and with it all the bytes are put.
+use Prim.Native.Nat.{_+_, _≤_}
 use mathlib.Core.Path.{sym, _∙_}
+use native.Mathlib.Omega.{arith}
+use lib.ListN.{length}
 use borrow.Author.Needs.{needs}
 use borrow.Author.Tests.{leb-true, leb-false, not-true, not-false}
 use Rattle.text.proofs.PutLaws.{put-promised, nothing-promised}
@@ -13,7 +16,11 @@ returns : tie.Need-returns
 returns c = nothing-promised _ _ _ (leb-false _ _ (sym (c .before .has-room .ensures) ∙ not-true _ (c .if1 .taken)))
 
 put-all-requires : tie.Need-put-all-requires
-put-all-requires c κs = leb-true _ _ (sym (c .before .before .has-room .ensures) ∙ not-false _ (c .before .if1 .left))
+put-all-requires c κs =
+    let a = c .before .before .before .before .before .args in
+    let enough : a .at + length (a .s .now) ≤ length (a .out .now) =
+    leb-true _ _ (sym (c .before .before .has-room .ensures) ∙ not-false _ (c .before .if1 .left)) in
+    omega (arith, enough)
 
 same-length : tie.Need-same-length
 same-length c = search needs
