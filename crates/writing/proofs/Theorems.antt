@@ -1,21 +1,21 @@
 -- Demand 2, the writer: what it accepts is read back, and a refused write leaves zeros.
 -- `write` is proved to answer by the definitions; these theorems say what the definitions are worth.
 use Prim.Native.Nat.{ℕ, _^_, _<_}
-use mathlib.Core.Path.{_≡_, refl, sym, ap, _∙_, subst⁻¹}
-use mathlib.Core.Bool.{Bool, true, false}
+use mathlib.Core.Path.{_≡_, refl, sym, _∙_, subst⁻¹}
+use mathlib.Core.Bool.{true}
 use mathlib.Core.List.{[], _∷_}
 use lib.Dec.{eqb}
 use lib.IntN.{pos}
 use lib.Ieee.{toBits}
-use lib.ListN.{length, replicate, length-replicate}
-use borrow.Author.Tests.{eqb-true, eqb-false}
+use lib.ListN.{length, replicate}
 use Rattle.fields.specs.Fields.{bytesOf}
 use Rattle.metres.specs.Metres.{metresOf, lengthFigures}
 use Rattle.records.specs.LogRecords.{logBytes}
 use Rattle.records.specs.Refusals.{isAmong}
 use Rattle.records.proofs.RefusalLaws.{Among, either}
 use Rattle.writing.specs.declared.Draft.{Draft}
-use Rattle.writing.specs.Writing.{isKind, numbersFit, placeFits, chainFits, refusalOf, usedOf, metresBytes, bufferOf, ReadsAs}
+use Rattle.writing.specs.Writing.{isKind, numbersFit, placeFits, chainFits, refusalOf, usedOf, metresBytes, recordBytes, bufferOf, ReadsAs}
+use Rattle.writing.proofs.BufferLaws.{left-length}
 use Rattle.writing.proofs.WriteLaws.{buffer-written, buffer-zero, written-bytes, record-length}
 use Rattle.writing.proofs.ReadBack.{raw-back, entry-back}
 
@@ -37,13 +37,9 @@ refused-write-zeros bytes d refused = buffer-zero bytes d refused
 
 -- No write changes the length of its buffer.
 pub same-length : (bytes : ℕ) (d : Draft) → length (bufferOf bytes d) ≡ bytes
-same-length bytes d = go (eqb (refusalOf bytes d) 0) refl
-  where
-    go : (t : Bool) → eqb (refusalOf bytes d) 0 ≡ t → length (bufferOf bytes d) ≡ bytes
-    go true e =
-        let accepted = eqb-true (refusalOf bytes d) 0 e in
-        ap length (buffer-written bytes d accepted) ∙ record-length (usedOf d) ∙ sym (written-bytes bytes d accepted)
-    go false e = ap length (refused-write-zeros bytes d (eqb-false (refusalOf bytes d) 0 e)) ∙ length-replicate bytes 0
+unfolding bufferOf
+same-length bytes d =
+    left-length bytes (refusalOf bytes d) (recordBytes (usedOf d)) (λ e. record-length (usedOf d) ∙ sym (written-bytes bytes d e))
 
 -- A write has the refusals 1 to 5, by 01's numbers, with 0 for none.
 pub write-refusals : (bytes : ℕ) (d : Draft) → isAmong (refusalOf bytes d) (0 ∷ 1 ∷ 2 ∷ 3 ∷ 4 ∷ 5 ∷ []) ≡ true
