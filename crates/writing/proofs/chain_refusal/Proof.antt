@@ -2,7 +2,7 @@
 use mathlib.Core.Path.{sym, _∙_}
 use borrow.Author.Tests.{not-true, not-false}
 use borrow.Author.Needs.{needs}
-use Rattle.writing.proofs.ChainLaws.{chain-1, chain-5, chain-accepted}
+use Rattle.writing.proofs.ChainWriteLaws.{chain-1, chain-5, chain-accepted}
 use Rattle.writing.proofs.chain_refusal.Statement.{statement}
 use Rattle.writing.proofs.chain_refusal.Tie as tie
 

@@ -4,7 +4,7 @@ use mathlib.Core.Bool.{true}
 use borrow.Author.Tests.{not-true, not-false}
 use borrow.Author.Needs.{needs}
 use Rattle.search.specs.Windows.{isWindow}
-use Rattle.writing.proofs.JobLaws.{job-1, job-6, job-7, job-accepted}
+use Rattle.writing.proofs.JobWriteLaws.{job-1, job-6, job-7, job-accepted}
 use Rattle.writing.proofs.job_refusal.Statement.{statement}
 use Rattle.writing.proofs.job_refusal.Tie as tie
 

@@ -6,7 +6,7 @@ use native.Mathlib.Omega.{arith}
 use lib.ListN.{length}
 use borrow.Author.Needs.{needs}
 use Rattle.writing.specs.ChainWriting.{putPlaceAt}
-use Rattle.writing.proofs.ChainLaws.{places-together}
+use Rattle.writing.proofs.ChainWriteLaws.{places-together}
 use Rattle.writing.proofs.put_chain.Statement.{statement}
 use Rattle.writing.proofs.put_chain.Tie as tie
 

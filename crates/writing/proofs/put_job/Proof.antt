@@ -8,7 +8,7 @@ use borrow.Author.Needs.{needs}
 use Rattle.fields.specs.Fields.{putAt}
 use Rattle.writing.specs.ChainWriting.{putPlaceAt}
 use Rattle.writing.specs.JobWriting.{bytesOfJob}
-use Rattle.writing.proofs.JobLaws.{fields-together, job-length}
+use Rattle.writing.proofs.JobWriteLaws.{fields-together, job-length}
 use Rattle.writing.proofs.put_job.Statement.{statement}
 use Rattle.writing.proofs.put_job.Tie as tie
 

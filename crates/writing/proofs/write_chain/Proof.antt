@@ -4,7 +4,7 @@ use mathlib.Core.Path.{_≡_, sym, ap, _∙_}
 use lib.ListN.{length, replicate}
 use borrow.Author.Needs.{needs}
 use Rattle.writing.specs.ChainWriting.{chainRefusalOf}
-use Rattle.writing.proofs.ChainLaws.{chain-written, chain-zero, chain-fills}
+use Rattle.writing.proofs.ChainWriteLaws.{chain-written, chain-zero, chain-fills}
 use Rattle.writing.proofs.write_chain.Statement.{statement}
 use Rattle.writing.proofs.write_chain.Tie as tie
 

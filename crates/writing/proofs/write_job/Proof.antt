@@ -4,7 +4,7 @@ use mathlib.Core.Path.{_≡_, sym, ap, _∙_}
 use lib.ListN.{length, replicate}
 use borrow.Author.Needs.{needs}
 use Rattle.writing.specs.JobWriting.{jobRefusalOf}
-use Rattle.writing.proofs.JobLaws.{job-written, job-zero, job-passed, small-k}
+use Rattle.writing.proofs.JobWriteLaws.{job-written, job-zero, job-passed, small-k}
 use Rattle.writing.proofs.write_job.Statement.{statement}
 use Rattle.writing.proofs.write_job.Tie as tie
 

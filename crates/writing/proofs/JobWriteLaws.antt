@@ -3,6 +3,7 @@ use Prim.Native.Nat.{ℕ, _≤_, _<_}
 use mathlib.Core.Path.{_≡_, refl}
 use mathlib.Core.Bool.{true, false}
 use native.Mathlib.Omega.{arith}
+use lib.Dec.{leb, eqb}
 use lib.ListN.{length, set, replicate}
 use borrow.Author.Tests.{eqb-true, eq-eqb, ne-eqb, le-leb, lt-leb, leb-true}
 use Rattle.fields.specs.Fields.{bytesOf, putAt}
@@ -37,9 +38,9 @@ module _ (bytes : ℕ) (j : Job) (whole : bytes ≡ jobBytes) where
 pub job-passed : (bytes : ℕ) (j : Job) → jobRefusalOf bytes j ≡ 0 → (bytes ≡ jobBytes) × (isWindow (j .window) ≡ true) × (j .tolerance ≤ mostTolerance)
 unfolding jobRefusalOf
 job-passed bytes j e =
-    let whole = passed _ 1 _ (omega arith) e in
+    let whole = passed (eqb bytes jobBytes) 1 _ (omega arith) e in
     let window = passed (isWindow (j .window)) 6 _ (omega arith) (whole .1) in
-    (eqb-true bytes jobBytes (whole .0), window .0, leb-true _ _ (passed _ 7 0 (omega arith) (window .1) .0))
+    (eqb-true bytes jobBytes (whole .0), window .0, leb-true _ _ (passed (leb (j .tolerance) mostTolerance) 7 0 (omega arith) (window .1) .0))
 
 -- Its exponent fits a byte.
 pub small-k : (j : Job) → isWindow (j .window) ≡ true → j .window .k < 256
