@@ -1,6 +1,6 @@
 -- The tests of the writer of chains, one after the other, what each comes to, and the bytes that it puts.
 use Prim.Native.Nat.{ℕ}
-use mathlib.Core.Path.{_≡_, refl}
+use mathlib.Core.Path.{_≡_, refl, sym, _∙_}
 use mathlib.Core.Bool.{true, false}
 use native.Mathlib.Omega.{arith}
 use lib.ListN.{length, replicate}
@@ -10,7 +10,7 @@ use Rattle.chart.specs.declared.Chain.{Chain}
 use Rattle.chart.specs.Chains.{isSound}
 use Rattle.records.specs.ChainTables.{chainBytes}
 use Rattle.writing.specs.ChainWriting.{putPlaceAt, bytesOfChain, chainRefusalOf, chainBufferOf}
-use Rattle.writing.proofs.BufferLaws.{passed, left-written, left-zero}
+use Rattle.writing.proofs.BufferLaws.{passed, left-written, left-zero, left-length}
 
 -- The first test that fails refuses.
 pub chain-1 : (bytes : ℕ) (c : Chain) → (bytes ≡ chainBytes → ⊥) → chainRefusalOf bytes c ≡ 1
@@ -48,3 +48,9 @@ chain-written bytes c e = left-written bytes (chainRefusalOf bytes c) (bytesOfCh
 pub chain-zero : (bytes : ℕ) (c : Chain) → (chainRefusalOf bytes c ≡ 0 → ⊥) → chainBufferOf bytes c ≡ replicate bytes 0
 unfolding chainBufferOf
 chain-zero bytes c n = left-zero bytes (chainRefusalOf bytes c) (bytesOfChain c) n
+
+-- Neither has changed its length.
+pub chain-same-length : (bytes : ℕ) (c : Chain) → length (chainBufferOf bytes c) ≡ bytes
+unfolding chainBufferOf
+chain-same-length bytes c =
+    left-length bytes (chainRefusalOf bytes c) (bytesOfChain c) (λ e. chain-length c ∙ sym (chain-fills bytes c e))

@@ -1,9 +1,9 @@
 -- What follows from the definitions of the writers.
 pub mod Theorems
 pub mod WriteLaws
-pub mod ChainWriteLaws
-pub mod JobWriteLaws
 mod BufferLaws
+mod ChainWriteLaws
+mod JobWriteLaws
 mod ReadBack
 mod TableBack
 mod JobBack

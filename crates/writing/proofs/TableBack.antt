@@ -17,9 +17,8 @@ use Rattle.chart.specs.Chains.{isSound}
 use Rattle.chart.proofs.PlaceLaws.{both, and-both, in-range-says}
 use Rattle.chart.proofs.ChainLaws.{stations-in-range}
 use Rattle.records.specs.ChainTables.{chainBytes, mostChains, oneTo, chainsIn, isTable, chainAt}
-use Rattle.writing.specs.ChainWriting.{bytesOfChain, chainRefusalOf, chainBufferOf, allSound, tableOf}
-use Rattle.writing.proofs.BufferLaws.{left-length}
-use Rattle.writing.proofs.ChainWriteLaws.{chain-accepted, chain-written, chain-length}
+use Rattle.writing.specs.ChainWriting.{bytesOfChain, chainBufferOf, allSound, tableOf}
+use Rattle.writing.proofs.ChainWriteLaws.{chain-accepted, chain-written, chain-same-length}
 
 -- The numbers of a place in range fit four bytes each.
 pub small-place : (p : Place) → inRange p ≡ true → (p .easting < 256 ^ 4) × (p .northing < 256 ^ 4)
@@ -27,7 +26,7 @@ small-place p h =
     let says = in-range-says p h in
     (omega arith, omega arith)
 
--- The first chain of some bytes, and any chain behind it.
+-- A chain comes back from the start of some bytes.
 chain-first : (c : Chain) (rest : List ℕ) → isSound c ≡ true → chainAt (bytesOfChain c ++ rest) 0 ≡ c
 unfolding bytesOfChain bytesOf valueOf
 chain-first c rest sound =
@@ -59,6 +58,7 @@ chain-from s at =
       field-from s at 20 (at + 16 + 4) (omega arith),
     )
 
+-- So a chain behind others is where it would be without them, as much farther as they are long.
 chain-behind : (front rest : List ℕ) (at : ℕ) → chainAt (front ++ rest) (length front + at) ≡ chainAt rest at
 chain-behind front rest at =
     chain-from (front ++ rest) (length front + at)
@@ -66,15 +66,11 @@ chain-behind front rest at =
     ∙ sym (chain-from rest at)
 
 -- Every chain has 24 bytes of the table, whether it was written or refused.
-buffer-length : (c : Chain) → length (chainBufferOf chainBytes c) ≡ chainBytes
-unfolding chainBufferOf
-buffer-length c = left-length chainBytes (chainRefusalOf chainBytes c) (bytesOfChain c) (λ e. chain-length c)
-
-pub table-length : (cs : List Chain) → length (tableOf cs) ≡ chainBytes * length cs
+table-length : (cs : List Chain) → length (tableOf cs) ≡ chainBytes * length cs
 unfolding tableOf
 table-length [] = refl
 table-length (c ∷ cs) =
-    omega (arith, length-append (chainBufferOf chainBytes c) (tableOf cs), buffer-length c, table-length cs)
+    omega (arith, length-append (chainBufferOf chainBytes c) (tableOf cs), chain-same-length chainBytes c, table-length cs)
 
 -- Each of the chains comes back from its place in the table.
 pub chain-back : (cs : List Chain) (i : ℕ) (other : Chain) → allSound cs ≡ true → i < length cs →
@@ -86,7 +82,7 @@ chain-back (c ∷ cs) zero other sound h =
     ap (λ (s : List ℕ). chainAt (s ++ tableOf cs) 0) (chain-written chainBytes c (chain-accepted chainBytes c refl good))
     ∙ chain-first c (tableOf cs) good
 chain-back (c ∷ cs) (suc i) other sound h =
-    let farther : chainBytes * suc i ≡ length (chainBufferOf chainBytes c) + chainBytes * i = omega (arith, buffer-length c) in
+    let farther : chainBytes * suc i ≡ length (chainBufferOf chainBytes c) + chainBytes * i = omega (arith, chain-same-length chainBytes c) in
     ap (chainAt (chainBufferOf chainBytes c ++ tableOf cs)) farther
     ∙ chain-behind (chainBufferOf chainBytes c) (tableOf cs) (chainBytes * i)
     ∙ chain-back cs i other (both (isSound c) (allSound cs) sound .1) (omega arith)

@@ -29,12 +29,12 @@ use Rattle.records.proofs.TableLaws.{counted, chain-named}
 use Rattle.records.proofs.RefusalLaws.{Among, either}
 use Rattle.writing.specs.declared.Draft.{Draft}
 use Rattle.writing.specs.Writing.{isKind, numbersFit, placeFits, chainFits, refusalOf, usedOf, metresBytes, recordBytes, bufferOf, ReadsAs}
-use Rattle.writing.specs.ChainWriting.{bytesOfChain, chainRefusalOf, chainBufferOf, allSound, tableOf}
-use Rattle.writing.specs.JobWriting.{bytesOfJob, jobRefusalOf, jobBufferOf}
+use Rattle.writing.specs.ChainWriting.{chainRefusalOf, chainBufferOf, allSound, tableOf}
+use Rattle.writing.specs.JobWriting.{jobRefusalOf, jobBufferOf}
 use Rattle.writing.proofs.BufferLaws.{left-length}
 use Rattle.writing.proofs.WriteLaws.{buffer-written, buffer-zero, written-bytes, record-length}
-use Rattle.writing.proofs.ChainWriteLaws.{chain-accepted, chain-fills, chain-length, chain-zero}
-use Rattle.writing.proofs.JobWriteLaws.{job-accepted, job-passed, job-length, job-written, job-zero}
+use Rattle.writing.proofs.ChainWriteLaws.{chain-accepted, chain-zero}
+use Rattle.writing.proofs.JobWriteLaws.{job-accepted, job-passed, job-written, job-zero}
 use Rattle.writing.proofs.ReadBack.{raw-back, entry-back}
 use Rattle.writing.proofs.TableBack.{chain-back, sound-there, chains-there, is-table}
 use Rattle.writing.proofs.JobBack.{job-back}
@@ -107,17 +107,6 @@ refused-chain-zeros bytes c refused = chain-zero bytes c refused
 
 pub refused-job-zeros : (bytes : ℕ) (j : Job) → (jobRefusalOf bytes j ≡ 0 → ⊥) → jobBufferOf bytes j ≡ replicate bytes 0
 refused-job-zeros bytes j refused = job-zero bytes j refused
-
--- Neither changes the length of its buffer.
-pub chain-same-length : (bytes : ℕ) (c : Chain) → length (chainBufferOf bytes c) ≡ bytes
-unfolding chainBufferOf
-chain-same-length bytes c =
-    left-length bytes (chainRefusalOf bytes c) (bytesOfChain c) (λ e. chain-length c ∙ sym (chain-fills bytes c e))
-
-pub job-same-length : (bytes : ℕ) (j : Job) → length (jobBufferOf bytes j) ≡ bytes
-unfolding jobBufferOf
-job-same-length bytes j =
-    left-length bytes (jobRefusalOf bytes j) (bytesOfJob j) (λ e. job-length j ∙ sym (job-passed bytes j e .0))
 
 -- A chain has the refusals 1 and 5, and a job 1, 6 and 7, with 0 for none.
 pub chain-write-refusals : (bytes : ℕ) (c : Chain) → isAmong (chainRefusalOf bytes c) (0 ∷ 1 ∷ 5 ∷ []) ≡ true
