@@ -2,3 +2,6 @@
 mod Scans
 mod Values
 mod Lines
+mod Held
+mod HeldRecords
+pub mod Fields
