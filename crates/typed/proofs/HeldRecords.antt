@@ -30,7 +30,6 @@ use Rattle.writing.specs.Writing.{isKind, numbersFit, placeFits, chainFits, ref
 use Rattle.writing.specs.ChainWriting.{chainRefusalOf}
 use Rattle.writing.specs.JobWriting.{jobRefusalOf}
 use Rattle.writing.proofs.WriteLaws.{known-kind}
-use Rattle.typed.specs.declared.TypedChain.the-variants as chain
 use Rattle.typed.specs.Numbers.{held}
 use Rattle.typed.proofs.Held.{number-held, held-most, held-equal, held-one-to, heldPlace, held-in-range, place-held, heldChain, chain-held, held-sound, heldWindow, held-is-window, window-held, heldWhole, held-size, whole-held, held-is-place}
 
