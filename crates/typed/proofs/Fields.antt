@@ -11,6 +11,7 @@ use Rattle.chart.specs.declared.Chain.{Chain}
 use Rattle.chart.specs.Places.{inRange}
 use Rattle.chart.specs.Readings.{expectedAt}
 use Rattle.chart.proofs.PlaceLaws.{both}
+use Rattle.records.specs.Bytes.{unless}
 use Rattle.records.specs.declared.Job.{Job}
 use Rattle.records.specs.ChainTables.{chainOf}
 use Rattle.writing.specs.declared.Draft.{Draft}
@@ -82,13 +83,17 @@ chain-as-typed bytes s c e =
     let refused = ap (chainRefusalOf bytes) same ∙ chain-refused bytes (chainTyped s) in
     (refused, λ accepted. same ∙ chain-kept bytes (chainTyped s) (sym refused ∙ accepted))
 
+-- A line of the form is given its numbers as the fields of a draft hold them.
+pub draft-line : (s : List ℕ) → draftIn s ≡ unless (isDraft s) (draft.Refused 12) (draft.Draft (heldDraft (draftTyped s)))
+unfolding draftIn
+draft-line s = rw (held-signed (isBelow (wordAt 3 s)) (sizeAt s 3), held-signed (isBelow (wordAt 4 s)) (sizeAt s 4))
+
 -- The same of a draft; one that is accepted has the numbers that its kind uses.
 pub draft-as-typed : (bytes : ℕ) (s : List ℕ) (d : Draft) → draftIn s ≡ draft.Draft d →
     (refusalOf bytes d ≡ refusalOf bytes (draftTyped s)) × (refusalOf bytes d ≡ 0 → usedOf d ≡ usedOf (draftTyped s))
-unfolding draftIn
 draft-as-typed bytes s d e =
-    let form = passed (isDraft s) (λ f. false≢true (cc)) e in
-    let same : d ≡ heldDraft (draftTyped s) = rw (held-signed (isBelow (wordAt 3 s)) (sizeAt s 3), held-signed (isBelow (wordAt 4 s)) (sizeAt s 4)) (cc (form .1)) in
+    let form = passed (isDraft s) (λ f. false≢true (cc)) (sym (draft-line s) ∙ e) in
+    let same : d ≡ heldDraft (draftTyped s) = cc (form .1) in
     let refused = ap (refusalOf bytes) same ∙ draft-refused bytes (draftTyped s) in
     (refused, λ accepted. ap usedOf same ∙ draft-kept bytes (draftTyped s) (line-fits s (form .0)) (sym refused ∙ accepted))
 

@@ -2,7 +2,7 @@
 -- of the numbers themselves, and what is accepted has them.
 use Prim.Native.Nat.{ℕ, _%_, _^_, _≤_, _<_}
 use mathlib.Core.Path.{_≡_, refl, sym, ap, _∙_}
-use mathlib.Core.Bool.{Bool, true, false, not, cond, _&&_, _||_, and-false}
+use mathlib.Core.Bool.{Bool, true, false, cond, _&&_, _||_, and-false}
 use mathlib.Core.List.{List}
 use native.Mathlib.Omega.{arith}
 use borrow.Author.Tests.{leb-true, lt-leb, ltb-true, ltb-false}
@@ -26,10 +26,10 @@ use Rattle.records.specs.ChainTables.{chainBytes, mostChains, oneTo, chainOf, i
 use Rattle.records.specs.Jobs.{jobBytes}
 use Rattle.records.proofs.TableLaws.{one-to-says}
 use Rattle.writing.specs.declared.Draft.{Draft}
-use Rattle.writing.specs.Writing.{isKind, numbersFit, placeFits, chainFits, refusalOf, usedOf}
+use Rattle.writing.specs.Writing.{isKind, numbersFit, refusalOf, usedOf}
 use Rattle.writing.specs.ChainWriting.{chainRefusalOf}
 use Rattle.writing.specs.JobWriting.{jobRefusalOf}
-use Rattle.writing.proofs.WriteLaws.{known-kind}
+use Rattle.writing.proofs.WriteLaws.{used-small}
 use Rattle.typed.specs.Numbers.{held}
 use Rattle.typed.proofs.Held.{number-held, held-most, held-equal, held-one-to, heldPlace, held-in-range, place-held, heldChain, chain-held, held-sound, heldWindow, held-is-window, window-held, heldWhole, held-size, whole-held, held-is-place}
 
@@ -89,34 +89,44 @@ draft-refused bytes d =
       held-one-to 32 mostChains (d .chain) (omega arith),
     )
 
--- Of a draft only what its kind uses is held to its size.
-chain-used : (t : Bool) (n : ℕ) → (not t || oneTo mostChains n) ≡ true → cond t (held 32 n) 0 ≡ cond t n 0
-chain-used true n h = number-held 32 n (omega (arith, one-to-says mostChains n h .1))
-chain-used false n h = refl
+-- Of a draft only what its kind uses is held to its size, and that has the numbers of a draft that is accepted.
+held-used : (d : Draft) → usedOf (heldDraft d) ≡ heldDraft (usedOf d)
+unfolding usedOf
+held-used d = rw (held-equal 32 (d .kind) 1 (omega arith), held-equal 32 (d .kind) 3 (omega arith), chain-held-if (eqb (d .kind) 1) (d .chain), whole-held-if (eqb (d .kind) 3) (d .x), whole-held-if (eqb (d .kind) 3) (d .y))
+  where
+    chain-held-if : (t : Bool) (n : ℕ) → cond t (held 32 n) 0 ≡ held 32 (cond t n 0)
+    chain-held-if true n = refl
+    chain-held-if false n = refl
 
-whole-used : (t : Bool) (z : ℤ) → (t || leb (natAbs z) mostCentimetres) ≡ true → cond t (pos 0) (heldWhole z) ≡ cond t (pos 0) z
-whole-used true z h = refl
-whole-used false z h = whole-held z (leb-true _ _ h)
+    whole-held-if : (t : Bool) (z : ℤ) → cond t (pos 0) (heldWhole z) ≡ heldWhole (cond t (pos 0) z)
+    whole-held-if true z = refl
+    whole-held-if false z = refl
 
 each-of : (t u v : Bool) → (t || (u && v)) ≡ true → ((t || u) ≡ true) × ((t || v) ≡ true)
 each-of true u v h = (refl, refl)
 each-of false u v h = both u v h
 
-pub draft-kept : (bytes : ℕ) (d : Draft) → d .line < 2 ^ 32 → refusalOf bytes d ≡ 0 → usedOf (heldDraft d) ≡ usedOf d
+whole-used : (t : Bool) (z : ℤ) → (t || leb (natAbs z) mostCentimetres) ≡ true → heldWhole (cond t (pos 0) z) ≡ cond t (pos 0) z
+whole-used true z h = refl
+whole-used false z h = whole-held z (leb-true _ _ h)
+
+pub used-kept : (bytes : ℕ) (d : Draft) → d .line < 2 ^ 32 → refusalOf bytes d ≡ 0 → heldDraft (usedOf d) ≡ usedOf d
 unfolding refusalOf usedOf
-draft-kept bytes d small e =
+used-kept bytes d small e =
     let kind = passed (isKind (d .kind)) (λ f. omega arith) (passed (eqb bytes logBytes) (λ f. omega arith) e .1) in
-    let numbers = passed (numbersFit d) (λ f. omega arith) (kind .1) in
-    let place = passed (placeFits d) (λ f. omega arith) (numbers .1) in
-    let number = passed (chainFits d) (λ f. omega arith) (place .1) .0 in
-    let each = each-of (eqb (d .kind) 3) (leb (natAbs (d .x)) mostCentimetres) (leb (natAbs (d .y)) mostCentimetres) (numbers .0) in
+    let numbers = passed (numbersFit d) (λ f. omega arith) (kind .1) .0 in
+    let each = each-of (eqb (d .kind) 3) (leb (natAbs (d .x)) mostCentimetres) (leb (natAbs (d .y)) mostCentimetres) numbers in
+    let bytes-small = used-small bytes d e in
     rw (
-      number-held 32 (d .kind) (omega (arith, known-kind (d .kind) (kind .0))),
+      number-held 32 (d .kind) (omega (arith, bytes-small .0)),
+      number-held 32 (cond (eqb (d .kind) 1) (d .chain) 0) (omega (arith, bytes-small .1)),
       number-held 32 (d .line) small,
-      chain-used (eqb (d .kind) 1) (d .chain) number,
       whole-used (eqb (d .kind) 3) (d .x) (each .0),
       whole-used (eqb (d .kind) 3) (d .y) (each .1),
     )
+
+pub draft-kept : (bytes : ℕ) (d : Draft) → d .line < 2 ^ 32 → refusalOf bytes d ≡ 0 → usedOf (heldDraft d) ≡ usedOf d
+draft-kept bytes d small e = held-used d ∙ used-kept bytes d small e
 
 -- A question: the chain of a table that has the number, and the readings expected at the place.
 table-few : (table : List ℕ) → isTable table ≡ true → chainsIn table ≤ mostChains
