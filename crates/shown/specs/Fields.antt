@@ -10,11 +10,6 @@ use Rattle.metres.specs.declared.Whole.{Whole}
 use Rattle.metres.specs.declared.Whole.the-variants as whole
 use Rattle.metres.specs.Metres.{centimetresOf}
 
--- Numbers, each behind a space.
-unfoldable pub figuresText : List ℕ → List ℕ
-figuresText [] = []
-figuresText (n ∷ ns) = spaced n ++ figuresText ns
-
 -- A number of metres in whole centimetres, or a dash where it cannot be told.
 unfoldable pub wholeOr : Whole → List ℕ
 wholeOr (whole.Centimetres z) = wholeText z

@@ -7,12 +7,11 @@ ghost use Rattle.records.specs.LogRecords.{logEntryOf};
 ghost use Rattle.records.specs.Refusals.{entryRefusal, jobRefusal};
 ghost use Rattle.records.specs.Jobs.{jobOf};
 ghost use Rattle.writing.specs.Writing.{metresBytes};
-ghost use Rattle.text.specs.Texts.{hexOf, bytesIn};
-ghost use Rattle.text.specs.Puts.{Put};
-ghost use Rattle.shown.specs.Fields.{figuresText, centimetresText, decimalText, metresText, hexText, refusedText};
+ghost use Rattle.text.specs.Texts.{figuresText, hexOf, bytesIn};
+ghost use Rattle.shown.specs.Fields.{centimetresText, decimalText, metresText, hexText, refusedText};
 ghost use Rattle.shown.specs.Lines.{jobText, jobLine, chainText, refusalIn, chainLine, rawText, recordText, recordLine};
 ghost use Rattle.shown.specs.Expected.{noReadings, byChain, expectedIn, writtenText, slaveLine};
-ghost use Rattle.shown.specs.Rooms.{Says, lineFor, bufferFor, hasRoom, inRoom, replyOf};
+ghost use Rattle.shown.specs.Rooms.{Says, lineFor, bufferFor, hasRoom, inRoom, replyOf, Puts};
 use chart::Figures;
 use chart::Place;
 use metres::Whole;
@@ -170,9 +169,8 @@ fn no_readings(refusal: u32) -> Figures
 }
 
 fn put_job(out: &mut [u8], at: usize, s: &[u8]) -> usize
-    requires { ⌜ at + 105 ≤ length (now out) ⌝ }
-    ensures text { λ r. ⌜ Put (now (out .entry)) at (jobText (now (s .entry))) (now (out .exit)) r ⌝ }
-    ensures end { λ r. ⌜ r ≤ at + 105 ⌝ }
+    ensures text { λ r. ⌜ Puts (now (out .entry)) at (jobText (now (s .entry))) (now (out .exit)) r ⌝ }
+    ensures few { λ _. ⌜ length (jobText (now (s .entry))) ≤ 105 ⌝ }
 {
     match records::raw_job(s) {
         JobAnswer::Job(j) => put_figures(
@@ -191,9 +189,8 @@ fn put_job(out: &mut [u8], at: usize, s: &[u8]) -> usize
 }
 
 fn put_chain(out: &mut [u8], at: usize, number: u32, s: &[u8]) -> usize
-    requires { ⌜ at + 147 ≤ length (now out) ⌝ }
-    ensures text { λ r. ⌜ Put (now (out .entry)) at (chainText number (now (s .entry))) (now (out .exit)) r ⌝ }
-    ensures end { λ r. ⌜ r ≤ at + 147 ⌝ }
+    ensures text { λ r. ⌜ Puts (now (out .entry)) at (chainText number (now (s .entry))) (now (out .exit)) r ⌝ }
+    ensures few { λ _. ⌜ length (chainText number (now (s .entry))) ≤ 147 ⌝ }
 {
     match records::raw_chain(s) {
         NamedChain::Chain(c) => put_figures(
@@ -214,9 +211,8 @@ fn put_chain(out: &mut [u8], at: usize, number: u32, s: &[u8]) -> usize
 }
 
 fn put_record(out: &mut [u8], at: usize, s: &[u8]) -> usize
-    requires { ⌜ at + 105 ≤ length (now out) ⌝ }
-    ensures text { λ r. ⌜ Put (now (out .entry)) at (recordText (now (s .entry))) (now (out .exit)) r ⌝ }
-    ensures end { λ r. ⌜ r ≤ at + 105 ⌝ }
+    ensures text { λ r. ⌜ Puts (now (out .entry)) at (recordText (now (s .entry))) (now (out .exit)) r ⌝ }
+    ensures few { λ _. ⌜ length (recordText (now (s .entry))) ≤ 105 ⌝ }
 {
     match records::raw_record(s) {
         RawAnswer::Record(r) => put_raw(out, at, r),
@@ -225,9 +221,8 @@ fn put_record(out: &mut [u8], at: usize, s: &[u8]) -> usize
 }
 
 fn put_raw(out: &mut [u8], at: usize, r: RawRecord) -> usize
-    requires { ⌜ at + 105 ≤ length (now out) ⌝ }
-    ensures text { λ e. ⌜ Put (now (out .entry)) at (rawText r) (now (out .exit)) e ⌝ }
-    ensures end { λ e. ⌜ e ≤ at + 105 ⌝ }
+    ensures text { λ e. ⌜ Puts (now (out .entry)) at (rawText r) (now (out .exit)) e ⌝ }
+    ensures few { λ _. ⌜ length (rawText r) ≤ 105 ⌝ }
 {
     let first = r.first;
     let second = r.second;
@@ -238,9 +233,8 @@ fn put_raw(out: &mut [u8], at: usize, r: RawRecord) -> usize
 
 // A number of metres in centimetres, or a dash.
 fn put_centimetres(out: &mut [u8], at: usize, x: f64) -> usize
-    requires { ⌜ at + 21 ≤ length (now out) ⌝ }
-    ensures text { λ r. ⌜ Put (now (out .entry)) at (centimetresText x) (now (out .exit)) r ⌝ }
-    ensures end { λ r. ⌜ r ≤ at + 21 ⌝ }
+    ensures text { λ r. ⌜ Puts (now (out .entry)) at (centimetresText x) (now (out .exit)) r ⌝ }
+    ensures few { λ _. ⌜ length (centimetresText x) ≤ 21 ⌝ }
 {
     let a = text::put(out, at, b" ");
     match metres::centimetres(x) {
@@ -249,11 +243,10 @@ fn put_centimetres(out: &mut [u8], at: usize, x: f64) -> usize
     }
 }
 
-// Numbers, each behind a space.
+// Numbers, each behind a space. Here and below, a text is put where there is room for it.
 fn put_figures(out: &mut [u8], at: usize, ns: &[u64]) -> usize
-    requires { ⌜ at + 21 * length (now ns) ≤ length (now out) ⌝ }
-    ensures text { λ r. ⌜ Put (now (out .entry)) at (figuresText (now (ns .entry))) (now (out .exit)) r ⌝ }
-    ensures end { λ r. ⌜ r ≤ at + 21 * length (now (ns .entry)) ⌝ }
+    ensures text { λ r. ⌜ Puts (now (out .entry)) at (figuresText (now (ns .entry))) (now (out .exit)) r ⌝ }
+    ensures few { λ _. ⌜ length (figuresText (now (ns .entry))) ≤ 21 * length (now (ns .entry)) ⌝ }
 {
     let mut end = at;
     let mut i = 0;
@@ -267,17 +260,16 @@ fn put_figures(out: &mut [u8], at: usize, ns: &[u64]) -> usize
 
 // Why a record is refused, if it is, and the newline.
 fn put_end(out: &mut [u8], at: usize, number: u32, s: &[u8]) -> usize
-    requires { ⌜ at + (31 + 2 * length (now s)) ≤ length (now out) ⌝ }
-    ensures { λ r. ⌜ Put (now (out .entry)) at (refusedText number (now (s .entry)) ++ bytesIn "\n") (now (out .exit)) r ⌝ }
+    ensures text { λ r. ⌜ Puts (now (out .entry)) at (refusedText number (now (s .entry)) ++ bytesIn "\n") (now (out .exit)) r ⌝ }
+    ensures few { λ _. ⌜ length (refusedText number (now (s .entry)) ++ bytesIn "\n") ≤ 31 + 2 * length (now (s .entry)) ⌝ }
 {
     let a = put_refused(out, at, number, s);
     text::put(out, a, b"\n")
 }
 
 fn put_refused(out: &mut [u8], at: usize, number: u32, s: &[u8]) -> usize
-    requires { ⌜ at + (30 + 2 * length (now s)) ≤ length (now out) ⌝ }
-    ensures text { λ r. ⌜ Put (now (out .entry)) at (refusedText number (now (s .entry))) (now (out .exit)) r ⌝ }
-    ensures end { λ r. ⌜ r ≤ at + (30 + 2 * length (now (s .entry))) ⌝ }
+    ensures text { λ r. ⌜ Puts (now (out .entry)) at (refusedText number (now (s .entry))) (now (out .exit)) r ⌝ }
+    ensures few { λ _. ⌜ length (refusedText number (now (s .entry))) ≤ 30 + 2 * length (now (s .entry)) ⌝ }
 {
     if number == 0 {
         return at;
@@ -288,9 +280,8 @@ fn put_refused(out: &mut [u8], at: usize, number: u32, s: &[u8]) -> usize
 }
 
 fn put_hex(out: &mut [u8], at: usize, s: &[u8]) -> usize
-    requires { ⌜ at + (1 + 2 * length (now s)) ≤ length (now out) ⌝ }
-    ensures text { λ r. ⌜ Put (now (out .entry)) at (hexText (now (s .entry))) (now (out .exit)) r ⌝ }
-    ensures end { λ r. ⌜ r ≤ at + (1 + 2 * length (now (s .entry))) ⌝ }
+    ensures text { λ r. ⌜ Puts (now (out .entry)) at (hexText (now (s .entry))) (now (out .exit)) r ⌝ }
+    ensures few { λ _. ⌜ length (hexText (now (s .entry))) ≤ 1 + 2 * length (now (s .entry)) ⌝ }
 {
     if s.len() == 0 {
         return at;
@@ -301,9 +292,8 @@ fn put_hex(out: &mut [u8], at: usize, s: &[u8]) -> usize
 
 // The line of a slave.
 fn put_slave(out: &mut [u8], at: usize, name: &[u8], z: i64) -> usize
-    requires { ⌜ (length (now name) ≡ 1) × (at + 96 ≤ length (now out)) ⌝ }
-    ensures text { λ r. ⌜ Put (now (out .entry)) at (slaveLine (now (name .entry)) z) (now (out .exit)) r ⌝ }
-    ensures end { λ r. ⌜ r ≤ at + 96 ⌝ }
+    ensures text { λ r. ⌜ Puts (now (out .entry)) at (slaveLine (now (name .entry)) z) (now (out .exit)) r ⌝ }
+    ensures few { λ _. ⌜ length (slaveLine (now (name .entry)) z) ≤ 95 + length (now (name .entry)) ⌝ }
 {
     let a = text::put(out, at, name);
     let b = text::put(out, a, b" ");
@@ -314,9 +304,8 @@ fn put_slave(out: &mut [u8], at: usize, name: &[u8], z: i64) -> usize
 
 // A reading in metres, and in the bytes of a log record.
 fn put_written(out: &mut [u8], at: usize, z: i64) -> usize
-    requires { ⌜ at + 73 ≤ length (now out) ⌝ }
-    ensures text { λ r. ⌜ Put (now (out .entry)) at (writtenText z) (now (out .exit)) r ⌝ }
-    ensures end { λ r. ⌜ r ≤ at + 73 ⌝ }
+    ensures text { λ r. ⌜ Puts (now (out .entry)) at (writtenText z) (now (out .exit)) r ⌝ }
+    ensures few { λ _. ⌜ length (writtenText z) ≤ 73 ⌝ }
 {
     if metres::size(z) > MOST_CENTIMETRES {
         return text::put(out, at, b" REFUSED 3");
@@ -329,9 +318,8 @@ fn put_written(out: &mut [u8], at: usize, z: i64) -> usize
 
 // Centimetres as metres with two decimals.
 fn put_metres(out: &mut [u8], at: usize, z: i64) -> usize
-    requires { ⌜ at + 24 ≤ length (now out) ⌝ }
-    ensures text { λ r. ⌜ Put (now (out .entry)) at (metresText z) (now (out .exit)) r ⌝ }
-    ensures end { λ r. ⌜ r ≤ at + 24 ⌝ }
+    ensures text { λ r. ⌜ Puts (now (out .entry)) at (metresText z) (now (out .exit)) r ⌝ }
+    ensures few { λ _. ⌜ length (metresText z) ≤ 24 ⌝ }
 {
     if z < 0 {
         let a = text::put(out, at, b"-");
@@ -341,9 +329,8 @@ fn put_metres(out: &mut [u8], at: usize, z: i64) -> usize
 }
 
 fn put_decimal(out: &mut [u8], at: usize, n: u64) -> usize
-    requires { ⌜ at + 23 ≤ length (now out) ⌝ }
-    ensures text { λ r. ⌜ Put (now (out .entry)) at (decimalText n) (now (out .exit)) r ⌝ }
-    ensures end { λ r. ⌜ r ≤ at + 23 ⌝ }
+    ensures text { λ r. ⌜ Puts (now (out .entry)) at (decimalText n) (now (out .exit)) r ⌝ }
+    ensures few { λ _. ⌜ length (decimalText n) ≤ 23 ⌝ }
 {
     let a = text::put_number(out, at, n / 100);
     let b = text::put(out, a, b".");
@@ -352,9 +339,8 @@ fn put_decimal(out: &mut [u8], at: usize, n: u64) -> usize
 
 // The bytes of a number in metres, in hexadecimal.
 fn put_number_bytes(out: &mut [u8], at: usize, z: i64) -> usize
-    requires { ⌜ at + 16 ≤ length (now out) ⌝ }
-    ensures text { λ r. ⌜ Put (now (out .entry)) at (hexOf (metresBytes z)) (now (out .exit)) r ⌝ }
-    ensures end { λ r. ⌜ r ≤ at + 16 ⌝ }
+    ensures text { λ r. ⌜ Puts (now (out .entry)) at (hexOf (metresBytes z)) (now (out .exit)) r ⌝ }
+    ensures few { λ _. ⌜ length (hexOf (metresBytes z)) ≤ 16 ⌝ }
 {
     let mut bytes = [0u8; 8];
     let f = metres::length_figures(metres::metres(z));
