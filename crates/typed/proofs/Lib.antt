@@ -2,3 +2,9 @@
 mod Scans
 mod Values
 mod Lines
+pub mod WordLaws
+pub mod NumberLaws
+mod Held
+mod HeldRecords
+pub mod Fields
+pub mod ReadBack
