@@ -56,6 +56,10 @@ use Rattle.typed.proofs.job as typed-job
 use Rattle.typed.proofs.chain as typed-chain
 use Rattle.typed.proofs.draft as typed-draft
 use Rattle.typed.proofs.question as typed-question
+use Rattle.shown.proofs.job as shown-job
+use Rattle.shown.proofs.chain as shown-chain
+use Rattle.shown.proofs.record as shown-record
+use Rattle.shown.proofs.expected as shown-expected
 use Rattle.listing.proofs.list as list
 use Rattle.desk.proofs.desk_centimetres as desk-centimetres
 use Rattle.desk.proofs.desk_metres as desk-metres
@@ -245,6 +249,22 @@ module _ {M : Type 1} (𝓤 : URA M) (H : Heap 𝓤) (A : Atoms 𝓤) (mem : Mem
   -- typed::question, by `ensures-1`.
   pub typed-question-only : OneAnswer 𝓤 typed-question.ended (typed-question.clauses 𝓤 H A mem run)
   typed-question-only κs a g x y = only 𝓤 same (λ answer. answer & refl)
+
+  -- shown::job, by `ensures-answer`, `ensures-out`.
+  pub shown-job-only : OneAnswer 𝓤 shown-job.ended (shown-job.clauses 𝓤 H A mem run)
+  shown-job-only κs a g x y = only 𝓤 (same beside same) (λ (answer, out). answer & out & refl)
+
+  -- shown::chain, by `ensures-answer`, `ensures-out`.
+  pub shown-chain-only : OneAnswer 𝓤 shown-chain.ended (shown-chain.clauses 𝓤 H A mem run)
+  shown-chain-only κs a g x y = only 𝓤 (same beside same) (λ (answer, out). answer & out & refl)
+
+  -- shown::record, by `ensures-answer`, `ensures-out`.
+  pub shown-record-only : OneAnswer 𝓤 shown-record.ended (shown-record.clauses 𝓤 H A mem run)
+  shown-record-only κs a g x y = only 𝓤 (same beside same) (λ (answer, out). answer & out & refl)
+
+  -- shown::expected, by `ensures-answer`, `ensures-out`.
+  pub shown-expected-only : OneAnswer 𝓤 shown-expected.ended (shown-expected.clauses 𝓤 H A mem run)
+  shown-expected-only κs a g x y = only 𝓤 (same beside same) (λ (answer, out). answer & out & refl)
 
   -- listing::list, by `ensures-answer`, `ensures-out`.
   pub list-only : OneAnswer 𝓤 list.ended (list.clauses 𝓤 H A mem run)

@@ -102,27 +102,30 @@ held-used d = rw (held-equal 32 (d .kind) 1 (omega arith), held-equal 32 (d .kin
     whole-held-if true z = refl
     whole-held-if false z = refl
 
-each-of : (t u v : Bool) → (t || (u && v)) ≡ true → ((t || u) ≡ true) × ((t || v) ≡ true)
-each-of true u v h = (refl, refl)
-each-of false u v h = both u v h
-
-whole-used : (t : Bool) (z : ℤ) → (t || leb (natAbs z) mostCentimetres) ≡ true → heldWhole (cond t (pos 0) z) ≡ cond t (pos 0) z
-whole-used true z h = refl
-whole-used false z h = whole-held z (leb-true _ _ h)
+pub used-fits : (bytes : ℕ) (d : Draft) → refusalOf bytes d ≡ 0 → (natAbs (usedOf d .x) ≤ mostCentimetres) × (natAbs (usedOf d .y) ≤ mostCentimetres)
+unfolding refusalOf usedOf
+used-fits bytes d e =
+    let kind = passed (isKind (d .kind)) (λ f. omega arith) (passed (eqb bytes logBytes) (λ f. omega arith) e .1) in
+    fit (eqb (d .kind) 3) (d .x) (d .y) (passed (numbersFit d) (λ f. omega arith) (kind .1) .0)
+  where
+    fit : (t : Bool) (x y : ℤ) → (t || (leb (natAbs x) mostCentimetres && leb (natAbs y) mostCentimetres)) ≡ true →
+        (natAbs (cond t (pos 0) x) ≤ mostCentimetres) × (natAbs (cond t (pos 0) y) ≤ mostCentimetres)
+    fit true x y h = (omega arith, omega arith)
+    fit false x y h =
+        let two = both (leb (natAbs x) mostCentimetres) (leb (natAbs y) mostCentimetres) h in
+        (leb-true _ _ (two .0), leb-true _ _ (two .1))
 
 pub used-kept : (bytes : ℕ) (d : Draft) → d .line < 2 ^ 32 → refusalOf bytes d ≡ 0 → heldDraft (usedOf d) ≡ usedOf d
-unfolding refusalOf usedOf
 used-kept bytes d small e =
-    let kind = passed (isKind (d .kind)) (λ f. omega arith) (passed (eqb bytes logBytes) (λ f. omega arith) e .1) in
-    let numbers = passed (numbersFit d) (λ f. omega arith) (kind .1) .0 in
-    let each = each-of (eqb (d .kind) 3) (leb (natAbs (d .x)) mostCentimetres) (leb (natAbs (d .y)) mostCentimetres) numbers in
-    let bytes-small = used-small bytes d e in
+    let few = used-small bytes d e in
+    let fit = used-fits bytes d e in
+    let line : usedOf d .line < 2 ^ 32 = unfold usedOf in small in
     rw (
-      number-held 32 (d .kind) (omega (arith, bytes-small .0)),
-      number-held 32 (cond (eqb (d .kind) 1) (d .chain) 0) (omega (arith, bytes-small .1)),
-      number-held 32 (d .line) small,
-      whole-used (eqb (d .kind) 3) (d .x) (each .0),
-      whole-used (eqb (d .kind) 3) (d .y) (each .1),
+      number-held 32 (usedOf d .kind) (omega (arith, few .0)),
+      number-held 32 (usedOf d .chain) (omega (arith, few .1)),
+      number-held 32 (usedOf d .line) line,
+      whole-held (usedOf d .x) (fit .0),
+      whole-held (usedOf d .y) (fit .1),
     )
 
 pub draft-kept : (bytes : ℕ) (d : Draft) → d .line < 2 ^ 32 → refusalOf bytes d ≡ 0 → usedOf (heldDraft d) ≡ usedOf d
