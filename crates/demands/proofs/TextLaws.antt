@@ -49,7 +49,8 @@ use Rattle.shown.specs.Fields.{wholeOr, centimetresText, refusedText}
 use Rattle.shown.specs.Lines.{lineWith, jobFigures, jobFields, jobText, jobLine, stationFigures, chainFields, chainText, refusalIn, chainLine, rawText, rawFields, recordText, recordLine}
 
 -- Where nothing is refused, nothing stands behind the fields.
-plain-line : (word fields : List ℕ) (number : ℕ) (s : List ℕ) → number ≡ 0 → lineWith word fields number s ≡ word ++ (fields ++ bytesIn "\n")
+plain-line : (word fields : List ℕ) (number : ℕ) (s : List ℕ) → number ≡ 0 →
+    lineWith word fields number s ≡ word ++ (fields ++ bytesIn "\n")
 unfolding refusedText
 plain-line word fields number s e = rw e
 
@@ -112,7 +113,9 @@ module _ (c : Chain) (sound : isSound c ≡ true) where
       let good = passed (isSound (chainAt s 0)) (λ f. false≢true (cc)) (one .1) in
       rw chain-length (good .1)
 
-  pub chain-line-shown : (number : ℕ) → chainLine number (chainBufferOf 24 c) ≡ bytesIn "CHAIN" ++ (spaced number ++ (figuresText (stationFigures c) ++ bytesIn "\n"))
+  pub chain-line-shown : (number : ℕ) →
+      chainLine number (chainBufferOf 24 c)
+      ≡ bytesIn "CHAIN" ++ (spaced number ++ (figuresText (stationFigures c) ++ bytesIn "\n"))
   unfolding chainLine chainFields chainRefusal figuresText
   chain-line-shown number =
       let s = chainBufferOf 24 c in
@@ -176,10 +179,12 @@ centimetres-shown : (z : ℤ) → natAbs z ≤ mostCentimetres → centimetresTe
 unfolding wholeOr
 centimetres-shown z h = ap (λ (a : Whole). 32 ∷ wholeOr a) (way-back z h) ∙ spaced-one (wholeText z)
 
-raw-shown : (d : Draft) → natAbs (d .x) ≤ mostCentimetres → natAbs (d .y) ≤ mostCentimetres → rawText (rawFor d) ≡ spacedWords (draftWords d)
+raw-shown : (d : Draft) → natAbs (d .x) ≤ mostCentimetres → natAbs (d .y) ≤ mostCentimetres →
+    rawText (rawFor d) ≡ spacedWords (draftWords d)
 raw-shown d x y =
     let ns = d .kind ∷ d .chain ∷ d .line ∷ [] in
-    ap₂ _++_ (figures-spaced ns) (ap₂ _++_ (centimetres-shown (d .x) x) (centimetres-shown (d .y) y) ∙ spaced-both (wholeText (d .x) ∷ []) (wholeText (d .y) ∷ []))
+    let two = ap₂ _++_ (centimetres-shown (d .x) x) (centimetres-shown (d .y) y) in
+    ap₂ _++_ (figures-spaced ns) (two ∙ spaced-both (wholeText (d .x) ∷ []) (wholeText (d .y) ∷ []))
     ∙ spaced-both (map digitsOf ns) (wholeText (d .x) ∷ wholeText (d .y) ∷ [])
 
 module _ (d : Draft) (small : d .line < 2 ^ 32) (accepted : refusalOf 32 d ≡ 0) where

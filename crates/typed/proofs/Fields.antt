@@ -61,6 +61,11 @@ line-fits s h =
     let rest = both (isReading (wordAt 4 s)) _ y .1 in
     ltb-true (numberAt s 2) (2 ^ 32) (both (noWord 5 s) (fits 32 (numberAt s 2)) rest .1)
 
+-- A draft has its line's numbers as their fields hold them.
+pub draft-line : (s : List ℕ) → draftIn s ≡ unless (isDraft s) (draft.Refused 12) (draft.Draft (heldDraft (draftTyped s)))
+unfolding draftIn
+draft-line s = rw (held-signed (isBelow (wordAt 3 s)) (sizeAt s 3), held-signed (isBelow (wordAt 4 s)) (sizeAt s 4))
+
 -- A line that is taken as a job. The writer refuses of it what it would refuse of the numbers as they were typed, whatever their
 -- size; and a job that it accepts has those numbers.
 pub job-as-typed : (bytes : ℕ) (s : List ℕ) (j : Job) → jobIn s ≡ job.Job j →
@@ -83,11 +88,6 @@ chain-as-typed bytes s c e =
     let refused = ap (chainRefusalOf bytes) same ∙ chain-refused bytes (chainTyped s) in
     (refused, λ accepted. same ∙ chain-kept bytes (chainTyped s) (sym refused ∙ accepted))
 
--- A line of the form is given its numbers as the fields of a draft hold them.
-pub draft-line : (s : List ℕ) → draftIn s ≡ unless (isDraft s) (draft.Refused 12) (draft.Draft (heldDraft (draftTyped s)))
-unfolding draftIn
-draft-line s = rw (held-signed (isBelow (wordAt 3 s)) (sizeAt s 3), held-signed (isBelow (wordAt 4 s)) (sizeAt s 4))
-
 -- The same of a draft; one that is accepted has the numbers that its kind uses.
 pub draft-as-typed : (bytes : ℕ) (s : List ℕ) (d : Draft) → draftIn s ≡ draft.Draft d →
     (refusalOf bytes d ≡ refusalOf bytes (draftTyped s)) × (refusalOf bytes d ≡ 0 → usedOf d ≡ usedOf (draftTyped s))
@@ -105,7 +105,8 @@ unfolding jobIn
 job-taken bytes s line small accepted =
     rw (line, lt-ltb (numberAt s 4) (2 ^ 64) small) (ap job.Job (job-kept bytes (jobTyped s) small accepted))
 
-pub chain-taken : (bytes : ℕ) (s : List ℕ) → isLine 6 s ≡ true → chainRefusalOf bytes (chainTyped s) ≡ 0 → chainIn s ≡ chain.Chain (chainTyped s)
+pub chain-taken : (bytes : ℕ) (s : List ℕ) → isLine 6 s ≡ true → chainRefusalOf bytes (chainTyped s) ≡ 0 →
+    chainIn s ≡ chain.Chain (chainTyped s)
 unfolding chainIn
 chain-taken bytes s line accepted = rw line (ap chain.Chain (chain-kept bytes (chainTyped s) accepted))
 
@@ -113,7 +114,7 @@ pub draft-taken : (bytes : ℕ) (s : List ℕ) (d : Draft) → isDraft s ≡ tru
     draftIn s ≡ draft.Draft (usedOf d)
 unfolding usedOf
 draft-taken bytes s d form typed accepted =
-    let line : numberAt s 2 ≡ d .line = ap (λ (d : Draft). d .line) typed in
+    let line : numberAt s 2 ≡ d .line = ap (λ (e : Draft). e .line) typed in
     draft-line s
     ∙ rw form (ap draft.Draft (ap heldDraft typed ∙ used-kept bytes d (omega (arith, line-fits s form)) accepted))
 

@@ -34,7 +34,8 @@ unfolding spacedWords
 spaced-one w = sym (append-nil (32 ∷ w))
 
 -- Bytes that are all such are counted before what stands behind them; and one by one.
-run-first : (such : ℕ → Bool) (b : ℕ) (bs : List ℕ) → run such (b ∷ bs) ≡ suc (length bs) → (such b ≡ true) × (run such bs ≡ length bs)
+run-first : (such : ℕ → Bool) (b : ℕ) (bs : List ℕ) → run such (b ∷ bs) ≡ suc (length bs) →
+    (such b ≡ true) × (run such bs ≡ length bs)
 unfolding run
 run-first such b bs h = go (such b) refl
   where
