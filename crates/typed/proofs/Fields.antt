@@ -5,7 +5,7 @@ use mathlib.Core.Path.{_≡_, sym, ap, _∙_}
 use mathlib.Core.Bool.{true, _&&_, false≢true}
 use mathlib.Core.List.{List}
 use native.Mathlib.Omega.{arith}
-use borrow.Author.Tests.{ltb-true}
+use borrow.Author.Tests.{ltb-true, lt-ltb}
 use Rattle.chart.specs.declared.Place.{Place}
 use Rattle.chart.specs.declared.Chain.{Chain}
 use Rattle.chart.specs.Places.{inRange}
@@ -26,7 +26,7 @@ use Rattle.typed.specs.Words.{wordAt}
 use Rattle.typed.specs.Numbers.{isBelow, isReading, areNumbers, noWord, isLine, numberAt, fits, held, sizeAt, readingAt}
 use Rattle.typed.specs.Typed.{jobIn, chainIn, isDraft, draftIn, questionIn}
 use Rattle.typed.proofs.Held.{heldPlace, held-in-range, heldChain, held-signed}
-use Rattle.typed.proofs.HeldRecords.{passed, heldJob, job-refused, job-kept, chain-refused, chain-kept, heldDraft, draft-refused, draft-kept, named-held, expected-held}
+use Rattle.typed.proofs.HeldRecords.{passed, heldJob, job-refused, job-kept, chain-refused, chain-kept, heldDraft, draft-refused, used-kept, draft-kept, named-held, expected-held}
 
 -- What a line says, whatever the size of its numbers.
 abbrev pub placeTyped : List ℕ → ℕ → Place
@@ -61,6 +61,11 @@ line-fits s h =
     let rest = both (isReading (wordAt 4 s)) _ y .1 in
     ltb-true (numberAt s 2) (2 ^ 32) (both (noWord 5 s) (fits 32 (numberAt s 2)) rest .1)
 
+-- A draft has its line's numbers as their fields hold them.
+pub draft-line : (s : List ℕ) → draftIn s ≡ unless (isDraft s) (draft.Refused 12) (draft.Draft (heldDraft (draftTyped s)))
+unfolding draftIn
+draft-line s = rw (held-signed (isBelow (wordAt 3 s)) (sizeAt s 3), held-signed (isBelow (wordAt 4 s)) (sizeAt s 4))
+
 -- A line that is taken as a job. The writer refuses of it what it would refuse of the numbers as they were typed, whatever their
 -- size; and a job that it accepts has those numbers.
 pub job-as-typed : (bytes : ℕ) (s : List ℕ) (j : Job) → jobIn s ≡ job.Job j →
@@ -83,11 +88,6 @@ chain-as-typed bytes s c e =
     let refused = ap (chainRefusalOf bytes) same ∙ chain-refused bytes (chainTyped s) in
     (refused, λ accepted. same ∙ chain-kept bytes (chainTyped s) (sym refused ∙ accepted))
 
--- A line of the form is given its numbers as the fields of a draft hold them.
-pub draft-line : (s : List ℕ) → draftIn s ≡ unless (isDraft s) (draft.Refused 12) (draft.Draft (heldDraft (draftTyped s)))
-unfolding draftIn
-draft-line s = rw (held-signed (isBelow (wordAt 3 s)) (sizeAt s 3), held-signed (isBelow (wordAt 4 s)) (sizeAt s 4))
-
 -- The same of a draft; one that is accepted has the numbers that its kind uses.
 pub draft-as-typed : (bytes : ℕ) (s : List ℕ) (d : Draft) → draftIn s ≡ draft.Draft d →
     (refusalOf bytes d ≡ refusalOf bytes (draftTyped s)) × (refusalOf bytes d ≡ 0 → usedOf d ≡ usedOf (draftTyped s))
@@ -97,18 +97,39 @@ draft-as-typed bytes s d e =
     let refused = ap (refusalOf bytes) same ∙ draft-refused bytes (draftTyped s) in
     (refused, λ accepted. ap usedOf same ∙ draft-kept bytes (draftTyped s) (line-fits s (form .0)) (sym refused ∙ accepted))
 
+-- The other way: a line of the form whose numbers the writer accepts is taken as these numbers; of a draft, as what its kind
+-- uses.
+pub job-taken : (bytes : ℕ) (s : List ℕ) → isLine 5 s ≡ true → numberAt s 4 < 2 ^ 64 → jobRefusalOf bytes (jobTyped s) ≡ 0 →
+    jobIn s ≡ job.Job (jobTyped s)
+unfolding jobIn
+job-taken bytes s line small accepted =
+    rw (line, lt-ltb (numberAt s 4) (2 ^ 64) small) (ap job.Job (job-kept bytes (jobTyped s) small accepted))
+
+pub chain-taken : (bytes : ℕ) (s : List ℕ) → isLine 6 s ≡ true → chainRefusalOf bytes (chainTyped s) ≡ 0 →
+    chainIn s ≡ chain.Chain (chainTyped s)
+unfolding chainIn
+chain-taken bytes s line accepted = rw line (ap chain.Chain (chain-kept bytes (chainTyped s) accepted))
+
+pub draft-taken : (bytes : ℕ) (s : List ℕ) (d : Draft) → isDraft s ≡ true → draftTyped s ≡ usedOf d → refusalOf bytes d ≡ 0 →
+    draftIn s ≡ draft.Draft (usedOf d)
+unfolding usedOf
+draft-taken bytes s d form typed accepted =
+    let line : numberAt s 2 ≡ d .line = ap (λ (e : Draft). e .line) typed in
+    draft-line s
+    ∙ rw form (ap draft.Draft (ap heldDraft typed ∙ used-kept bytes d (omega (arith, line-fits s form)) accepted))
+
 -- A line that is taken as a question. A table names the chain that it names by the number as it was typed, whatever its size; and
 -- at the place a chain has the readings, or the refusal, that it has at the place as it was typed.
-pub question-as-typed : (table s : List ℕ) (c : Chain) (number : ℕ) (p : Place) → questionIn s ≡ question.Question number p →
+pub question-as-typed : (table s : List ℕ) (number : ℕ) (p : Place) → questionIn s ≡ question.Question number p →
     (chainOf table number ≡ chainOf table (numberAt s 0))
     × (inRange p ≡ inRange (placeTyped s 1))
-    × (expectedAt c p ≡ expectedAt c (placeTyped s 1))
+    × ((c : Chain) → expectedAt c p ≡ expectedAt c (placeTyped s 1))
 unfolding questionIn
-question-as-typed table s c number p e =
+question-as-typed table s number p e =
     let form = passed (isLine 3 s) (λ f. false≢true (cc)) e in
     let n : number ≡ held 32 (numberAt s 0) = cc (form .1) in
     let place : p ≡ heldPlace (placeTyped s 1) = cc (form .1) in (
       ap (chainOf table) n ∙ named-held table (numberAt s 0),
       ap inRange place ∙ held-in-range 32 (numberAt s 1) (numberAt s 2) (omega arith),
-      ap (expectedAt c) place ∙ expected-held c (placeTyped s 1),
+      λ c. ap (expectedAt c) place ∙ expected-held c (placeTyped s 1),
     )

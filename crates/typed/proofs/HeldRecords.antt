@@ -34,7 +34,8 @@ use Rattle.typed.specs.Numbers.{held}
 use Rattle.typed.proofs.Held.{number-held, held-most, held-equal, held-one-to, heldPlace, held-in-range, place-held, heldChain, chain-held, held-sound, heldWindow, held-is-window, window-held, heldWhole, held-size, whole-held, held-is-place}
 
 -- Where an answer is another than a refusal, its test has passed and the rest has given it.
-pub passed : {A : Type 0} (t : Bool) {refused rest answer : A} → (refused ≡ answer → ⊥) → unless t refused rest ≡ answer → (t ≡ true) × (rest ≡ answer)
+pub passed : {A : Type 0} (t : Bool) {refused rest answer : A} → (refused ≡ answer → ⊥) →
+    unless t refused rest ≡ answer → (t ≡ true) × (rest ≡ answer)
 passed true n e = (refl, e)
 passed false n e = absurd (n e)
 
@@ -89,10 +90,17 @@ draft-refused bytes d =
       held-one-to 32 mostChains (d .chain) (omega arith),
     )
 
--- Of a draft only what its kind uses is held to its size, and that has the numbers of a draft that is accepted.
+-- What the held draft uses is what the draft uses, held; and where the draft is accepted, its numbers themselves.
 held-used : (d : Draft) → usedOf (heldDraft d) ≡ heldDraft (usedOf d)
 unfolding usedOf
-held-used d = rw (held-equal 32 (d .kind) 1 (omega arith), held-equal 32 (d .kind) 3 (omega arith), chain-held-if (eqb (d .kind) 1) (d .chain), whole-held-if (eqb (d .kind) 3) (d .x), whole-held-if (eqb (d .kind) 3) (d .y))
+held-used d =
+    rw (
+      held-equal 32 (d .kind) 1 (omega arith),
+      held-equal 32 (d .kind) 3 (omega arith),
+      chain-held-if (eqb (d .kind) 1) (d .chain),
+      whole-held-if (eqb (d .kind) 3) (d .x),
+      whole-held-if (eqb (d .kind) 3) (d .y),
+    )
   where
     chain-held-if : (t : Bool) (n : ℕ) → cond t (held 32 n) 0 ≡ held 32 (cond t n 0)
     chain-held-if true n = refl
@@ -102,27 +110,31 @@ held-used d = rw (held-equal 32 (d .kind) 1 (omega arith), held-equal 32 (d .kin
     whole-held-if true z = refl
     whole-held-if false z = refl
 
-each-of : (t u v : Bool) → (t || (u && v)) ≡ true → ((t || u) ≡ true) × ((t || v) ≡ true)
-each-of true u v h = (refl, refl)
-each-of false u v h = both u v h
-
-whole-used : (t : Bool) (z : ℤ) → (t || leb (natAbs z) mostCentimetres) ≡ true → heldWhole (cond t (pos 0) z) ≡ cond t (pos 0) z
-whole-used true z h = refl
-whole-used false z h = whole-held z (leb-true _ _ h)
+pub used-fits : (bytes : ℕ) (d : Draft) → refusalOf bytes d ≡ 0 →
+    (natAbs (usedOf d .x) ≤ mostCentimetres) × (natAbs (usedOf d .y) ≤ mostCentimetres)
+unfolding refusalOf usedOf
+used-fits bytes d e =
+    let kind = passed (isKind (d .kind)) (λ f. omega arith) (passed (eqb bytes logBytes) (λ f. omega arith) e .1) in
+    fit (eqb (d .kind) 3) (d .x) (d .y) (passed (numbersFit d) (λ f. omega arith) (kind .1) .0)
+  where
+    fit : (t : Bool) (x y : ℤ) → (t || (leb (natAbs x) mostCentimetres && leb (natAbs y) mostCentimetres)) ≡ true →
+        (natAbs (cond t (pos 0) x) ≤ mostCentimetres) × (natAbs (cond t (pos 0) y) ≤ mostCentimetres)
+    fit true x y h = (omega arith, omega arith)
+    fit false x y h =
+        let two = both (leb (natAbs x) mostCentimetres) (leb (natAbs y) mostCentimetres) h in
+        (leb-true _ _ (two .0), leb-true _ _ (two .1))
 
 pub used-kept : (bytes : ℕ) (d : Draft) → d .line < 2 ^ 32 → refusalOf bytes d ≡ 0 → heldDraft (usedOf d) ≡ usedOf d
-unfolding refusalOf usedOf
 used-kept bytes d small e =
-    let kind = passed (isKind (d .kind)) (λ f. omega arith) (passed (eqb bytes logBytes) (λ f. omega arith) e .1) in
-    let numbers = passed (numbersFit d) (λ f. omega arith) (kind .1) .0 in
-    let each = each-of (eqb (d .kind) 3) (leb (natAbs (d .x)) mostCentimetres) (leb (natAbs (d .y)) mostCentimetres) numbers in
-    let bytes-small = used-small bytes d e in
+    let few = used-small bytes d e in
+    let fit = used-fits bytes d e in
+    let line : usedOf d .line < 2 ^ 32 = unfold usedOf in small in
     rw (
-      number-held 32 (d .kind) (omega (arith, bytes-small .0)),
-      number-held 32 (cond (eqb (d .kind) 1) (d .chain) 0) (omega (arith, bytes-small .1)),
-      number-held 32 (d .line) small,
-      whole-used (eqb (d .kind) 3) (d .x) (each .0),
-      whole-used (eqb (d .kind) 3) (d .y) (each .1),
+      number-held 32 (usedOf d .kind) (omega (arith, few .0)),
+      number-held 32 (usedOf d .chain) (omega (arith, few .1)),
+      number-held 32 (usedOf d .line) line,
+      whole-held (usedOf d .x) (fit .0),
+      whole-held (usedOf d .y) (fit .1),
     )
 
 pub draft-kept : (bytes : ℕ) (d : Draft) → d .line < 2 ^ 32 → refusalOf bytes d ≡ 0 → usedOf (heldDraft d) ≡ usedOf d
@@ -130,7 +142,9 @@ draft-kept bytes d small e = held-used d ∙ used-kept bytes d small e
 
 -- A question: the chain of a table that has the number, and the readings expected at the place.
 table-few : (table : List ℕ) → isTable table ≡ true → chainsIn table ≤ mostChains
-table-few table h = one-to-says mostChains (chainsIn table) (both (eqb (length table % chainBytes) 0) (oneTo mostChains (chainsIn table)) h .1) .1
+table-few table h =
+    one-to-says mostChains (chainsIn table)
+    (both (eqb (length table % chainBytes) 0) (oneTo mostChains (chainsIn table)) h .1) .1
 
 pub named-held : (table : List ℕ) (n : ℕ) → chainOf table (held 32 n) ≡ chainOf table n
 unfolding chainOf
@@ -141,7 +155,8 @@ named-held table n = go (isTable table) refl (ltb n (2 ^ 32)) refl
     go true e true f = ap (chainOf table) (number-held 32 n (ltb-true n (2 ^ 32) f))
     go true e false f =
         let few = table-few table e in
-        let out : oneTo (chainsIn table) n ≡ false = ap (λ (t : Bool). leb 1 n && t) (lt-leb n (chainsIn table) (omega (arith, ltb-false n (2 ^ 32) f))) ∙ and-false (leb 1 n) in
+        let over = lt-leb n (chainsIn table) (omega (arith, ltb-false n (2 ^ 32) f)) in
+        let out : oneTo (chainsIn table) n ≡ false = ap (λ (t : Bool). leb 1 n && t) over ∙ and-false (leb 1 n) in
         rw (held-one-to 32 (chainsIn table) n (omega arith), out)
 
 pub expected-held : (c : Chain) (p : Place) → expectedAt c (heldPlace p) ≡ expectedAt c p
@@ -149,4 +164,6 @@ expected-held c p = go (inRange p) refl
   where
     go : (t : Bool) → inRange p ≡ t → expectedAt c (heldPlace p) ≡ expectedAt c p
     go true e = ap (expectedAt c) (place-held p e)
-    go false e = expected-out c (heldPlace p) (held-in-range 32 (p .easting) (p .northing) (omega arith) ∙ e) ∙ sym (expected-out c p e)
+    go false e =
+        expected-out c (heldPlace p) (held-in-range 32 (p .easting) (p .northing) (omega arith) ∙ e)
+        ∙ sym (expected-out c p e)

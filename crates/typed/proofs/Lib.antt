@@ -5,6 +5,5 @@ mod Lines
 pub mod WordLaws
 pub mod NumberLaws
 mod Held
-mod HeldRecords
+pub mod HeldRecords
 pub mod Fields
-pub mod ReadBack

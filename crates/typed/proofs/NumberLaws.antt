@@ -2,7 +2,7 @@
 use Prim.Native.Nat.{ℕ, zero, suc, _≤_, _<_}
 use mathlib.Core.Path.{_≡_, refl, ap, _∙_}
 use mathlib.Core.Bool.{true, false}
-use mathlib.Core.List.{List, [], _∷_, map}
+use mathlib.Core.List.{List, [], _∷_, _++_, map}
 use native.Mathlib.Omega.{arith}
 use borrow.Author.Tests.{le-leb, eq-eqb, ne-eqb}
 use lib.Dec.{eqb}
@@ -10,12 +10,12 @@ use lib.IntN.{ℤ, pos, negsuc, natAbs}
 use lib.ListN.{length, getD}
 use Rattle.metres.specs.Metres.{signed}
 use Rattle.chart.proofs.PlaceLaws.{and-both}
-use Rattle.text.specs.Texts.{digitsOf, wholeText, numeralFrom, numeral}
+use Rattle.text.specs.Texts.{digitsOf, spaced, figuresText, wholeText, numeralFrom, numeral}
 use Rattle.text.proofs.Digits.{IsDigit, all-digits, digits-some, reads-back}
 use Rattle.typed.specs.Words.{run, isInWord, wordAt}
 use Rattle.typed.specs.Numbers.{isDigit, isNumber, isBelow, sizeIn, isReading, areNumbers, isLine, numberAt}
 use Rattle.typed.proofs.Lines.{size-plain}
-use Rattle.typed.proofs.WordLaws.{IsWord, AreWords, run-all}
+use Rattle.typed.proofs.WordLaws.{IsWord, AreWords, spacedWords, run-all, words-back}
 
 -- Digits are a word, and a number.
 digit-is : (b : ℕ) → IsDigit b → isDigit b ≡ true
@@ -69,23 +69,24 @@ whole-back z =
     ap (signed (isBelow (wholeText z))) (ap numeral (whole-size z) ∙ reads-back (natAbs z))
     ∙ whole-sign z
 
--- A line that has these words and no others.
-abbrev pub HasWords : List ℕ → List (List ℕ) → Type 0
-HasWords s ws = (i : ℕ) → wordAt i s ≡ getD ws i []
-
--- Numbers are words,
-pub digits-words : (ns : List ℕ) → AreWords (map digitsOf ns)
+-- Numbers that are put are words.
+digits-words : (ns : List ℕ) → AreWords (map digitsOf ns)
 digits-words [] = tt
 digits-words (n ∷ ns) = (digits-word n, digits-words ns)
 
+pub figures-spaced : (ns : List ℕ) → figuresText ns ≡ spacedWords (map digitsOf ns)
+unfolding figuresText spacedWords
+figures-spaced [] = refl
+figures-spaced (n ∷ ns) = ap (λ (rest : List ℕ). spaced n ++ rest) (figures-spaced ns)
+
+word-there : (ns : List ℕ) (i : ℕ) → wordAt i (figuresText ns) ≡ getD (map digitsOf ns) i []
+word-there ns i = ap (wordAt i) (figures-spaced ns) ∙ words-back (map digitsOf ns) (digits-words ns) i
+
+-- Each is a number, and has its value; behind them there is no more.
 number-there : (ns : List ℕ) (i : ℕ) → i < length ns → isNumber (getD (map digitsOf ns) i []) ≡ true
 number-there [] i h = absurd (omega arith)
 number-there (n ∷ ns) zero h = digits-number n
 number-there (n ∷ ns) (suc i) h = number-there ns i (omega arith)
-
-none-there : (ns : List ℕ) → eqb (length (getD (map digitsOf ns) (length ns) [])) 0 ≡ true
-none-there [] = refl
-none-there (n ∷ ns) = none-there ns
 
 value-there : (ns : List ℕ) (i : ℕ) → numeral (getD (map digitsOf ns) i []) ≡ getD ns i 0
 unfolding numeral numeralFrom
@@ -93,18 +94,20 @@ value-there [] i = refl
 value-there (n ∷ ns) zero = reads-back n
 value-there (n ∷ ns) (suc i) = value-there ns i
 
-module _ (s : List ℕ) (ns : List ℕ) (words : HasWords s (map digitsOf ns)) where
-  -- and a line of them is a line of as many numbers,
-  are-numbers : (n : ℕ) → n ≤ length ns → areNumbers n s ≡ true
-  unfolding areNumbers
-  are-numbers zero h = refl
-  are-numbers (suc n) h = and-both (are-numbers n (omega arith)) (ap isNumber (words n) ∙ number-there ns n h)
+none-there : (ns : List ℕ) → eqb (length (getD (map digitsOf ns) (length ns) [])) 0 ≡ true
+none-there [] = refl
+none-there (n ∷ ns) = none-there ns
 
-  pub is-line : isLine (length ns) s ≡ true
-  is-line =
-      and-both (are-numbers (length ns) (omega arith))
-      (ap (λ (w : List ℕ). eqb (length w) 0) (words (length ns)) ∙ none-there ns)
+-- So the text of some numbers is a line of as many numbers, and has each of them at its place.
+are-numbers : (ns : List ℕ) (n : ℕ) → n ≤ length ns → areNumbers n (figuresText ns) ≡ true
+unfolding areNumbers
+are-numbers ns zero h = refl
+are-numbers ns (suc n) h = and-both (are-numbers ns n (omega arith)) (ap isNumber (word-there ns n) ∙ number-there ns n h)
 
-  -- which has each of them at its place.
-  pub number-at : (i : ℕ) → numberAt s i ≡ getD ns i 0
-  number-at i = ap numeral (words i) ∙ value-there ns i
+pub figures-line : (ns : List ℕ) → isLine (length ns) (figuresText ns) ≡ true
+figures-line ns =
+    and-both (are-numbers ns (length ns) (omega arith))
+    (ap (λ (w : List ℕ). eqb (length w) 0) (word-there ns (length ns)) ∙ none-there ns)
+
+pub figures-back : (ns : List ℕ) (i : ℕ) → numberAt (figuresText ns) i ≡ getD ns i 0
+figures-back ns i = ap numeral (word-there ns i) ∙ value-there ns i

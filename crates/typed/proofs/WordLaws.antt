@@ -1,8 +1,8 @@
 -- Words that are put one behind the other, each behind a space, are the words of the line that they make.
 use Prim.Native.Nat.{ℕ, zero, suc, _+_, _≤_, _<_}
-use mathlib.Core.Path.{_≡_, refl, ap, _∙_}
+use mathlib.Core.Path.{_≡_, refl, sym, ap, _∙_}
 use mathlib.Core.Bool.{Bool, true, false}
-use mathlib.Core.List.{List, [], _∷_, _++_}
+use mathlib.Core.List.{List, [], _∷_, _++_, append-nil, append-assoc}
 use native.Mathlib.Omega.{arith}
 use borrow.Author.Tests.{not-true}
 use lib.ListN.{length, getD, take, drop}
@@ -23,8 +23,19 @@ unfoldable pub spacedWords : List (List ℕ) → List ℕ
 spacedWords [] = []
 spacedWords (w ∷ ws) = (32 ∷ w) ++ spacedWords ws
 
+pub spaced-both : (ws vs : List (List ℕ)) → spacedWords ws ++ spacedWords vs ≡ spacedWords (ws ++ vs)
+unfolding spacedWords
+spaced-both [] vs = refl
+spaced-both (w ∷ ws) vs =
+    append-assoc (32 ∷ w) (spacedWords ws) (spacedWords vs) ∙ ap (λ (rest : List ℕ). (32 ∷ w) ++ rest) (spaced-both ws vs)
+
+pub spaced-one : (w : List ℕ) → 32 ∷ w ≡ spacedWords (w ∷ [])
+unfolding spacedWords
+spaced-one w = sym (append-nil (32 ∷ w))
+
 -- Bytes that are all such are counted before what stands behind them; and one by one.
-run-first : (such : ℕ → Bool) (b : ℕ) (bs : List ℕ) → run such (b ∷ bs) ≡ suc (length bs) → (such b ≡ true) × (run such bs ≡ length bs)
+run-first : (such : ℕ → Bool) (b : ℕ) (bs : List ℕ) → run such (b ∷ bs) ≡ suc (length bs) →
+    (such b ≡ true) × (run such bs ≡ length bs)
 unfolding run
 run-first such b bs h = go (such b) refl
   where
