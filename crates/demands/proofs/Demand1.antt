@@ -36,7 +36,9 @@ use Rattle.records.specs.Refusals.{rawRefusal, logRefusal, entryRefusal, countR
 use Rattle.records.proofs.Theorems.{raw-refusals, log-refusals, entry-refusals, count-refusals, chain-refusals, job-refusals}
 use Rattle.writing.specs.declared.Draft.{Draft}
 use Rattle.writing.specs.Writing.{refusalOf, bufferOf}
-use Rattle.writing.proofs.Theorems.{write-refusals, refused-write-zeros}
+use Rattle.writing.specs.ChainWriting.{chainRefusalOf, chainBufferOf}
+use Rattle.writing.specs.JobWriting.{jobRefusalOf, jobBufferOf}
+use Rattle.writing.proofs.Theorems.{write-refusals, refused-write-zeros, chain-write-refusals, refused-chain-zeros, job-write-refusals, refused-job-zeros}
 use Rattle.listing.specs.declared.Carried.{Carried}
 use Rattle.listing.specs.declared.Carried.the-variants as carried
 use Rattle.listing.specs.Answers.{Refused, answerOf}
@@ -88,6 +90,18 @@ pub record-written : (bytes : ℕ) (d : Draft) →
     NoneOr (1 ∷ 2 ∷ 3 ∷ 4 ∷ 5 ∷ []) (refusalOf bytes d)
     × (Refuses (refusalOf bytes d) → bufferOf bytes d ≡ replicate bytes 0)
 record-written bytes d = (write-refusals bytes d, refused-write-zeros bytes d)
+
+-- A chain is written, or gets 1 or 5; a job is written, or gets 1, 6 or 7. Each, if it is refused, leaves the whole buffer
+-- zero, whatever its length.
+pub chain-written : (bytes : ℕ) (c : Chain) →
+    NoneOr (1 ∷ 5 ∷ []) (chainRefusalOf bytes c)
+    × (Refuses (chainRefusalOf bytes c) → chainBufferOf bytes c ≡ replicate bytes 0)
+chain-written bytes c = (chain-write-refusals bytes c, refused-chain-zeros bytes c)
+
+pub job-written : (bytes : ℕ) (j : Job) →
+    NoneOr (1 ∷ 6 ∷ 7 ∷ []) (jobRefusalOf bytes j)
+    × (Refuses (jobRefusalOf bytes j) → jobBufferOf bytes j ≡ replicate bytes 0)
+job-written bytes j = (job-write-refusals bytes j, refused-job-zeros bytes j)
 
 -- Any search, whatever it is asked, gets places, or 3, 5, 6, 7, 8, 9 or 10. After a refusal its list of any length, an odd
 -- one too, is all zeros and its count nought; 3, 5, 6 and 7 tell of no visit, 10 of exactly the allowance, and no answer of

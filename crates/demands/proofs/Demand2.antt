@@ -6,11 +6,12 @@ use mathlib.Core.Path.{_≡_, ap, subst⁻¹}
 use mathlib.Core.Logic.{_↔_}
 use mathlib.Core.Bool.{true, false}
 use mathlib.Core.List.{List}
+use native.Mathlib.Omega.{arith}
 use borrow.Author.Tests.{leb-true}
 use lib.Dec.{T}
 use lib.IntN.{ℤ, pos, natAbs, subℕ}
 use lib.Ieee.{Float, binary64, fits, ofInt, div}
-use lib.ListN.{length}
+use lib.ListN.{length, getD}
 use Rattle.squares.proofs.RootLaws.{root-law, root-unique}
 use Rattle.metres.specs.declared.Whole.{Whole}
 use Rattle.metres.specs.declared.Whole.the-variants as whole
@@ -36,15 +37,18 @@ use Rattle.search.specs.Cells.{matchingIn, Listed, AmpleRoom, AmpleAllowance}
 use Rattle.search.proofs.Theorems.{always-enough}
 use Rattle.records.specs.declared.RawAnswer.the-variants as raw
 use Rattle.records.specs.declared.LogEntry.the-variants as entry
+use Rattle.records.specs.declared.ChainCount.the-variants as count
 use Rattle.records.specs.declared.NamedChain.the-variants as named
 use Rattle.records.specs.declared.Job.{Job}
 use Rattle.records.specs.declared.JobAnswer.the-variants as answer
 use Rattle.records.specs.LogRecords.{rawRecordOf, logEntryOf}
-use Rattle.records.specs.ChainTables.{chainOf}
+use Rattle.records.specs.ChainTables.{chainCountOf, chainOf}
 use Rattle.records.specs.Jobs.{jobOf}
 use Rattle.writing.specs.declared.Draft.{Draft}
 use Rattle.writing.specs.Writing.{refusalOf, usedOf, bufferOf, rawFor, entryFor}
-use Rattle.writing.proofs.Theorems.{reads-back}
+use Rattle.writing.specs.ChainWriting.{chainRefusalOf, allSound, tableOf}
+use Rattle.writing.specs.JobWriting.{jobRefusalOf, jobBufferOf}
+use Rattle.writing.proofs.Theorems.{reads-back, chains-written, chains-counted, chains-read-back, window-written, job-reads-back}
 use Rattle.listing.specs.declared.Carried.{Carried}
 use Rattle.listing.specs.Answers.{fixBy, answerBy, answerOf, placesOf}
 use Rattle.demands.proofs.NumberLaws.{job-good}
@@ -107,6 +111,27 @@ number-there-and-back x held = number-back x held
 pub record-there-and-back : (d : Draft) → d .line < 2 ^ 32 → refusalOf 32 d ≡ 0 →
     (rawRecordOf (bufferOf 32 d) ≡ raw.Record (rawFor (usedOf d))) × (logEntryOf (bufferOf 32 d) ≡ entryFor (usedOf d))
 record-there-and-back d line accepted = (reads-back d line accepted .raw, reads-back d line accepted .entry)
+
+-- Every sound chain is written; and 1 to 16 of them, written one behind the other, are a table of as many, from which each is
+-- read back by its number. `other` is what would stand past the last, where no number goes.
+pub chains-there-and-back : (cs : List Chain) (number : ℕ) (other : Chain) →
+    let c = getD cs (number - 1) other in
+    allSound cs ≡ true → length cs ≤ 16 → 1 ≤ number → number ≤ length cs →
+    (chainRefusalOf 24 c ≡ 0)
+    × (chainCountOf (tableOf cs) ≡ count.Chains (length cs))
+    × (chainOf (tableOf cs) number ≡ named.Chain c)
+chains-there-and-back cs number other sound few first last = (
+  chains-written cs number other sound first last,
+  chains-counted cs (omega arith) few,
+  chains-read-back cs number other sound few first last,
+)
+
+-- Every window, with a tolerance up to 100,000 and any allowance, is written as a job; and whatever job is accepted is read
+-- back as the same job.
+pub job-there-and-back : (j : Job) → j .allowance < 2 ^ 64 →
+    (isWindow (j .window) ≡ true → j .tolerance ≤ 100_000 → jobRefusalOf 32 j ≡ 0)
+    × (jobRefusalOf 32 j ≡ 0 → jobOf (jobBufferOf 32 j) ≡ answer.Job j)
+job-there-and-back j small = (window-written j, job-reads-back j small)
 
 -- The writer accepts any two readings up to 1,000,000,000 in size for a chain from 1 to 16, any place in range, and any hold;
 -- and these are read back.

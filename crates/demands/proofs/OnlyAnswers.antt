@@ -43,6 +43,8 @@ use Rattle.records.proofs.chain_count as chain-count
 use Rattle.records.proofs.chain_of as chain-of
 use Rattle.records.proofs.job_of as job-of
 use Rattle.writing.proofs.write as write
+use Rattle.writing.proofs.write_chain as write-chain
+use Rattle.writing.proofs.write_job as write-job
 use Rattle.listing.proofs.list as list
 use Rattle.desk.proofs.desk_centimetres as desk-centimetres
 use Rattle.desk.proofs.desk_metres as desk-metres
@@ -180,6 +182,14 @@ module _ {M : Type 1} (𝓤 : URA M) (H : Heap 𝓤) (A : Atoms 𝓤) (mem : Mem
   -- writing::write, by `ensures-answer`, `ensures-buffer`.
   pub write-only : OneAnswer 𝓤 write.ended (write.clauses 𝓤 H A mem run)
   write-only κs a g x y = only 𝓤 (same beside same) (λ (answer, buffer). answer & buffer & refl)
+
+  -- writing::write_chain, by `ensures-answer`, `ensures-buffer`.
+  pub write-chain-only : OneAnswer 𝓤 write-chain.ended (write-chain.clauses 𝓤 H A mem run)
+  write-chain-only κs a g x y = only 𝓤 (same beside same) (λ (answer, buffer). answer & buffer & refl)
+
+  -- writing::write_job, by `ensures-answer`, `ensures-buffer`.
+  pub write-job-only : OneAnswer 𝓤 write-job.ended (write-job.clauses 𝓤 H A mem run)
+  write-job-only κs a g x y = only 𝓤 (same beside same) (λ (answer, buffer). answer & buffer & refl)
 
   -- listing::list, by `ensures-answer`, `ensures-out`.
   pub list-only : OneAnswer 𝓤 list.ended (list.clauses 𝓤 H A mem run)

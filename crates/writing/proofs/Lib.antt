@@ -1,5 +1,10 @@
--- What follows from the definitions of the writer.
+-- What follows from the definitions of the writers.
 pub mod Theorems
 pub mod WriteLaws
+mod BufferLaws
+mod ChainWriteLaws
+mod JobWriteLaws
 mod ReadBack
+mod TableBack
+mod JobBack
 mod Worked

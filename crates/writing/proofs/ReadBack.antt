@@ -26,7 +26,8 @@ use Rattle.records.specs.Bytes.{allZero}
 use Rattle.records.specs.LogRecords.{rawRecordOf, logRecordOf, isPlace, placed, withBoth, inCentimetres, logEntryOf}
 use Rattle.writing.specs.declared.Draft.{Draft}
 use Rattle.writing.specs.Writing.{refusalOf, usedOf, inMetres, metresBytes, recordBytes, rawFor, entryFor}
-use Rattle.writing.proofs.WriteLaws.{passed, known-kind}
+use Rattle.writing.proofs.BufferLaws.{passed}
+use Rattle.writing.proofs.WriteLaws.{known-kind}
 
 -- binary64 holds the metres of every number of centimetres: a quotient, or plus zero for one that is not written.
 length-fits : (t : Bool) (z : ℤ) → T (fits binary64 (lengthFigures (cond t (Metres (hundredthOf z)) Refused) .metres))

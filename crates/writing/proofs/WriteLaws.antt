@@ -13,12 +13,12 @@ use Rattle.metres.specs.Metres.{mostCentimetres}
 use Rattle.metres.specs.Patterns.{putNumberAt}
 use Rattle.chart.specs.Places.{mostEasting, mostNorthing}
 use Rattle.chart.proofs.PlaceLaws.{too-far-east, by-northing}
-use Rattle.records.specs.Bytes.{unless}
 use Rattle.records.specs.LogRecords.{logBytes, isPlace}
 use Rattle.records.specs.ChainTables.{mostChains, oneTo}
 use Rattle.records.proofs.TableLaws.{one-to-says}
 use Rattle.writing.specs.declared.Draft.{Draft}
 use Rattle.writing.specs.Writing.{isKind, numbersFit, placeFits, chainFits, refusalOf, usedOf, inMetres, recordBytes, bufferOf}
+use Rattle.writing.proofs.BufferLaws.{passed, left-written, left-zero}
 
 -- The numbers, of every kind but a hold.
 pub hold-fits : (d : Draft) → d .kind ≡ 3 → numbersFit d ≡ true
@@ -109,16 +109,11 @@ record-length d = refl
 -- What a buffer holds after a write that was not refused, and after one that was.
 pub buffer-written : (bytes : ℕ) (d : Draft) → refusalOf bytes d ≡ 0 → bufferOf bytes d ≡ recordBytes (usedOf d)
 unfolding bufferOf
-buffer-written bytes d e = rw e
+buffer-written bytes d e = left-written bytes (refusalOf bytes d) (recordBytes (usedOf d)) e
 
 pub buffer-zero : (bytes : ℕ) (d : Draft) → (refusalOf bytes d ≡ 0 → ⊥) → bufferOf bytes d ≡ replicate bytes 0
 unfolding bufferOf
-buffer-zero bytes d n = rw (ne-eqb (refusalOf bytes d) 0 n)
-
--- Where nothing was refused, a test has passed and the rest has not refused either.
-pub passed : (t : Bool) (number rest : ℕ) → 0 < number → unless t number rest ≡ 0 → (t ≡ true) × (rest ≡ 0)
-passed true number rest h e = (refl, e)
-passed false number rest h e = absurd (omega arith)
+buffer-zero bytes d n = left-zero bytes (refusalOf bytes d) (recordBytes (usedOf d)) n
 
 -- No kind is above 3.
 pub known-kind : (kind : ℕ) → isKind kind ≡ true → kind ≤ 3

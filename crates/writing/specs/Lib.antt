@@ -1,2 +1,5 @@
--- The writer: what it accepts, and the bytes that it makes.
+-- The writers: what each accepts, and the bytes that it makes.
+pub mod Buffers
 pub mod Writing
+pub mod ChainWriting
+pub mod JobWriting

@@ -18,6 +18,7 @@ use Rattle.records.specs.Bytes.{unless}
 use Rattle.records.specs.LogRecords.{logBytes, rawRecordOf, isPlace, logEntryOf}
 use Rattle.records.specs.ChainTables.{mostChains, oneTo}
 use Rattle.writing.specs.declared.Draft.{Draft}
+use Rattle.writing.specs.Buffers.{leftIn}
 
 -- A kind that is known: 1 hyperbolic, 2 grid, 3 hold.
 abbrev pub isKind : ℕ → Bool
@@ -69,9 +70,9 @@ recordBytes d =
     d .kind ∷ d .chain ∷ 0 ∷ 0
     ∷ (bytesOf 4 (d .line) ++ (metresBytes (d .x) ++ (metresBytes (d .y) ++ replicate 8 0)))
 
--- What a buffer of so many bytes holds after a draft: the record, or nothing but zeros.
+-- What a buffer of so many bytes holds after a draft.
 unfoldable pub bufferOf : ℕ → Draft → List ℕ
-bufferOf bytes d = cond (eqb (refusalOf bytes d) 0) (recordBytes (usedOf d)) (replicate bytes 0)
+bufferOf bytes d = leftIn bytes (refusalOf bytes d) (recordBytes (usedOf d))
 
 -- The raw record, and the entry in centimetres, that a draft stands for.
 abbrev pub rawFor : Draft → RawRecord

@@ -1,10 +1,16 @@
-// Log records written: a draft is tested, and its bytes are put into a buffer.
+// Log records, chains and jobs written: each is tested, and its bytes are put into a buffer.
 ghost use mathlib.Core.Path.{_≡_};
-ghost use Prim.Native.Nat.{_<_};
+ghost use Prim.Native.Nat.{_+_, _≤_, _<_};
 ghost use lib.ListN.{length, replicate};
 ghost use Rattle.records.specs.LogRecords.{logBytes};
-ghost use Rattle.records.specs.ChainTables.{oneTo};
+ghost use Rattle.records.specs.ChainTables.{chainBytes, oneTo};
+ghost use Rattle.records.specs.Jobs.{jobBytes};
 ghost use Rattle.writing.specs.Writing.{numbersFit, placeFits, chainFits, refusalOf, usedOf, inMetres, recordBytes, bufferOf};
+ghost use Rattle.writing.specs.ChainWriting.{putPlaceAt, bytesOfChain, chainRefusalOf, chainBufferOf};
+ghost use Rattle.writing.specs.JobWriting.{bytesOfJob, jobRefusalOf, jobBufferOf};
+use chart::Chain;
+use chart::Place;
+use records::Job;
 
 // What a log record is to say. x and y are readings A and B, or easting and northing, in centimetres.
 pub struct Draft {
@@ -17,6 +23,10 @@ pub struct Draft {
 
 const LOG_BYTES: usize = 32;
 
+const CHAIN_BYTES: usize = 24;
+
+const JOB_BYTES: usize = 32;
+
 const MOST_CHAINS: u32 = 16;
 
 const MOST_EASTING: i64 = 100_000_000;
@@ -24,6 +34,8 @@ const MOST_EASTING: i64 = 100_000_000;
 const MOST_NORTHING: i64 = 1_000_000_000;
 
 const MOST_CENTIMETRES: u64 = 1_000_000_000;
+
+const MOST_TOLERANCE: u32 = 100_000;
 
 // Writes a draft into a buffer of 32 bytes. Answers with the number of the refusal, 0 for none; a refused write leaves the
 // whole buffer zero, whatever its length.
@@ -37,6 +49,34 @@ pub fn write(buffer: &mut [u8], d: Draft) -> u32
         return refusal;
     }
     put(buffer, used(d));
+    0
+}
+
+// Writes a chain into a buffer of 24 bytes, by the same rules.
+pub fn write_chain(buffer: &mut [u8], c: Chain) -> u32
+    ensures answer { λ r. ⌜ r ≡ chainRefusalOf (length (now (buffer .entry))) c ⌝ }
+    ensures buffer { λ r. ⌜ now (buffer .exit) ≡ chainBufferOf (length (now (buffer .entry))) c ⌝ }
+{
+    let refusal = chain_refusal(buffer.len(), c);
+    clear(buffer);
+    if refusal != 0 {
+        return refusal;
+    }
+    put_chain(buffer, c);
+    0
+}
+
+// Writes a job into a buffer of 32 bytes, by the same rules.
+pub fn write_job(buffer: &mut [u8], j: Job) -> u32
+    ensures answer { λ r. ⌜ r ≡ jobRefusalOf (length (now (buffer .entry))) j ⌝ }
+    ensures buffer { λ r. ⌜ now (buffer .exit) ≡ jobBufferOf (length (now (buffer .entry))) j ⌝ }
+{
+    let refusal = job_refusal(buffer.len(), j);
+    clear(buffer);
+    if refusal != 0 {
+        return refusal;
+    }
+    put_job(buffer, j);
     0
 }
 
@@ -170,4 +210,62 @@ fn in_metres(c: i64) -> f64
 {
     let f = metres::length_figures(metres::metres(c));
     f.metres
+}
+
+// Why a chain is not written into a buffer of so many bytes, or 0.
+fn chain_refusal(bytes: usize, c: Chain) -> u32
+    ensures { λ r. ⌜ r ≡ chainRefusalOf bytes c ⌝ }
+{
+    if bytes != CHAIN_BYTES {
+        return 1;
+    }
+    if !chart::sound(c) {
+        return 5;
+    }
+    0
+}
+
+// Why a job is not written into a buffer of so many bytes, or 0.
+fn job_refusal(bytes: usize, j: Job) -> u32
+    ensures { λ r. ⌜ r ≡ jobRefusalOf bytes j ⌝ }
+{
+    if bytes != JOB_BYTES {
+        return 1;
+    }
+    if !search::is_window(j.window) {
+        return 6;
+    }
+    if j.tolerance > MOST_TOLERANCE {
+        return 7;
+    }
+    0
+}
+
+// The bytes of a chain in a buffer that is clear.
+fn put_chain(buffer: &mut [u8], c: Chain)
+    requires { ⌜ now buffer ≡ replicate chainBytes 0 ⌝ }
+    ensures { λ _. ⌜ now (buffer .exit) ≡ bytesOfChain c ⌝ }
+{
+    put_place(buffer, 0, c.master);
+    put_place(buffer, 8, c.a);
+    put_place(buffer, 16, c.b);
+}
+
+// The bytes of a job in a buffer that is clear.
+fn put_job(buffer: &mut [u8], j: Job)
+    requires { ⌜ (now buffer ≡ replicate jobBytes 0) × (j .window .k < 256) ⌝ }
+    ensures { λ _. ⌜ now (buffer .exit) ≡ bytesOfJob j ⌝ }
+{
+    put_place(buffer, 0, j.window.corner);
+    buffer[8] = j.window.k as u8;
+    fields::put_four(buffer, 12, j.tolerance);
+    fields::put_eight(buffer, 16, j.allowance);
+}
+
+fn put_place(buffer: &mut [u8], at: usize, p: Place)
+    requires { ⌜ at + 8 ≤ length (now buffer) ⌝ }
+    ensures { λ _. ⌜ now (buffer .exit) ≡ putPlaceAt (now (buffer .entry)) at p ⌝ }
+{
+    fields::put_four(buffer, at, p.easting);
+    fields::put_four(buffer, at + 4, p.northing);
 }

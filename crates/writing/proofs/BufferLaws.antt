@@ -1,0 +1,35 @@
+-- What all writes share: a test that passed, and what a buffer holds.
+use Prim.Native.Nat.{ℕ, _<_}
+use mathlib.Core.Path.{_≡_, refl, ap, _∙_}
+use mathlib.Core.Bool.{Bool, true, false}
+use mathlib.Core.List.{List}
+use native.Mathlib.Omega.{arith}
+use lib.Dec.{eqb}
+use lib.ListN.{length, replicate, length-replicate}
+use borrow.Author.Tests.{eqb-true, eqb-false, ne-eqb}
+use Rattle.records.specs.Bytes.{unless}
+use Rattle.writing.specs.Buffers.{leftIn}
+
+-- Where nothing was refused, a test has passed and the rest has not refused either.
+pub passed : (t : Bool) (number rest : ℕ) → 0 < number → unless t number rest ≡ 0 → (t ≡ true) × (rest ≡ 0)
+passed true number rest h e = (refl, e)
+passed false number rest h e = absurd (omega arith)
+
+-- What a buffer holds after a write that was not refused, and after one that was.
+pub left-written : (bytes refusal : ℕ) (written : List ℕ) → refusal ≡ 0 → leftIn bytes refusal written ≡ written
+unfolding leftIn
+left-written bytes refusal written e = rw e
+
+pub left-zero : (bytes refusal : ℕ) (written : List ℕ) → (refusal ≡ 0 → ⊥) → leftIn bytes refusal written ≡ replicate bytes 0
+unfolding leftIn
+left-zero bytes refusal written n = rw (ne-eqb refusal 0 n)
+
+-- A write that fills its buffer where it is not refused never changes its length.
+pub left-length : (bytes refusal : ℕ) (written : List ℕ) → (refusal ≡ 0 → length written ≡ bytes) → length (leftIn bytes refusal written) ≡ bytes
+left-length bytes refusal written fills = go (eqb refusal 0) refl
+  where
+    go : (t : Bool) → eqb refusal 0 ≡ t → length (leftIn bytes refusal written) ≡ bytes
+    go true e =
+        let accepted = eqb-true refusal 0 e in
+        ap length (left-written bytes refusal written accepted) ∙ fills accepted
+    go false e = ap length (left-zero bytes refusal written (eqb-false refusal 0 e)) ∙ length-replicate bytes 0

@@ -1,0 +1,105 @@
+-- Chains that are written one behind the other are read back, each from its own 24 bytes.
+-- The first chain's bytes stand at their places by computation, and those of the chains behind it 24 bytes farther.
+use Prim.Native.Nat.{ℕ, zero, suc, _+_, _*_, _%_, _^_, _≤_, _<_}
+use mathlib.Core.Path.{_≡_, refl, sym, ap, _∙_, subst⁻¹}
+use mathlib.Core.Bool.{true}
+use mathlib.Core.List.{List, [], _∷_, _++_}
+use native.Mathlib.Omega.{arith}
+use lib.ListN.{length, getD, take, drop, length-append}
+use lib.Seq.{drop-append-add, drop-drop}
+use borrow.Author.Tests.{eq-eqb, le-leb}
+use Rattle.fields.specs.Fields.{valueOf, bytesOf, fieldAt}
+use Rattle.fields.proofs.FieldLaws.{value-bytes}
+use Rattle.chart.specs.declared.Place.{Place}
+use Rattle.chart.specs.declared.Chain.{Chain}
+use Rattle.chart.specs.Places.{inRange}
+use Rattle.chart.specs.Chains.{isSound}
+use Rattle.chart.proofs.PlaceLaws.{both, and-both, in-range-says}
+use Rattle.chart.proofs.ChainLaws.{stations-in-range}
+use Rattle.records.specs.ChainTables.{chainBytes, mostChains, oneTo, chainsIn, isTable, chainAt}
+use Rattle.writing.specs.ChainWriting.{bytesOfChain, chainBufferOf, allSound, tableOf}
+use Rattle.writing.proofs.ChainWriteLaws.{chain-accepted, chain-written, chain-same-length}
+
+-- The numbers of a place in range fit four bytes each.
+pub small-place : (p : Place) → inRange p ≡ true → (p .easting < 256 ^ 4) × (p .northing < 256 ^ 4)
+small-place p h =
+    let says = in-range-says p h in
+    (omega arith, omega arith)
+
+-- A chain comes back from the start of some bytes.
+chain-first : (c : Chain) (rest : List ℕ) → isSound c ≡ true → chainAt (bytesOfChain c ++ rest) 0 ≡ c
+unfolding bytesOfChain bytesOf valueOf
+chain-first c rest sound =
+    let there = stations-in-range c sound in
+    let m = small-place (c .master) (there .0) in
+    let a = small-place (c .a) (there .1 .0) in
+    let b = small-place (c .b) (there .1 .1 .0) in
+    rw (
+      value-bytes 4 (c .master .easting) (m .0),
+      value-bytes 4 (c .master .northing) (m .1),
+      value-bytes 4 (c .a .easting) (a .0),
+      value-bytes 4 (c .a .northing) (a .1),
+      value-bytes 4 (c .b .easting) (b .0),
+      value-bytes 4 (c .b .northing) (b .1),
+    )
+
+-- A field lies as far behind a place as it does in what is left from there on, and so does a chain.
+field-from : (s : List ℕ) (at more from : ℕ) → from ≡ at + more → fieldAt 4 s from ≡ fieldAt 4 (drop at s) more
+field-from s at more from e = ap (fieldAt 4 s) e ∙ ap (λ (l : List ℕ). valueOf (take 4 l)) (sym (drop-drop more at s))
+
+chain-from : (s : List ℕ) (at : ℕ) → chainAt s at ≡ chainAt (drop at s) 0
+chain-from s at =
+    rw (
+      field-from s at 0 at (omega arith),
+      field-from s at 4 (at + 4) refl,
+      field-from s at 8 (at + 8) refl,
+      field-from s at 12 (at + 8 + 4) (omega arith),
+      field-from s at 16 (at + 16) refl,
+      field-from s at 20 (at + 16 + 4) (omega arith),
+    )
+
+-- So a chain behind others is where it would be without them, as much farther as they are long.
+chain-behind : (front rest : List ℕ) (at : ℕ) → chainAt (front ++ rest) (length front + at) ≡ chainAt rest at
+chain-behind front rest at =
+    chain-from (front ++ rest) (length front + at)
+    ∙ ap (λ (l : List ℕ). chainAt l 0) (drop-append-add front rest at)
+    ∙ sym (chain-from rest at)
+
+-- Every chain has 24 bytes of the table, whether it was written or refused.
+table-length : (cs : List Chain) → length (tableOf cs) ≡ chainBytes * length cs
+unfolding tableOf
+table-length [] = refl
+table-length (c ∷ cs) =
+    omega (arith, length-append (chainBufferOf chainBytes c) (tableOf cs), chain-same-length chainBytes c, table-length cs)
+
+-- Each of the chains comes back from its place in the table.
+pub chain-back : (cs : List Chain) (i : ℕ) (other : Chain) → allSound cs ≡ true → i < length cs →
+    chainAt (tableOf cs) (chainBytes * i) ≡ getD cs i other
+unfolding tableOf allSound
+chain-back [] i other sound h = absurd (omega arith)
+chain-back (c ∷ cs) zero other sound h =
+    let good = both (isSound c) (allSound cs) sound .0 in
+    ap (λ (s : List ℕ). chainAt (s ++ tableOf cs) 0) (chain-written chainBytes c (chain-accepted chainBytes c refl good))
+    ∙ chain-first c (tableOf cs) good
+chain-back (c ∷ cs) (suc i) other sound h =
+    let farther : chainBytes * suc i ≡ length (chainBufferOf chainBytes c) + chainBytes * i = omega (arith, chain-same-length chainBytes c) in
+    ap (chainAt (chainBufferOf chainBytes c ++ tableOf cs)) farther
+    ∙ chain-behind (chainBufferOf chainBytes c) (tableOf cs) (chainBytes * i)
+    ∙ chain-back cs i other (both (isSound c) (allSound cs) sound .1) (omega arith)
+
+-- A chain of the list is sound.
+pub sound-there : (cs : List Chain) (i : ℕ) (other : Chain) → allSound cs ≡ true → i < length cs → isSound (getD cs i other) ≡ true
+unfolding allSound
+sound-there [] i other sound h = absurd (omega arith)
+sound-there (c ∷ cs) zero other sound h = both (isSound c) (allSound cs) sound .0
+sound-there (c ∷ cs) (suc i) other sound h = sound-there cs i other (both (isSound c) (allSound cs) sound .1) (omega arith)
+
+-- The table has as many chains as were written, and is one if they are 1 to 16.
+module _ (cs : List Chain) where
+  pub chains-there : chainsIn (tableOf cs) ≡ length cs
+  chains-there = omega (arith, table-length cs)
+
+  pub is-table : 1 ≤ length cs → length cs ≤ mostChains → isTable (tableOf cs) ≡ true
+  is-table some few =
+      and-both (eq-eqb (length (tableOf cs) % chainBytes) 0 (omega (arith, table-length cs)))
+      (subst⁻¹ (λ (n : ℕ). oneTo mostChains n ≡ true) chains-there (and-both (le-leb 1 (length cs) some) (le-leb (length cs) mostChains few)))
