@@ -7,3 +7,4 @@ mod Sizes
 mod Exact
 mod Digits
 mod Worked
+pub mod Negatives

@@ -1,0 +1,4 @@
+-- What follows from the definitions of typed text.
+mod Scans
+mod Values
+mod Lines

@@ -1,0 +1,43 @@
+-- How the code goes through a line: what its private functions promise each other. No public promise rests on it.
+use Prim.Native.Nat.{ℕ, _-_, _^_, _≤_}
+use mathlib.Core.Path.{_≡_}
+use mathlib.Core.Bool.{Bool, true, false, cond}
+use mathlib.Core.List.{List}
+use lib.ListN.{length, take, drop}
+use Rattle.typed.specs.declared.Class.{Class}
+use Rattle.typed.specs.declared.Class.the-variants as class
+use Rattle.typed.specs.declared.Sized.{Sized}
+use Rattle.typed.specs.declared.Sized.the-variants as sized
+use Rattle.typed.specs.declared.Span.{Span}
+use Rattle.typed.specs.Words.{isInLine, isBlank, isInWord}
+use Rattle.typed.specs.Numbers.{isDigit, fits, held}
+
+-- The bytes of a class.
+unfoldable pub isOf : Class → ℕ → Bool
+isOf class.InLine b = isInLine b
+isOf class.Blank b = isBlank b
+isOf class.InWord b = isInWord b
+isOf class.Digit b = isDigit b
+
+-- A number in 64 bits, or that it is larger.
+abbrev pub sizedOf : ℕ → Sized
+sizedOf n = cond (fits 64 n) (sized.Value n) sized.Large
+
+-- Whether it has 64 bits; the same in a field of so many; and whether it fits there.
+unfoldable pub isValue : Sized → Bool
+isValue (sized.Value n) = true
+isValue sized.Large = false
+
+unfoldable pub heldIn : ℕ → Sized → ℕ
+heldIn bits (sized.Value n) = held bits n
+heldIn bits sized.Large = 2 ^ bits - 1
+
+unfoldable pub fitsIn : ℕ → Sized → Bool
+fitsIn bits (sized.Value n) = fits bits n
+fitsIn bits sized.Large = false
+
+-- A span of a line has these bytes.
+pub record Spans (s : List ℕ) (w : List ℕ) (p : Span) : Type 0 where
+  pub rises : p .start ≤ p .end
+  pub inside : p .end ≤ length s
+  pub word : take (p .end - p .start) (drop (p .start) s) ≡ w
