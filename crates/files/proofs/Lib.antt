@@ -1,3 +1,2 @@
--- The laws on bytes that are moved to the front of a buffer, and on text that is put into one.
-mod FrontLaws
+-- The law on text that is put into a buffer.
 mod TextLaws

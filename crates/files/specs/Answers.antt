@@ -1,8 +1,6 @@
--- What the answers hold: a file that can be read, how much of a buffer is filled, and what stands between two places of one.
-use Prim.Native.Nat.{ℕ, _-_}
-use mathlib.Core.List.{List}
+-- What the answers hold: a file that can be read, and how much of a buffer is filled.
+use Prim.Native.Nat.{ℕ}
 use lib.Dec.{T}
-use lib.ListN.{take, drop}
 use lib.Signed.{nonNeg}
 use Rattle.files.specs.declared.Opened.{Opened}
 use Rattle.files.specs.declared.Opened.the-variants as opened
@@ -27,7 +25,3 @@ abbrev pub lineOf : Words → ℕ
 lineOf (words.Line n) = n
 lineOf words.Unfit = 0
 lineOf words.Helped = 0
-
--- The bytes from one place on, up to another.
-abbrev pub between : ℕ → ℕ → List ℕ → List ℕ
-between from to bytes = take (to - from) (drop from bytes)

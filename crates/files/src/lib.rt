@@ -1,11 +1,10 @@
 // What the programs share of the outside: files by name, the arguments, standard output, and what is told on standard error.
 // No contract can say what is read or written; each says what it can of the answer, as far as a caller goes by it.
 ghost use mathlib.Core.Bool.{true, false};
-ghost use mathlib.Core.List.{_++_};
 ghost use mathlib.Core.Path.{_≡_};
-ghost use Prim.Native.Nat.{_-_, _≤_, min};
-ghost use lib.ListN.{length, drop};
-ghost use Rattle.files.specs.Answers.{IsOpen, bytesOf, lineOf, between};
+ghost use Prim.Native.Nat.{_≤_};
+ghost use lib.ListN.{length};
+ghost use Rattle.files.specs.Answers.{IsOpen, bytesOf, lineOf};
 use libc::STDERR_FILENO;
 use libc::STDOUT_FILENO;
 
@@ -73,34 +72,6 @@ pub fn start(name: &[u8], buffer: &mut [u8]) -> Filled
         Opened::Missing => Filled::Bytes(0),
         Opened::Failed => Filled::Failed,
     }
-}
-
-// Moves the bytes between two places of a buffer to its front, and answers how many they are.
-pub fn front(buffer: &mut [u8], from: usize, to: usize) -> usize
-    ensures count { λ r. ⌜ r ≡ length (between from to (now (buffer .entry))) ⌝ }
-    ensures buffer { λ r. ⌜ now (buffer .exit) ≡ between from to (now (buffer .entry)) ++ drop r (now (buffer .entry)) ⌝ }
-{
-    let count = bytes_between(from, to, buffer.len());
-    let mut i = 0;
-    while i < count {
-        buffer[i] = buffer[from + i];
-        i += 1;
-    }
-    count
-}
-
-// How many bytes stand between two places of so many.
-fn bytes_between(from: usize, to: usize, bytes: usize) -> usize
-    ensures { λ r. ⌜ r ≡ min to bytes - from ⌝ }
-{
-    let end = least(to, bytes);
-    if from < end { end - from } else { 0 }
-}
-
-fn least(a: usize, b: usize) -> usize
-    ensures { λ r. ⌜ r ≡ min a b ⌝ }
-{
-    if a < b { a } else { b }
 }
 
 // Whether all of a text was written to standard output. Why it was not has been told.

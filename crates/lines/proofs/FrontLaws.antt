@@ -8,7 +8,7 @@ use native.Mathlib.Omega.{arith}
 use native.Mathlib.Numerals.{add-one}
 use lib.ListN.{length, getD, take, drop, set, length-take, length-drop}
 use lib.Seq.{length-take-le, getD-append-add, getD-drop, paste, paste-suc, take-all}
-use Rattle.files.specs.Answers.{between}
+use Rattle.lines.specs.Input.{between}
 
 -- The buffer after so many of them.
 abbrev pub copied : List ℕ → ℕ → ℕ → List ℕ
@@ -51,3 +51,7 @@ all-copied b from to =
     go (no h) =
         take-all (min to (length b) - from) (drop from b) (omega (arith, length-drop from b, lt-of-not-le h))
         ∙ sym (take-all (to - from) (drop from b) (omega (arith, length-drop from b, lt-of-not-le h)))
+
+-- They are no more than the buffer has.
+pub no-more : (b : List ℕ) (from to : ℕ) → length (between from to b) ≤ length b
+no-more b from to = omega (arith, so-many b from to)

@@ -1,14 +1,14 @@
--- `files::front` moves the bytes one by one: each turn copies the next one, which is still where it was.
+-- `lines::front` moves the bytes one by one: each turn copies the next one, which is still where it was.
 use Prim.Native.Nat.{ℕ, _+_, _-_, _≤_, _<_, min}
 use mathlib.Core.Path.{_≡_, ap, _∙_, sym}
 use mathlib.Core.List.{List, _++_}
 use native.Mathlib.Omega.{arith}
 use borrow.Author.Needs.{needs}
 use lib.ListN.{length, getD, set, drop, length-set}
-use Rattle.files.specs.Answers.{between}
-use Rattle.files.proofs.FrontLaws.{copied, one-more, so-many, all-copied}
-use Rattle.files.proofs.front.Statement.{statement}
-use Rattle.files.proofs.front.Tie as tie
+use Rattle.lines.specs.Input.{between}
+use Rattle.lines.proofs.FrontLaws.{copied, one-more, so-many, all-copied}
+use Rattle.lines.proofs.front.Statement.{statement}
+use Rattle.lines.proofs.front.Tie as tie
 
 abbrev Inv-loop : tie.InvT-loop
 Inv-loop buffer₀ from to count i₀ buffer i = (buffer ≡ copied buffer₀ from i) × ((length buffer ≡ length buffer₀) × ((i ≤ count) × (count ≡ min to (length buffer₀) - from)))
