@@ -1,2 +1,2 @@
--- The law on text that is put into a buffer.
-mod TextLaws
+-- A law on text that is put into a buffer, for programs too.
+pub mod TextLaws
