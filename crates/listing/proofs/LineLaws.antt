@@ -3,10 +3,8 @@ use Prim.Native.Nat.{ℕ, _+_, _*_, _<_}
 use mathlib.Core.Path.{_≡_, refl, sym, ap, _∙_}
 use mathlib.Core.Bool.{Bool, true, false, cond}
 use mathlib.Core.List.{List, [], _∷_, _++_, append-nil, append-assoc}
-use native.Mathlib.Numerals.{add-one}
 use lib.Dec.{eqb}
-use lib.ListN.{length, getD, take}
-use lib.Seq.{take-suc}
+use lib.ListN.{length, take}
 use Rattle.chart.specs.declared.Place.{Place}
 use Rattle.search.specs.Answers.{entriesOf}
 use Rattle.records.specs.declared.RawRecord.{RawRecord}
@@ -14,11 +12,11 @@ use Rattle.records.specs.declared.RawAnswer.{RawAnswer}
 use Rattle.records.specs.declared.RawAnswer.the-variants as raw
 use Rattle.records.specs.Bytes.{unless}
 use Rattle.records.specs.LogRecords.{logBytes, rawIn, rawRecordOf}
-use Rattle.text.specs.Texts.{digitsOf, spaced, bytesIn}
+use Rattle.text.specs.Texts.{digitsOf, spaced, figuresText, bytesIn}
 use Rattle.listing.specs.declared.Told.{Told}
 use Rattle.listing.specs.Answers.{RecordAnswer, Fix, Grid, Hold, Refused, placesOf}
 use Rattle.listing.specs.Listings.{headOf, placesText, answerText, lineOf}
-use Rattle.listing.specs.Putting.{Tells, entriesText, wordText, wordOf, figureOf, visitsOf}
+use Rattle.listing.specs.Putting.{Tells, wordText, wordOf, figureOf, visitsOf}
 
 -- The head of a line, by what the raw record says.
 headBy : RawAnswer → List ℕ
@@ -41,20 +39,9 @@ pub head-dash : (s : List ℕ) (n : ℕ) → rawRecordOf s ≡ raw.Refused n →
 unfolding headBy
 head-dash s n e = sym (ap headBy e) ∙ head-is s
 
--- One entry more.
-pub entries-behind : (xs : List ℕ) (n : ℕ) → entriesText xs ++ spaced n ≡ entriesText (xs ++ (n ∷ []))
-unfolding entriesText
-entries-behind [] n = sym (append-nil (spaced n))
-entries-behind (x ∷ xs) n = append-assoc (spaced x) (entriesText xs) (spaced n) ∙ ap (λ (z : List ℕ). spaced x ++ z) (entries-behind xs n)
-
-pub entries-more : (l : List ℕ) (i : ℕ) → i < length l → entriesText (take i l) ++ spaced (getD l i 0) ≡ entriesText (take (i + 1) l)
-entries-more l i h =
-    entries-behind (take i l) (getD l i 0)
-    ∙ ap entriesText (sym (ap (λ (n : ℕ). take n l) (add-one i) ∙ take-suc l i 0 h))
-
 -- The entries of places, as text.
-pub places-text : (ps : List Place) → entriesText (entriesOf ps) ≡ placesText ps
-unfolding entriesText entriesOf placesText
+pub places-text : (ps : List Place) → figuresText (entriesOf ps) ≡ placesText ps
+unfolding figuresText entriesOf placesText
 places-text [] = refl
 places-text (p ∷ ps) = ap (λ (z : List ℕ). spaced (p .easting) ++ (spaced (p .northing) ++ z)) (places-text ps)
 
@@ -71,19 +58,19 @@ by-parts (Refused number visits) = ap (λ (z : List ℕ). bytesIn " REFUSED" ++ 
 
 -- The text of what is told is the answer's.
 pub told-text : (a : RecordAnswer) (t : Told) (l : List ℕ) → Tells a t l →
-    wordText (t .word) ++ (spaced (t .figure) ++ (spaced (t .visits) ++ entriesText (take (2 * t .count) l))) ≡ answerText a
+    wordText (t .word) ++ (spaced (t .figure) ++ (spaced (t .visits) ++ figuresText (take (2 * t .count) l))) ≡ answerText a
 unfolding byParts
 told-text a t l h =
     rw (h .word, h .figure, h .visits, h .places .entries, places-text (placesOf a)) (by-parts a)
 
 -- And the line, with its end.
 pub line-text : (s : List ℕ) (a : RecordAnswer) (t : Told) (l : List ℕ) → Tells a t l →
-    headOf s ++ (wordText (t .word) ++ (spaced (t .figure) ++ (spaced (t .visits) ++ (entriesText (take (2 * t .count) l) ++ bytesIn "\n")))) ≡ lineOf s a
+    headOf s ++ (wordText (t .word) ++ (spaced (t .figure) ++ (spaced (t .visits) ++ (figuresText (take (2 * t .count) l) ++ bytesIn "\n")))) ≡ lineOf s a
 line-text s a t l h =
     let word = wordText (t .word) in
     let figures = spaced (t .figure) in
     let visits = spaced (t .visits) in
-    let places = entriesText (take (2 * t .count) l) in
+    let places = figuresText (take (2 * t .count) l) in
     let end = bytesIn "\n" in
     ap (λ (z : List ℕ). headOf s ++ z)
     (ap (λ (z : List ℕ). word ++ (figures ++ z)) (sym (append-assoc visits places end))

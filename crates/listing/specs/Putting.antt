@@ -5,7 +5,7 @@ use mathlib.Core.List.{List, [], _∷_, _++_}
 use lib.ListN.{length, take, drop}
 use Rattle.chart.specs.declared.Place.{Place}
 use Rattle.search.specs.Answers.{entriesOf}
-use Rattle.text.specs.Texts.{bytesIn, spaced}
+use Rattle.text.specs.Texts.{bytesIn}
 use Rattle.listing.specs.declared.Word.{Word}
 use Rattle.listing.specs.declared.Word.the-variants as word
 use Rattle.listing.specs.declared.Told.{Told}
@@ -28,11 +28,6 @@ pub record Begins (places : List Place) (n : ℕ) (list : List ℕ) : Type 0 whe
   pub count : n ≡ length places
   pub few : n ≤ programRoom
   pub entries : take (2 * n) list ≡ entriesOf places
-
--- The entries of a list, each behind a space.
-unfoldable pub entriesText : List ℕ → List ℕ
-entriesText [] = []
-entriesText (n ∷ ns) = spaced n ++ entriesText ns
 
 -- The word of a line.
 unfoldable pub wordText : Word → List ℕ

@@ -9,11 +9,11 @@ ghost use Rattle.records.specs.declared.JobAnswer.the-variants as job;
 ghost use Rattle.records.specs.Bytes.{byteAt};
 ghost use Rattle.records.specs.LogRecords.{logBytes};
 ghost use Rattle.records.specs.ChainTables.{chainCountOf};
-ghost use Rattle.text.specs.Texts.{spaced};
+ghost use Rattle.text.specs.Texts.{spaced, figuresText};
 ghost use Rattle.text.specs.Puts.{Put};
 ghost use Rattle.listing.specs.Answers.{RecordAnswer, Refused, fixBy, holdOf, answerOf, searched, carriedBy, only, programRoom};
 ghost use Rattle.listing.specs.Listings.{headOf, lineOf, linesOf, noticeOf, listingBy, listingFrom, longestLine, listedIn, bufferWith};
-ghost use Rattle.listing.specs.Putting.{Gives, Begins, Tells, listEntries, wordText, entriesText};
+ghost use Rattle.listing.specs.Putting.{Gives, Begins, Tells, listEntries, wordText};
 use chart::Place;
 use records::ChainCount;
 use records::Job;
@@ -314,7 +314,7 @@ fn put_word(out: &mut [u8], at: usize, w: Word) -> usize
 // The first entries of a list.
 fn put_entries(out: &mut [u8], at: usize, list: &[u32], count: usize) -> usize
     requires { ⌜ (count ≤ length (now list)) × (at + 11 * count + 10 ≤ length (now out)) ⌝ }
-    ensures text { λ r. ⌜ Put (now (out .entry)) at (entriesText (take count (now (list .entry)))) (now (out .exit)) r ⌝ }
+    ensures text { λ r. ⌜ Put (now (out .entry)) at (figuresText (take count (now (list .entry)))) (now (out .exit)) r ⌝ }
     ensures end { λ r. ⌜ r ≤ at + 11 * count ⌝ }
 {
     let mut end = at;

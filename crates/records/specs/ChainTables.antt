@@ -45,6 +45,10 @@ placeAt s at = record { easting = fieldAt 4 s at; northing = fieldAt 4 s (at + 4
 abbrev pub chainAt : List ℕ → ℕ → Chain
 chainAt s at = record { master = placeAt s at; a = placeAt s (at + 8); b = placeAt s (at + 16) }
 
+-- The chain in 24 bytes, sound or not, or 1 where there are not as many.
+unfoldable pub rawChainOf : List ℕ → NamedChain
+rawChainOf s = unless (eqb (length s) chainBytes) (named.Refused 1) (named.Chain (chainAt s 0))
+
 -- The chain of a number: 1 for no table, then 5 for a number that is not in it or a chain that is not sound. No other chain
 -- of the table is looked at.
 unfoldable pub chainOf : List ℕ → ℕ → NamedChain

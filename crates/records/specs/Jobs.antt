@@ -26,6 +26,10 @@ jobIn s =
       allowance = fieldAt 8 s 16;
     }
 
+-- The same, or 1 where there are not as many bytes.
+unfoldable pub rawJobOf : List ℕ → JobAnswer
+rawJobOf s = unless (eqb (length s) jobBytes) (answer.Refused 1) (answer.Job (jobIn s))
+
 -- A job: 1, then 2 for a byte that must be zero and is not, 6 for the window, 7 for the tolerance.
 unfoldable pub jobOf : List ℕ → JobAnswer
 jobOf s =

@@ -9,8 +9,8 @@ ghost use Rattle.metres.specs.Metres.{centimetresOf};
 ghost use Rattle.records.specs.declared.LogEntry.the-variants as entry;
 ghost use Rattle.records.specs.Bytes.{byteAt, numberIn, areZero};
 ghost use Rattle.records.specs.LogRecords.{logBytes, rawRecordOf, isHyperbolic, isGrid, isHold, logRecordOf, isPlace, placed, logEntryOf};
-ghost use Rattle.records.specs.ChainTables.{chainBytes, isTable, oneTo, chainCountOf, placeAt, chainAt, chainOf};
-ghost use Rattle.records.specs.Jobs.{jobBytes, jobOf};
+ghost use Rattle.records.specs.ChainTables.{chainBytes, isTable, oneTo, chainCountOf, placeAt, chainAt, rawChainOf, chainOf};
+ghost use Rattle.records.specs.Jobs.{jobBytes, rawJobOf, jobOf};
 ghost use Rattle.records.specs.Gathered.{IsRaw, pairOf, given};
 use chart::Chain;
 use chart::Place;
@@ -150,6 +150,36 @@ pub fn chain_of(s: &[u8], number: u32) -> NamedChain
         return NamedChain::Refused(5); // not sound
     }
     NamedChain::Chain(chain)
+}
+
+// The chain in 24 bytes, sound or not.
+pub fn raw_chain(s: &[u8]) -> NamedChain
+    ensures { λ r. ⌜ r ≡ rawChainOf (now (s .entry)) ⌝ }
+{
+    if s.len() != CHAIN_BYTES {
+        return NamedChain::Refused(1);
+    }
+    NamedChain::Chain(chain_at(s, 0))
+}
+
+// What stands in the 32 bytes of a job, whatever it is.
+pub fn raw_job(s: &[u8]) -> JobAnswer
+    ensures { λ r. ⌜ r ≡ rawJobOf (now (s .entry)) ⌝ }
+{
+    if s.len() != JOB_BYTES {
+        return JobAnswer::Refused(1);
+    }
+    let window = Window {
+        corner: place_at(s, 0),
+        k: byte(s, 8),
+    };
+    let tolerance = four(s, 12);
+    let allowance = eight(s, 16);
+    JobAnswer::Job(Job {
+        window,
+        tolerance,
+        allowance,
+    })
 }
 
 // The job in 32 bytes.

@@ -2,5 +2,6 @@
 pub mod Digits
 pub mod WholeLaws
 pub mod HexLaws
+pub mod FigureLaws
 pub mod PutLaws
 mod Worked

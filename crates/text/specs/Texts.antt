@@ -25,6 +25,11 @@ digitsOf n = lastDigits (suc n) n
 abbrev pub spaced : ℕ → List ℕ
 spaced n = 32 ∷ digitsOf n
 
+-- Numbers, each behind a space.
+unfoldable pub figuresText : List ℕ → List ℕ
+figuresText [] = []
+figuresText (n ∷ ns) = spaced n ++ figuresText ns
+
 -- A whole number in decimal: one below 0 has a minus sign in front.
 unfoldable pub wholeText : ℤ → List ℕ
 wholeText (pos n) = digitsOf n

@@ -4,23 +4,23 @@ use mathlib.Core.Path.{_≡_, subst}
 use native.Mathlib.Omega.{arith}
 use borrow.Author.Needs.{needs}
 use lib.ListN.{getD, take}
+use Rattle.text.specs.Texts.{figuresText}
 use Rattle.text.specs.Puts.{Put}
 use Rattle.text.proofs.Digits.{digits-32}
 use Rattle.text.proofs.PutLaws.{put-length, put-then, put-none, put-as}
-use Rattle.listing.specs.Putting.{entriesText}
-use Rattle.listing.proofs.LineLaws.{entries-more}
+use Rattle.text.proofs.FigureLaws.{figures-more}
 use Rattle.listing.proofs.put_entries.Statement.{statement}
 use Rattle.listing.proofs.put_entries.Tie as tie
 
 abbrev Inv-loop : tie.InvT-loop
 Inv-loop out₀ at list count end₀ i₀ out end i =
-    Put out₀ at (entriesText (take i list)) out end × (i ≤ count) × (end ≤ at + 11 * i)
+    Put out₀ at (figuresText (take i list)) out end × (i ≤ count) × (end ≤ at + 11 * i)
 
 abbrev μ-loop : tie.MeasureT-loop
 μ-loop out₀ at list count end₀ i₀ out end i = count - i
 
 loop-holds : tie.Need-loop-holds Inv-loop μ-loop
-unfolding entriesText
+unfolding figuresText
 loop-holds c =
     let start = c .before .before in
     (put-none (start .args .out .now) (start .args .at) (omega (arith, start .pre .1)), omega arith, omega arith)
@@ -54,7 +54,7 @@ loop-again c =
     let start = at-loop .before .before .before in
     let l = start .args .list .now in
     let n = getD l (loop .i) 0 in (
-      put-as (entries-more l (loop .i) (omega (arith, start .pre .0))) (put-then (loop .inv .0) (put .put-figure .ensures .0)),
+      put-as (figures-more l (loop .i) (omega (arith, start .pre .0))) (put-then (loop .inv .0) (put .put-figure .ensures .0)),
       omega arith,
       omega (arith, loop .inv .2, put .put-figure .ensures .0 .end-is, digits-32 n (put .before .shared-slice-known2 .given (loop .i) .fits)),
     )
@@ -68,7 +68,7 @@ returns c =
     let start = c .before .before .before .before in
     let a = start .args in
     let all : loop .i ≡ a .count = omega arith in (
-      subst (λ (n : ℕ). Put (a .out .now) (a .at) (entriesText (take n (a .list .now))) (loop .out) (loop .end)) all (loop .inv .0),
+      subst (λ (n : ℕ). Put (a .out .now) (a .at) (figuresText (take n (a .list .now))) (loop .out) (loop .end)) all (loop .inv .0),
       omega (arith, loop .inv .2),
     )
 

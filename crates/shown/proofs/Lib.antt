@@ -1,0 +1,2 @@
+-- What follows from the definitions of what is shown.
+mod ShownLaws

@@ -1,0 +1,85 @@
+-- `shown::readings` meets its contract: the table, the place, then the chain.
+use mathlib.Core.Path.{_≡_, sym, ap, _∙_}
+use borrow.Author.Tests.{not-true, not-false}
+use Rattle.records.specs.declared.ChainCount.{ChainCount}
+use Rattle.records.specs.declared.ChainCount.the-variants.{Chains}
+use Rattle.records.specs.declared.NamedChain.{NamedChain}
+use Rattle.shown.specs.Expected.{byChain, byTable, expectedIn}
+use borrow.Author.Needs.{needs}
+use Rattle.shown.proofs.ShownLaws.{far-away, on-grid}
+use Rattle.shown.proofs.readings.Statement.{statement}
+use Rattle.shown.proofs.readings.Tie as tie
+
+in-range-requires : tie.Need-in-range-requires
+in-range-requires c κs = search needs
+
+chain-count-requires : tie.Need-chain-count-requires
+chain-count-requires c κs = search needs
+
+enum-known-number : tie.Need-enum-known-number
+enum-known-number c = search needs
+
+no-readings-requires : tie.Need-no-readings-requires
+no-readings-requires c κs = search needs
+
+returns : tie.Need-returns
+unfolding byTable
+returns c =
+    let number = c .before .before in
+    let count = number .before .before in
+    let a = count .before .before .before .args in
+    c .no-readings .ensures ∙ ap (λ (n : ChainCount). byTable n (a .table .now) (a .chain) (a .place)) (sym (number .number .given .1) ∙ count .chain-count .ensures)
+
+enum-told : tie.Need-enum-told
+enum-told c = search needs
+
+-- The table was counted.
+by-count : (c : tie.After-enum-told) → let a = c .before .before .before .before .before .args in byTable (Chains (c .enum-told .given .0 .0)) (a .table .now) (a .chain) (a .place) ≡ expectedIn (a .table .now) (a .chain) (a .place)
+by-count c =
+    let a = c .before .before .before .before .before .args in
+    ap (λ (n : ChainCount). byTable n (a .table .now) (a .chain) (a .place)) (sym (c .enum-told .given .1) ∙ c .before .before .chain-count .ensures)
+
+no-readings-requires-2 : tie.Need-no-readings-requires-2
+no-readings-requires-2 c κs = search needs
+
+returns-2 : tie.Need-returns-2
+returns-2 c =
+    let told = c .before .before in
+    let count = told .before .before in
+    let a = count .before .before .before .args in
+    c .no-readings2 .ensures
+    ∙ far-away _ (a .table .now) (a .chain) (a .place) (sym (count .before .in-range .ensures) ∙ not-true _ (c .before .if1 .taken))
+    ∙ by-count told
+
+chain-of-requires : tie.Need-chain-of-requires
+chain-of-requires c κs = search needs
+
+by-chain-requires : tie.Need-by-chain-requires
+by-chain-requires c κs = search needs
+
+returns-3 : tie.Need-returns-3
+returns-3 c =
+    let chain = c .before in
+    let told = chain .before .before in
+    let count = told .before .before in
+    let a = count .before .before .before .args in
+    c .by-chain .ensures
+    ∙ ap (λ (n : NamedChain). byChain n (a .place)) (chain .chain-of .ensures)
+    ∙ on-grid _ (a .table .now) (a .chain) (a .place) (sym (count .before .in-range .ensures) ∙ not-false _ (chain .before .if1 .left))
+    ∙ by-count told
+
+pub readings-spec : {M : Type 1} → statement M
+readings-spec =
+    tie.close
+    (tie.spec
+    in-range-requires
+    chain-count-requires
+    enum-known-number
+    no-readings-requires
+    returns
+    enum-told
+    no-readings-requires-2
+    returns-2
+    chain-of-requires
+    by-chain-requires
+    returns-3)

@@ -1,0 +1,71 @@
+-- The line of a job, of a chain and of a log record (docs/FORMATS.md, Text).
+use Prim.Native.Nat.{ℕ}
+use mathlib.Core.List.{List, [], _∷_, _++_}
+use lib.Dec.{eqb}
+use lib.ListN.{length}
+use Rattle.chart.specs.declared.Chain.{Chain}
+use Rattle.records.specs.declared.Job.{Job}
+use Rattle.records.specs.declared.JobAnswer.{JobAnswer}
+use Rattle.records.specs.declared.JobAnswer.the-variants as job
+use Rattle.records.specs.declared.NamedChain.{NamedChain}
+use Rattle.records.specs.declared.NamedChain.the-variants as named
+use Rattle.records.specs.declared.RawRecord.{RawRecord}
+use Rattle.records.specs.declared.RawAnswer.{RawAnswer}
+use Rattle.records.specs.declared.RawAnswer.the-variants as raw
+use Rattle.records.specs.Bytes.{unless}
+use Rattle.records.specs.LogRecords.{rawRecordOf, logEntryOf}
+use Rattle.records.specs.ChainTables.{chainBytes, rawChainOf, chainOf}
+use Rattle.records.specs.Jobs.{rawJobOf, jobOf}
+use Rattle.records.specs.Refusals.{entryRefusal, chainRefusal, jobRefusal}
+use Rattle.text.specs.Texts.{figuresText, bytesIn}
+use Rattle.shown.specs.Fields.{centimetresText, refusedText}
+
+-- A line: a word, the record's fields, why it is refused, if it is, and the newline.
+abbrev pub lineWith : List ℕ → List ℕ → ℕ → List ℕ → List ℕ
+lineWith word fields number s = word ++ (fields ++ (refusedText number s ++ bytesIn "\n"))
+
+-- The job. Here and below, bytes that are not as many have no fields.
+abbrev pub jobFigures : Job → List ℕ
+jobFigures j = j .window .corner .easting ∷ j .window .corner .northing ∷ j .window .k ∷ j .tolerance ∷ j .allowance ∷ []
+
+unfoldable pub jobFields : JobAnswer → List ℕ
+jobFields (job.Job j) = figuresText (jobFigures j)
+jobFields (job.Refused number) = []
+
+abbrev pub jobText : List ℕ → List ℕ
+jobText s = jobFields (rawJobOf s)
+
+unfoldable pub jobLine : List ℕ → List ℕ
+jobLine s = lineWith (bytesIn "JOB") (jobText s) (jobRefusal (jobOf s)) s
+
+-- A chain, by its number in the table. Bytes that are not as many are no chain, whatever table they are.
+abbrev pub stationFigures : Chain → List ℕ
+stationFigures c =
+    c .master .easting ∷ c .master .northing ∷ c .a .easting ∷ c .a .northing ∷ c .b .easting ∷ c .b .northing ∷ []
+
+unfoldable pub chainFields : ℕ → NamedChain → List ℕ
+chainFields number (named.Chain c) = figuresText (number ∷ stationFigures c)
+chainFields number (named.Refused refusal) = []
+
+abbrev pub chainText : ℕ → List ℕ → List ℕ
+chainText number s = chainFields number (rawChainOf s)
+
+abbrev pub refusalIn : List ℕ → ℕ
+refusalIn s = unless (eqb (length s) chainBytes) 1 (chainRefusal (chainOf s 1))
+
+unfoldable pub chainLine : ℕ → List ℕ → List ℕ
+chainLine number s = lineWith (bytesIn "CHAIN") (chainText number s) (refusalIn s) s
+
+-- A log record, its numbers in centimetres.
+abbrev pub rawText : RawRecord → List ℕ
+rawText r = figuresText (r .kind ∷ r .chain ∷ r .line ∷ []) ++ (centimetresText (r .first) ++ centimetresText (r .second))
+
+unfoldable pub rawFields : RawAnswer → List ℕ
+rawFields (raw.Record r) = rawText r
+rawFields (raw.Refused number) = []
+
+abbrev pub recordText : List ℕ → List ℕ
+recordText s = rawFields (rawRecordOf s)
+
+unfoldable pub recordLine : List ℕ → List ℕ
+recordLine s = lineWith (bytesIn "LOG") (recordText s) (entryRefusal (logEntryOf s)) s

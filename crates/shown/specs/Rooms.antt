@@ -1,0 +1,40 @@
+-- What is answered of a text that is put at the start of a buffer, and what the buffer then holds.
+use Prim.Native.Nat.{ℕ, _+_, _*_, _≤_}
+use mathlib.Core.Bool.{Bool, cond}
+use mathlib.Core.List.{List, _++_}
+use lib.Dec.{leb, eqb}
+use lib.ListN.{length, drop}
+use Rattle.chart.specs.declared.Figures.{Figures}
+use Rattle.text.specs.Puts.{Put}
+use Rattle.shown.specs.declared.Line.{Line}
+use Rattle.shown.specs.declared.Line.the-variants as line
+use Rattle.shown.specs.Expected.{expectedText}
+
+-- Some text, or the number of a refusal.
+pub data Reply : Type 0 where
+  Says : List ℕ → Reply
+  Refuses : ℕ → Reply
+
+-- The text as it is answered: its length. Behind it the buffer is as it was; so is all of it on a refusal.
+unfoldable pub lineFor : Reply → Line
+lineFor (Says text) = line.Text (length text)
+lineFor (Refuses number) = line.Refused number
+
+unfoldable pub bufferFor : List ℕ → Reply → List ℕ
+bufferFor out (Says text) = text ++ drop (length text) out
+bufferFor out (Refuses number) = out
+
+-- Room for any line of so many bytes, with those in hexadecimal; without it, 9.
+abbrev pub hasRoom : ℕ → ℕ → Bool
+hasRoom bytes count = leb (192 + 2 * count) bytes
+
+abbrev pub inRoom : ℕ → ℕ → Reply → Reply
+inRoom bytes count reply = cond (hasRoom bytes count) reply (Refuses 9)
+
+-- The readings as text, or why there are none.
+unfoldable pub replyOf : Figures → Reply
+replyOf f = cond (eqb (f .refusal) 0) (Says (expectedText (f .a) (f .b))) (Refuses (f .refusal))
+
+-- What the code's private functions promise each other: a text is put if there is room for it.
+abbrev pub Puts : List ℕ → ℕ → List ℕ → List ℕ → ℕ → Type 0
+Puts before at text now end = at + length text ≤ length before → Put before at text now end

@@ -1,0 +1,349 @@
+// What the files hold, a line of text a record, and the readings expected at a place.
+ghost use mathlib.Core.Path.{_≡_};
+ghost use mathlib.Core.List.{_++_};
+ghost use Prim.Native.Nat.{_+_, _*_, _≤_};
+ghost use lib.ListN.{length};
+ghost use Rattle.records.specs.LogRecords.{logEntryOf};
+ghost use Rattle.records.specs.Refusals.{entryRefusal, jobRefusal};
+ghost use Rattle.records.specs.Jobs.{jobOf};
+ghost use Rattle.writing.specs.Writing.{metresBytes};
+ghost use Rattle.text.specs.Texts.{figuresText, hexOf, bytesIn};
+ghost use Rattle.shown.specs.Fields.{centimetresText, decimalText, metresText, hexText, refusedText};
+ghost use Rattle.shown.specs.Lines.{jobText, jobLine, chainText, refusalIn, chainLine, rawText, recordText, recordLine};
+ghost use Rattle.shown.specs.Expected.{noReadings, byChain, expectedIn, writtenText, slaveLine};
+ghost use Rattle.shown.specs.Rooms.{Says, lineFor, bufferFor, hasRoom, inRoom, replyOf, Puts};
+use chart::Figures;
+use chart::Place;
+use metres::Whole;
+use records::ChainCount;
+use records::JobAnswer;
+use records::LogEntry;
+use records::NamedChain;
+use records::RawAnswer;
+use records::RawRecord;
+
+// How many bytes of text there are, or the number of a refusal.
+pub enum Line {
+    Text(usize),
+    Refused(u32),
+}
+
+const CHAIN_BYTES: usize = 24;
+
+// The room for the longest line, beside its bytes in hexadecimal.
+const LINE_ROOM: usize = 192;
+
+const MOST_CENTIMETRES: u64 = 1_000_000_000;
+
+// Puts the line of a job at the start of a buffer. Here and below, a buffer that has not room for 192 bytes and two for each
+// that is shown is refused with 9.
+pub fn job(out: &mut [u8], s: &[u8]) -> Line
+    ensures answer { λ r. ⌜ r ≡ lineFor (inRoom (length (now (out .entry))) (length (now (s .entry))) (Says (jobLine (now (s .entry))))) ⌝ }
+    ensures out { λ _. ⌜ now (out .exit) ≡ bufferFor (now (out .entry)) (inRoom (length (now (out .entry))) (length (now (s .entry))) (Says (jobLine (now (s .entry))))) ⌝ }
+{
+    if !has_room(out.len(), s.len()) {
+        return Line::Refused(9);
+    }
+    let number = job_refusal(s);
+    let a = text::put(out, 0, b"JOB");
+    let b = put_job(out, a, s);
+    Line::Text(put_end(out, b, number, s))
+}
+
+// The line of a chain, by its number in a table, from its 24 bytes.
+pub fn chain(out: &mut [u8], number: u32, s: &[u8]) -> Line
+    ensures answer { λ r. ⌜ r ≡ lineFor (inRoom (length (now (out .entry))) (length (now (s .entry))) (Says (chainLine number (now (s .entry))))) ⌝ }
+    ensures out { λ _. ⌜ now (out .exit) ≡ bufferFor (now (out .entry)) (inRoom (length (now (out .entry))) (length (now (s .entry))) (Says (chainLine number (now (s .entry))))) ⌝ }
+{
+    if !has_room(out.len(), s.len()) {
+        return Line::Refused(9);
+    }
+    let refusal = chain_refusal(s);
+    let a = text::put(out, 0, b"CHAIN");
+    let b = put_chain(out, a, number, s);
+    Line::Text(put_end(out, b, refusal, s))
+}
+
+// The line of a log record.
+pub fn record(out: &mut [u8], s: &[u8]) -> Line
+    ensures answer { λ r. ⌜ r ≡ lineFor (inRoom (length (now (out .entry))) (length (now (s .entry))) (Says (recordLine (now (s .entry))))) ⌝ }
+    ensures out { λ _. ⌜ now (out .exit) ≡ bufferFor (now (out .entry)) (inRoom (length (now (out .entry))) (length (now (s .entry))) (Says (recordLine (now (s .entry))))) ⌝ }
+{
+    if !has_room(out.len(), s.len()) {
+        return Line::Refused(9);
+    }
+    let number = entry_refusal(s);
+    let a = text::put(out, 0, b"LOG");
+    let b = put_record(out, a, s);
+    Line::Text(put_end(out, b, number, s))
+}
+
+// The readings expected at a place for the chain of a number in a table: a line for each slave.
+pub fn expected(out: &mut [u8], table: &[u8], chain: u32, place: Place) -> Line
+    ensures answer { λ r. ⌜ r ≡ lineFor (inRoom (length (now (out .entry))) 0 (replyOf (expectedIn (now (table .entry)) chain place))) ⌝ }
+    ensures out { λ _. ⌜ now (out .exit) ≡ bufferFor (now (out .entry)) (inRoom (length (now (out .entry))) 0 (replyOf (expectedIn (now (table .entry)) chain place))) ⌝ }
+{
+    if !has_room(out.len(), 0) {
+        return Line::Refused(9);
+    }
+    let f = readings(table, chain, place);
+    if f.refusal != 0 {
+        return Line::Refused(f.refusal);
+    }
+    let a = put_slave(out, 0, b"A", f.a);
+    Line::Text(put_slave(out, a, b"B", f.b))
+}
+
+fn has_room(bytes: usize, count: usize) -> bool
+    ensures { λ r. ⌜ r ≡ hasRoom bytes count ⌝ }
+{
+    if bytes < LINE_ROOM {
+        return false;
+    }
+    count <= (bytes - LINE_ROOM) / 2
+}
+
+fn job_refusal(s: &[u8]) -> u32
+    ensures { λ r. ⌜ r ≡ jobRefusal (jobOf (now (s .entry))) ⌝ }
+{
+    match records::job_of(s) {
+        JobAnswer::Job(_) => 0,
+        JobAnswer::Refused(number) => number,
+    }
+}
+
+fn chain_refusal(s: &[u8]) -> u32
+    ensures { λ r. ⌜ r ≡ refusalIn (now (s .entry)) ⌝ }
+{
+    if s.len() != CHAIN_BYTES {
+        return 1;
+    }
+    match records::chain_of(s, 1) {
+        NamedChain::Chain(_) => 0,
+        NamedChain::Refused(number) => number,
+    }
+}
+
+fn entry_refusal(s: &[u8]) -> u32
+    ensures { λ r. ⌜ r ≡ entryRefusal (logEntryOf (now (s .entry))) ⌝ }
+{
+    match records::log_entry(s) {
+        LogEntry::Readings { a: _, b: _ } => 0,
+        LogEntry::Place(_) => 0,
+        LogEntry::Hold => 0,
+        LogEntry::Refused(number) => number,
+    }
+}
+
+// The readings, or why there are none: first the table, then the place, then the chain.
+fn readings(table: &[u8], chain: u32, place: Place) -> Figures
+    ensures { λ r. ⌜ r ≡ expectedIn (now (table .entry)) chain place ⌝ }
+{
+    let inside = chart::in_range(place);
+    if let ChainCount::Refused(number) = records::chain_count(table) {
+        return no_readings(number);
+    }
+    if !inside {
+        return no_readings(4);
+    }
+    by_chain(records::chain_of(table, chain), place)
+}
+
+fn by_chain(chain: NamedChain, place: Place) -> Figures
+    ensures { λ r. ⌜ r ≡ byChain chain place ⌝ }
+{
+    match chain {
+        NamedChain::Chain(c) => chart::as_figures(chart::readings(c, place)),
+        NamedChain::Refused(number) => no_readings(number),
+    }
+}
+
+fn no_readings(refusal: u32) -> Figures
+    ensures { λ r. ⌜ r ≡ noReadings refusal ⌝ }
+{
+    Figures {
+        refusal,
+        a: 0,
+        b: 0,
+    }
+}
+
+fn put_job(out: &mut [u8], at: usize, s: &[u8]) -> usize
+    ensures text { λ r. ⌜ Puts (now (out .entry)) at (jobText (now (s .entry))) (now (out .exit)) r ⌝ }
+    ensures few { λ _. ⌜ length (jobText (now (s .entry))) ≤ 105 ⌝ }
+{
+    match records::raw_job(s) {
+        JobAnswer::Job(j) => put_figures(
+            out,
+            at,
+            &[
+                j.window.corner.easting as u64,
+                j.window.corner.northing as u64,
+                j.window.k as u64,
+                j.tolerance as u64,
+                j.allowance,
+            ],
+        ),
+        JobAnswer::Refused(_) => at,
+    }
+}
+
+fn put_chain(out: &mut [u8], at: usize, number: u32, s: &[u8]) -> usize
+    ensures text { λ r. ⌜ Puts (now (out .entry)) at (chainText number (now (s .entry))) (now (out .exit)) r ⌝ }
+    ensures few { λ _. ⌜ length (chainText number (now (s .entry))) ≤ 147 ⌝ }
+{
+    match records::raw_chain(s) {
+        NamedChain::Chain(c) => put_figures(
+            out,
+            at,
+            &[
+                number as u64,
+                c.master.easting as u64,
+                c.master.northing as u64,
+                c.a.easting as u64,
+                c.a.northing as u64,
+                c.b.easting as u64,
+                c.b.northing as u64,
+            ],
+        ),
+        NamedChain::Refused(_) => at,
+    }
+}
+
+fn put_record(out: &mut [u8], at: usize, s: &[u8]) -> usize
+    ensures text { λ r. ⌜ Puts (now (out .entry)) at (recordText (now (s .entry))) (now (out .exit)) r ⌝ }
+    ensures few { λ _. ⌜ length (recordText (now (s .entry))) ≤ 105 ⌝ }
+{
+    match records::raw_record(s) {
+        RawAnswer::Record(r) => put_raw(out, at, r),
+        RawAnswer::Refused(_) => at,
+    }
+}
+
+fn put_raw(out: &mut [u8], at: usize, r: RawRecord) -> usize
+    ensures text { λ e. ⌜ Puts (now (out .entry)) at (rawText r) (now (out .exit)) e ⌝ }
+    ensures few { λ _. ⌜ length (rawText r) ≤ 105 ⌝ }
+{
+    let first = r.first;
+    let second = r.second;
+    let a = put_figures(out, at, &[r.kind as u64, r.chain as u64, r.line as u64]);
+    let b = put_centimetres(out, a, first);
+    put_centimetres(out, b, second)
+}
+
+// A number of metres in centimetres, or a dash.
+fn put_centimetres(out: &mut [u8], at: usize, x: f64) -> usize
+    ensures text { λ r. ⌜ Puts (now (out .entry)) at (centimetresText x) (now (out .exit)) r ⌝ }
+    ensures few { λ _. ⌜ length (centimetresText x) ≤ 21 ⌝ }
+{
+    let a = text::put(out, at, b" ");
+    match metres::centimetres(x) {
+        Whole::Centimetres(z) => text::put_whole(out, a, z),
+        Whole::Refused => text::put(out, a, b"-"),
+    }
+}
+
+// Numbers, each behind a space. Here and below, a text is put where there is room for it.
+fn put_figures(out: &mut [u8], at: usize, ns: &[u64]) -> usize
+    ensures text { λ r. ⌜ Puts (now (out .entry)) at (figuresText (now (ns .entry))) (now (out .exit)) r ⌝ }
+    ensures few { λ _. ⌜ length (figuresText (now (ns .entry))) ≤ 21 * length (now (ns .entry)) ⌝ }
+{
+    let mut end = at;
+    let mut i = 0;
+    while i < ns.len() {
+        let a = text::put(out, end, b" ");
+        end = text::put_number(out, a, ns[i]);
+        i += 1;
+    }
+    end
+}
+
+// Why a record is refused, if it is, and the newline.
+fn put_end(out: &mut [u8], at: usize, number: u32, s: &[u8]) -> usize
+    ensures text { λ r. ⌜ Puts (now (out .entry)) at (refusedText number (now (s .entry)) ++ bytesIn "\n") (now (out .exit)) r ⌝ }
+    ensures few { λ _. ⌜ length (refusedText number (now (s .entry)) ++ bytesIn "\n") ≤ 31 + 2 * length (now (s .entry)) ⌝ }
+{
+    let a = put_refused(out, at, number, s);
+    text::put(out, a, b"\n")
+}
+
+fn put_refused(out: &mut [u8], at: usize, number: u32, s: &[u8]) -> usize
+    ensures text { λ r. ⌜ Puts (now (out .entry)) at (refusedText number (now (s .entry))) (now (out .exit)) r ⌝ }
+    ensures few { λ _. ⌜ length (refusedText number (now (s .entry))) ≤ 30 + 2 * length (now (s .entry)) ⌝ }
+{
+    if number == 0 {
+        return at;
+    }
+    let a = text::put(out, at, b" REFUSED");
+    let b = put_figures(out, a, &[number as u64]);
+    put_hex(out, b, s)
+}
+
+fn put_hex(out: &mut [u8], at: usize, s: &[u8]) -> usize
+    ensures text { λ r. ⌜ Puts (now (out .entry)) at (hexText (now (s .entry))) (now (out .exit)) r ⌝ }
+    ensures few { λ _. ⌜ length (hexText (now (s .entry))) ≤ 1 + 2 * length (now (s .entry)) ⌝ }
+{
+    if s.len() == 0 {
+        return at;
+    }
+    let a = text::put(out, at, b" ");
+    text::put_bytes(out, a, s)
+}
+
+// The line of a slave.
+fn put_slave(out: &mut [u8], at: usize, name: &[u8], z: i64) -> usize
+    ensures text { λ r. ⌜ Puts (now (out .entry)) at (slaveLine (now (name .entry)) z) (now (out .exit)) r ⌝ }
+    ensures few { λ _. ⌜ length (slaveLine (now (name .entry)) z) ≤ 95 + length (now (name .entry)) ⌝ }
+{
+    let a = text::put(out, at, name);
+    let b = text::put(out, a, b" ");
+    let c = text::put_whole(out, b, z);
+    let d = put_written(out, c, z);
+    text::put(out, d, b"\n")
+}
+
+// A reading in metres, and in the bytes of a log record.
+fn put_written(out: &mut [u8], at: usize, z: i64) -> usize
+    ensures text { λ r. ⌜ Puts (now (out .entry)) at (writtenText z) (now (out .exit)) r ⌝ }
+    ensures few { λ _. ⌜ length (writtenText z) ≤ 73 ⌝ }
+{
+    if metres::size(z) > MOST_CENTIMETRES {
+        return text::put(out, at, b" REFUSED 3");
+    }
+    let a = text::put(out, at, b" ");
+    let b = put_metres(out, a, z);
+    let c = text::put(out, b, b" ");
+    put_number_bytes(out, c, z)
+}
+
+// Centimetres as metres with two decimals.
+fn put_metres(out: &mut [u8], at: usize, z: i64) -> usize
+    ensures text { λ r. ⌜ Puts (now (out .entry)) at (metresText z) (now (out .exit)) r ⌝ }
+    ensures few { λ _. ⌜ length (metresText z) ≤ 24 ⌝ }
+{
+    if z < 0 {
+        let a = text::put(out, at, b"-");
+        return put_decimal(out, a, metres::size(z));
+    }
+    put_decimal(out, at, metres::size(z))
+}
+
+fn put_decimal(out: &mut [u8], at: usize, n: u64) -> usize
+    ensures text { λ r. ⌜ Puts (now (out .entry)) at (decimalText n) (now (out .exit)) r ⌝ }
+    ensures few { λ _. ⌜ length (decimalText n) ≤ 23 ⌝ }
+{
+    let a = text::put_number(out, at, n / 100);
+    let b = text::put(out, a, b".");
+    text::put(out, b, &[48 + (n / 10 % 10) as u8, 48 + (n % 10) as u8])
+}
+
+// The bytes of a number in metres, in hexadecimal.
+fn put_number_bytes(out: &mut [u8], at: usize, z: i64) -> usize
+    ensures text { λ r. ⌜ Puts (now (out .entry)) at (hexOf (metresBytes z)) (now (out .exit)) r ⌝ }
+    ensures few { λ _. ⌜ length (hexOf (metresBytes z)) ≤ 16 ⌝ }
+{
+    let mut bytes = [0u8; 8];
+    let f = metres::length_figures(metres::metres(z));
+    metres::put_number(&mut bytes, 0, f.metres);
+    text::put_bytes(out, at, &bytes)
+}
