@@ -89,15 +89,33 @@ pub fn print(text: &[u8]) -> bool
 }
 
 // The arguments of the program, with single spaces between them, as one line: none of them may be empty or have a blank in it.
-// Where the first is `--help`, the text of the help is printed instead.
+// Where the first is `--help`, the text of the help is printed instead. A program calls this before it opens a file.
 pub fn arguments(line: &mut [u8], help: &[u8]) -> Words
     ensures { λ r. ⌜ lineOf r ≤ length (now (line .exit)) ⌝ }
 {
+    take_standard();
     if asks_help() {
         print(help);
         return Words::Helped;
     }
     joined(line, os::arg_count())
+}
+
+// A program may be started with standard input, output or error closed. A file that it opens would get that number, and what is
+// told or printed would go into the file: so the three numbers are taken first.
+fn take_standard() {
+    if takes_one() && takes_one() {
+        takes_one();
+    }
+}
+
+fn takes_one() -> bool {
+    let file = os::open_read(b"/dev/null");
+    if file <= 2 {
+        return file >= 0;
+    }
+    libc::close(file);
+    false
 }
 
 fn asks_help() -> bool {
