@@ -1,4 +1,4 @@
-# How a program for x86-64 runs on this machine. The tests and `list` both take it from here.
+# How a program for x86-64 runs on this machine. The tests and bin/ take it from here.
 repository=$(CDPATH= cd "$(dirname "${BASH_SOURCE[0]}")/.." && pwd -P)
 
 # Programs of target/bin run under the toolchain's own loader and C library, which `rt doc` leads to, and where the machine is
@@ -9,5 +9,5 @@ emulator=()
 [ ! -x "$toolchain/bin/qemu-x86_64" ] || emulator=("$toolchain/bin/qemu-x86_64")
 loader=("${emulator[@]}" "$toolchain/lib/ld-linux-x86-64.so.2" --library-path "$toolchain/lib")
 
-# program NAME: runs it in the folder where the caller stands
-program() { "${loader[@]}" "$repository/target/bin/$1"; }
+# program NAME ARGUMENTS...: runs it in the folder where the caller stands
+program() { "${loader[@]}" "$repository/target/bin/$1" "${@:2}"; }

@@ -1,2 +1,2 @@
--- What the program's functions promise of the counts that they answer.
+-- What the program's functions promise of the count that they answer.
 pub mod Bounds

@@ -2,24 +2,12 @@
 // A file that is missing counts as empty. What fails is told on standard error, and nothing is listed after it.
 ghost use Prim.Native.Nat.{_≤_, _<_};
 ghost use lib.ListN.{length};
-ghost use Rattle.laylist.specs.Bounds.{bytesOf, endOf};
+ghost use Rattle.laylist.specs.Bounds.{endOf};
+use files::Filled;
+use files::Opened;
 use libc::STDERR_FILENO;
-use libc::STDOUT_FILENO;
 use listing::Carried;
 use listing::Listed;
-
-// A file to read. Why opening it failed has been told.
-enum Opened {
-    File(i32),
-    Missing,
-    Failed,
-}
-
-// How many bytes of a buffer were filled from a file. Why that failed has been told.
-enum Filled {
-    Bytes(usize),
-    Failed,
-}
 
 // Where the text that waits in a buffer ends, and the place carried on. Why the listing stopped has been told.
 enum Standing {
@@ -46,57 +34,13 @@ fn main() {
     // A job has 32 bytes and a table at most 384: with one more, a file too long is seen to be so.
     let mut job = [0u8; 33];
     let mut table = [0u8; 385];
-    let Filled::Bytes(j) = read_file(b"job.dat", &mut job) else {
+    let Filled::Bytes(j) = files::start(b"job.dat", &mut job) else {
         return;
     };
-    let Filled::Bytes(t) = read_file(b"chain.dat", &mut table) else {
+    let Filled::Bytes(t) = files::start(b"chain.dat", &mut table) else {
         return;
     };
     list_by(&job[0..j], &table[0..t]);
-}
-
-// The start of a file, as much as the buffer takes.
-fn read_file(name: &[u8], buffer: &mut [u8]) -> Filled
-    ensures { λ r. ⌜ bytesOf r ≤ length (now (buffer .exit)) ⌝ }
-{
-    match open(name) {
-        Opened::File(file) => fill(name, file, buffer),
-        Opened::Missing => Filled::Bytes(0),
-        Opened::Failed => Filled::Failed,
-    }
-}
-
-// What is opened stays open until the program ends.
-fn open(name: &[u8]) -> Opened {
-    let file = os::open_read(name);
-    if file >= 0 {
-        return Opened::File(file);
-    }
-    if os::errno() == libc::ENOENT {
-        return Opened::Missing;
-    }
-    os::fail(name);
-    Opened::Failed
-}
-
-// Fills a buffer from a file, wholly unless the file ends.
-fn fill(name: &[u8], file: i32, buffer: &mut [u8]) -> Filled
-    ensures { λ r. ⌜ bytesOf r ≤ length (now (buffer .exit)) ⌝ }
-{
-    let mut done = 0;
-    while done < buffer.len() {
-        let got = libc::read(file, &mut buffer[done..]);
-        if got < 0 {
-            os::fail(name);
-            return Filled::Failed;
-        }
-        let more = io::count(got, &buffer[done..]);
-        if more == 0 {
-            return Filled::Bytes(done);
-        }
-        done += more;
-    }
-    Filled::Bytes(done)
 }
 
 fn list_by(job: &[u8], table: &[u8]) {
@@ -115,14 +59,14 @@ fn accepted(out: &mut [u8], job: &[u8], table: &[u8]) -> bool {
     if end == 0 {
         return true;
     }
-    print(&out[0..end]);
+    files::print(&out[0..end]);
     false
 }
 
 // The lines of the log, stretch by stretch. Every turn but the last takes 65,536 bytes of it, and no log has 2^64 times as
 // many: it ends before the turns do.
 fn list_log(out: &mut [u8], job: &[u8], table: &[u8]) {
-    let Opened::File(log) = open(b"lay.dat") else {
+    let Opened::File(log) = files::open(b"lay.dat") else {
         return;
     };
     let mut carried = Carried::Nothing;
@@ -139,13 +83,13 @@ fn list_log(out: &mut [u8], job: &[u8], table: &[u8]) {
 // Reads a stretch of the log, lists it, and writes all its lines out before the next is read, which may fail.
 fn list_stretch(out: &mut [u8], job: &[u8], table: &[u8], log: i32, before: Carried) -> Next {
     let mut stretch = io::large_buffer();
-    let Filled::Bytes(n) = fill(b"lay.dat", log, &mut stretch) else {
+    let Filled::Bytes(n) = files::fill(b"lay.dat", log, &mut stretch) else {
         return Next::End;
     };
     let Standing::At { end, carried } = list_parts(out, job, table, &stretch[0..n], before) else {
         return Next::End;
     };
-    if !print(&out[0..end]) {
+    if !files::print(&out[0..end]) {
         return Next::End;
     }
     if n < stretch.len() {
@@ -218,17 +162,8 @@ fn passed_on(out: &[u8], end: usize, carried: Carried) -> Standing
     if end < MUCH_TEXT {
         return Standing::At { end, carried };
     }
-    if !print(&out[0..end]) {
+    if !files::print(&out[0..end]) {
         return Standing::Stopped;
     }
     Standing::At { end: 0, carried }
-}
-
-// Whether all of a text was written.
-fn print(text: &[u8]) -> bool {
-    if io::write_all(STDOUT_FILENO, text) {
-        return true;
-    }
-    os::fail(b"standard output");
-    false
 }

@@ -2,7 +2,8 @@
 use mathlib.Core.Path.{ap}
 use native.Mathlib.Omega.{arith}
 use borrow.Author.Needs.{needs}
-use Rattle.laylist.specs.Bounds.{bytesOf, endOf}
+use Rattle.files.specs.Answers.{bytesOf}
+use Rattle.laylist.specs.Bounds.{endOf}
 use Rattle.laylist.proofs.list_stretch.Statement.{statement}
 use Rattle.laylist.proofs.list_stretch.Tie as tie
 

@@ -2,18 +2,18 @@
 use mathlib.Core.Path.{ap}
 use native.Mathlib.Omega.{arith}
 use borrow.Author.Needs.{needs}
-use Rattle.laylist.specs.Bounds.{bytesOf}
+use Rattle.files.specs.Answers.{bytesOf}
 use Rattle.laylist.proofs.main.Statement.{statement}
 use Rattle.laylist.proofs.main.Tie as tie
 
-slice-aggregate-read-file : tie.Need-slice-aggregate-read-file
-slice-aggregate-read-file c = search needs
+slice-aggregate-start : tie.Need-slice-aggregate-start
+slice-aggregate-start c = search needs
 
-slice-aggregate-read-file-2 : tie.Need-slice-aggregate-read-file-2
-slice-aggregate-read-file-2 c = search needs
+slice-aggregate-start-2 : tie.Need-slice-aggregate-start-2
+slice-aggregate-start-2 c = search needs
 
-read-file-requires : tie.Need-read-file-requires
-read-file-requires c κs = search needs
+start-requires : tie.Need-start-requires
+start-requires c κs = search needs
 
 enum-known-j : tie.Need-enum-known-j
 enum-known-j c = search needs
@@ -24,14 +24,14 @@ enum-told c = search needs
 returns : tie.Need-returns
 returns c = search needs
 
-slice-aggregate-read-file-3 : tie.Need-slice-aggregate-read-file-3
-slice-aggregate-read-file-3 c = search needs
+slice-aggregate-start-3 : tie.Need-slice-aggregate-start-3
+slice-aggregate-start-3 c = search needs
 
-slice-aggregate-read-file-4 : tie.Need-slice-aggregate-read-file-4
-slice-aggregate-read-file-4 c = search needs
+slice-aggregate-start-4 : tie.Need-slice-aggregate-start-4
+slice-aggregate-start-4 c = search needs
 
-read-file-requires-2 : tie.Need-read-file-requires-2
-read-file-requires-2 c κs = search needs
+start-requires-2 : tie.Need-start-requires-2
+start-requires-2 c κs = search needs
 
 enum-known-t : tie.Need-enum-known-t
 enum-known-t c = search needs
@@ -70,15 +70,15 @@ pub main-spec : {M : Type 1} → statement M
 main-spec =
     tie.close
     (tie.spec
-    slice-aggregate-read-file
-    slice-aggregate-read-file-2
-    read-file-requires
+    slice-aggregate-start
+    slice-aggregate-start-2
+    start-requires
     enum-known-j
     enum-told
     returns
-    slice-aggregate-read-file-3
-    slice-aggregate-read-file-4
-    read-file-requires-2
+    slice-aggregate-start-3
+    slice-aggregate-start-4
+    start-requires-2
     enum-known-t
     enum-told-2
     returns-2

@@ -1,10 +1,10 @@
--- `laylist::fill` keeps its count within the buffer and ends: a read of no bytes ends it, and any other leaves fewer to read.
+-- `files::fill` keeps its count within the buffer and ends: a read of no bytes ends it, and any other leaves fewer to read.
 use Prim.Native.Nat.{_-_, _≤_}
 use borrow.Author.Needs.{needs}
 use lib.ListN.{length}
 use mathlib.Core.Path.{_≡_}
-use Rattle.laylist.proofs.fill.Statement.{statement}
-use Rattle.laylist.proofs.fill.Tie as tie
+use Rattle.files.proofs.fill.Statement.{statement}
+use Rattle.files.proofs.fill.Tie as tie
 
 abbrev Inv-loop : tie.InvT-loop
 Inv-loop name file buffer₀ done₀ buffer done = (done ≤ length buffer) × (length buffer ≡ length buffer₀)
@@ -70,4 +70,27 @@ returns-3 : tie.Need-returns-3 Inv-loop μ-loop
 returns-3 c = search needs
 
 pub fill-spec : {M : Type 1} → statement M
-fill-spec = tie.close (tie.spec Inv-loop μ-loop loop-holds sub-read part-read-start part-read-end read-requires fail-requires same-length returns sub-count part-count-start part-count-end count-requires same-length-2 returns-2 add-done loop-less loop-again same-length-3 returns-3)
+fill-spec =
+    tie.close
+    (tie.spec
+    Inv-loop
+    μ-loop
+    loop-holds
+    sub-read
+    part-read-start
+    part-read-end
+    read-requires
+    fail-requires
+    same-length
+    returns
+    sub-count
+    part-count-start
+    part-count-end
+    count-requires
+    same-length-2
+    returns-2
+    add-done
+    loop-less
+    loop-again
+    same-length-3
+    returns-3)

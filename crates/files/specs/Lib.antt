@@ -1,0 +1,2 @@
+-- What the functions promise of their answers.
+pub mod Answers

@@ -1,0 +1,289 @@
+// What the programs share of the outside: files by name, the arguments, standard output, and what is told on standard error.
+// No contract can say what is read or written; each says what it can of the answer, as far as a caller goes by it.
+ghost use mathlib.Core.Bool.{true, false};
+ghost use mathlib.Core.Path.{_≡_};
+ghost use Prim.Native.Nat.{_≤_};
+ghost use lib.ListN.{length};
+ghost use Rattle.files.specs.Answers.{IsOpen, bytesOf, lineOf};
+use libc::STDERR_FILENO;
+use libc::STDOUT_FILENO;
+
+// A file to read. Why opening it failed has been told.
+pub enum Opened {
+    File(i32),
+    Missing,
+    Failed,
+}
+
+// How many bytes of a buffer were filled from a file. Why that failed has been told.
+pub enum Filled {
+    Bytes(usize),
+    Failed,
+}
+
+// The arguments as one line of a buffer, or that they are no words. Where help was asked for, it has been printed.
+pub enum Words {
+    Line(usize),
+    Unfit,
+    Helped,
+}
+
+// Opens a file to read. It stays open until the program ends.
+pub fn open(name: &[u8]) -> Opened
+    ensures { λ r. ⌜ IsOpen r ⌝ }
+{
+    let file = os::open_read(name);
+    if file >= 0 {
+        return Opened::File(file);
+    }
+    if os::errno() == libc::ENOENT {
+        return Opened::Missing;
+    }
+    os::fail(name);
+    Opened::Failed
+}
+
+// Fills a buffer from a file, wholly unless the file ends.
+pub fn fill(name: &[u8], file: i32, buffer: &mut [u8]) -> Filled
+    ensures { λ r. ⌜ bytesOf r ≤ length (now (buffer .exit)) ⌝ }
+{
+    let mut done = 0;
+    while done < buffer.len() {
+        let got = libc::read(file, &mut buffer[done..]);
+        if got < 0 {
+            os::fail(name);
+            return Filled::Failed;
+        }
+        let more = io::count(got, &buffer[done..]);
+        if more == 0 {
+            return Filled::Bytes(done);
+        }
+        done += more;
+    }
+    Filled::Bytes(done)
+}
+
+// The start of a file, as much as the buffer takes. A file that is missing counts as empty.
+pub fn start(name: &[u8], buffer: &mut [u8]) -> Filled
+    ensures { λ r. ⌜ bytesOf r ≤ length (now (buffer .exit)) ⌝ }
+{
+    match open(name) {
+        Opened::File(file) => fill(name, file, buffer),
+        Opened::Missing => Filled::Bytes(0),
+        Opened::Failed => Filled::Failed,
+    }
+}
+
+// Whether all of a text was written to standard output. Why it was not has been told.
+pub fn print(text: &[u8]) -> bool
+    ensures { λ r. ⌜ (length (now (text .entry)) ≡ 0 → r ≡ true) ⌝ }
+{
+    if text.len() == 0 {
+        return true;
+    }
+    if io::write_all(STDOUT_FILENO, text) {
+        return true;
+    }
+    os::fail(b"standard output");
+    false
+}
+
+// The arguments of the program, with single spaces between them, as one line: none of them may be empty or have a blank in it.
+// Where the first is `--help`, the text of the help is printed instead. A program calls this before it opens a file.
+pub fn arguments(line: &mut [u8], help: &[u8]) -> Words
+    ensures { λ r. ⌜ lineOf r ≤ length (now (line .exit)) ⌝ }
+{
+    take_standard();
+    if asks_help() {
+        print(help);
+        return Words::Helped;
+    }
+    joined(line, os::arg_count())
+}
+
+// A program may be started with standard input, output or error closed. A file that it opens would get that number, and what is
+// told or printed would go into the file: so the three numbers are taken first.
+fn take_standard() {
+    if takes_one() && takes_one() {
+        takes_one();
+    }
+}
+
+fn takes_one() -> bool {
+    let file = os::open_read(b"/dev/null");
+    if file <= 2 {
+        return file >= 0;
+    }
+    libc::close(file);
+    false
+}
+
+fn asks_help() -> bool {
+    let mut word = [0u8; 6];
+    // An argument that is longer counts as none.
+    let n = os::arg(1, &mut word);
+    same(&word[..n], b"--help")
+}
+
+// Whether two texts are the same.
+fn same(a: &[u8], b: &[u8]) -> bool {
+    if a.len() != b.len() {
+        return false;
+    }
+    let mut i = 0;
+    while i < a.len() {
+        if a[i] != b[i] {
+            return false;
+        }
+        i += 1;
+    }
+    true
+}
+
+// The program's own name is the first of the count.
+fn joined(line: &mut [u8], count: usize) -> Words
+    ensures { λ r. ⌜ lineOf r ≤ length (now (line .exit)) ⌝ }
+{
+    let mut end = 0;
+    let mut i = 1;
+    while i < count {
+        let Words::Line(e) = one_more(line, end, i) else {
+            return Words::Unfit;
+        };
+        end = e;
+        i += 1;
+    }
+    Words::Line(end)
+}
+
+// Puts an argument behind those that are there.
+fn one_more(line: &mut [u8], end: usize, i: usize) -> Words
+    requires { ⌜ end ≤ length (now line) ⌝ }
+    ensures { λ r. ⌜ lineOf r ≤ length (now (line .exit)) ⌝ }
+{
+    if end == 0 {
+        return put_argument(line, 0, i);
+    }
+    if end == line.len() {
+        return Words::Unfit;
+    }
+    line[end] = b' ';
+    put_argument(line, end + 1, i)
+}
+
+// Puts an argument at a place. One that is empty, or too long for the rest of the line, has no bytes.
+fn put_argument(line: &mut [u8], at: usize, i: usize) -> Words
+    requires { ⌜ at ≤ length (now line) ⌝ }
+    ensures { λ r. ⌜ lineOf r ≤ length (now (line .exit)) ⌝ }
+{
+    let n = os::arg(i, &mut line[at..]);
+    if n == 0 {
+        return Words::Unfit;
+    }
+    let end = at + n;
+    if has_blank(&line[at..end]) {
+        return Words::Unfit;
+    }
+    Words::Line(end)
+}
+
+fn has_blank(word: &[u8]) -> bool {
+    let mut i = 0;
+    while i < word.len() {
+        if is_blank(word[i]) {
+            return true;
+        }
+        i += 1;
+    }
+    false
+}
+
+fn is_blank(b: u8) -> bool {
+    b == b' ' || b == b'\t' || b == b'\r'
+}
+
+// Puts bytes in the place of a file. They go to a fresh file first, which then takes the name: so the old file is there, or
+// the new one with all its bytes. Why that failed has been told, and then the old one stays. No bytes are no file.
+pub fn replace(name: &[u8], fresh: &[u8], bytes: &[u8]) -> bool
+    ensures { λ r. ⌜ (length (now (bytes .entry)) ≡ 0 → r ≡ false) ⌝ }
+{
+    if bytes.len() == 0 {
+        return false;
+    }
+    let file = os::create(fresh);
+    if file < 0 {
+        os::fail(fresh);
+        return false;
+    }
+    if !written(file, fresh, bytes) {
+        os::unlink(fresh);
+        return false;
+    }
+    if os::rename(fresh, name) < 0 {
+        os::fail(name);
+        os::unlink(fresh);
+        return false;
+    }
+    true
+}
+
+// Whether bytes are in a file to stay, which is then closed.
+fn written(file: i32, name: &[u8], bytes: &[u8]) -> bool {
+    let kept = io::write_all(file, bytes) && libc::fsync(file) == 0;
+    if !kept {
+        os::fail(name);
+    }
+    libc::close(file);
+    kept
+}
+
+// Tells on standard error that something is refused, with the line of the input that it stands in, 0 for none. A refusal is
+// no success, so false is answered: a caller can end with it.
+pub fn refused(tool: &[u8], line: u64, number: u32, sentence: &[u8]) -> bool
+    ensures { λ r. ⌜ r ≡ false ⌝ }
+{
+    let mut out = [0u8; 1024];
+    let n = put_refusal(&mut out, tool, line, number, sentence);
+    io::write_all(STDERR_FILENO, &out[0..n]);
+    false
+}
+
+fn put_refusal(out: &mut [u8], tool: &[u8], line: u64, number: u32, sentence: &[u8]) -> usize
+    ensures { λ r. ⌜ r ≤ length (now (out .exit)) ⌝ }
+{
+    let a = put(out, 0, tool);
+    let b = put_line(out, a, line);
+    let c = put(out, b, b"REFUSED ");
+    let d = put_number(out, c, number as u64);
+    let e = put(out, d, b": ");
+    let f = put(out, e, sentence);
+    put(out, f, b"\n")
+}
+
+fn put_line(out: &mut [u8], at: usize, line: u64) -> usize
+    requires { ⌜ at ≤ length (now out) ⌝ }
+    ensures { λ r. ⌜ r ≤ length (now (out .exit)) ⌝ }
+{
+    let a = put(out, at, b": ");
+    if line == 0 {
+        return a;
+    }
+    let b = put(out, a, b"line ");
+    let c = put_number(out, b, line);
+    put(out, c, b" ")
+}
+
+// Text for which there is no room is left out.
+fn put(out: &mut [u8], at: usize, s: &[u8]) -> usize
+    requires { ⌜ at ≤ length (now out) ⌝ }
+    ensures { λ r. ⌜ r ≤ length (now (out .exit)) ⌝ }
+{
+    text::put(out, at, s)
+}
+
+fn put_number(out: &mut [u8], at: usize, n: u64) -> usize
+    requires { ⌜ at ≤ length (now out) ⌝ }
+    ensures { λ r. ⌜ r ≤ length (now (out .exit)) ⌝ }
+{
+    text::put_number(out, at, n)
+}

@@ -1,0 +1,167 @@
+// Writes chain.dat in the folder that it is run in, from the lines of standard input, a chain each. Every line that is refused is
+// told on standard error, as is what fails, and then the file stays as it was.
+ghost use mathlib.Core.Path.{_≡_};
+ghost use Prim.Native.Nat.{_≤_};
+ghost use lib.ListN.{length};
+use chart::Chain;
+use files::Words;
+use lines::Input;
+use typed::TypedChain;
+
+const CHAIN_BYTES: usize = 24;
+
+const MOST_CHAINS: usize = 16;
+
+const TABLE_BYTES: usize = 384;
+
+// The longest line, with its newline.
+const LINE_BYTES: usize = 65_535;
+
+fn main() {
+    // Any argument is one too many.
+    let mut none = [0u8; 1];
+    let words = files::arguments(
+        &mut none,
+        b"laychain writes chain.dat, the table of station chains, in place of the one in this folder.
+
+Each line of standard input is a chain, 1 to 16 of them, the first one chain 1:
+
+  E N E N E N    easting and northing of master, slave A and slave B, in centimetres,
+                 0 to 100000000 and 0 to 1000000000, no two stations on one spot
+
+What is refused is told with its line and its number, and then chain.dat stays as it was.
+The chain with its master at (0, 0), A at (30000, 0) and B at (0, 40000):
+
+  echo 0 0 30000 0 0 40000 | laychain
+",
+    );
+    match words {
+        Words::Line(n) => by_arguments(n),
+        Words::Unfit => by_arguments(1),
+        Words::Helped => {}
+    }
+}
+
+fn by_arguments(bytes: usize) {
+    if bytes > 0 {
+        refused(
+            0,
+            12,
+            b"no argument was expected; the chains stand on standard input, a line each",
+        );
+        return;
+    }
+    make_table();
+}
+
+fn make_table() {
+    let mut buffer = [0u8; LINE_BYTES];
+    let mut table = [0u8; TABLE_BYTES];
+    let chains = read_chains(&mut buffer, &mut table);
+    if chains == 0 {
+        return;
+    }
+    files::replace(
+        b"chain.dat",
+        b"chain.dat.new",
+        &table[0..CHAIN_BYTES * chains],
+    );
+}
+
+// How many chains were read and put into the table; none where something was refused, which has been told.
+fn read_chains(buffer: &mut [u8], table: &mut [u8]) -> usize
+    requires { ⌜ length (now table) ≡ 384 ⌝ }
+    ensures { λ r. ⌜ r ≤ 16 ⌝ }
+{
+    let mut from = buffer.len();
+    let mut to = buffer.len();
+    let mut count = 0;
+    let mut well = true;
+    while count <= MOST_CHAINS {
+        let input = lines::next(buffer, from, to);
+        let Input::Line { start, end, stop } = input else {
+            return ended(input, count, well);
+        };
+        let refusal = put_line(table, count, &buffer[start..end]);
+        count += 1;
+        if refusal != 0 {
+            well = tell(count as u64, refusal);
+        }
+        from = end + 1;
+        to = stop;
+    }
+    0
+}
+
+// How many chains there are, where no line comes next.
+fn ended(input: Input, lines: usize, well: bool) -> usize
+    requires { ⌜ lines ≤ 16 ⌝ }
+    ensures { λ r. ⌜ r ≤ lines ⌝ }
+{
+    match input {
+        Input::Cut => told(lines + 1, 12),
+        Input::End => chains(lines, well),
+        _ => 0,
+    }
+}
+
+fn chains(lines: usize, well: bool) -> usize
+    ensures { λ r. ⌜ r ≤ lines ⌝ }
+{
+    if lines == 0 {
+        return told(0, 1);
+    }
+    if !well {
+        return 0;
+    }
+    lines
+}
+
+// No chain, for the reason that is told.
+fn told(line: usize, number: u32) -> usize
+    ensures { λ r. ⌜ r ≡ 0 ⌝ }
+{
+    tell(line as u64, number);
+    0
+}
+
+// Puts the chain of a line into the table, behind so many others, and answers with the number of its refusal, 0 for none.
+fn put_line(table: &mut [u8], before: usize, line: &[u8]) -> u32
+    requires { ⌜ length (now table) ≡ 384 ⌝ }
+{
+    match typed::chain(line) {
+        TypedChain::Chain(c) => put_chain(table, before, c),
+        TypedChain::Refused(number) => number,
+    }
+}
+
+fn put_chain(table: &mut [u8], before: usize, c: Chain) -> u32
+    requires { ⌜ length (now table) ≡ 384 ⌝ }
+{
+    if before >= MOST_CHAINS {
+        return 1;
+    }
+    let at = CHAIN_BYTES * before;
+    writing::write_chain(&mut table[at..at + CHAIN_BYTES], c)
+}
+
+// Tells a refusal, with its line, 0 for none. It is no success: false is answered.
+fn tell(line: u64, number: u32) -> bool {
+    match number {
+        1 => refused(line, 1, b"a table has 1 to 16 chains, a line each"),
+        5 => refused(
+            line,
+            5,
+            b"the stations of a chain have an easting of 0 to 100000000 and a northing of 0 to 1000000000, and no two stand on one spot",
+        ),
+        _ => refused(
+            line,
+            number,
+            b"a line of six numbers in digits alone was expected, easting and northing of master, A and B; with its newline, which the last one needs too, it has at most 65535 bytes",
+        ),
+    }
+}
+
+fn refused(line: u64, number: u32, sentence: &[u8]) -> bool {
+    files::refused(b"laychain", line, number, sentence)
+}

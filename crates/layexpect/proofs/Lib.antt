@@ -1,0 +1,2 @@
+-- The law on the length of the text that is shown.
+mod TextLaws

@@ -1,0 +1,56 @@
+-- `layexpect::answer` hands on no more of the table than was read.
+use mathlib.Core.Path.{ap}
+use native.Mathlib.Omega.{arith}
+use borrow.Author.Needs.{needs}
+use Rattle.files.specs.Answers.{bytesOf}
+use Rattle.layexpect.proofs.answer.Statement.{statement}
+use Rattle.layexpect.proofs.answer.Tie as tie
+
+slice-aggregate-start : tie.Need-slice-aggregate-start
+slice-aggregate-start c = search needs
+
+slice-aggregate-start-2 : tie.Need-slice-aggregate-start-2
+slice-aggregate-start-2 c = search needs
+
+start-requires : tie.Need-start-requires
+start-requires c κs = search needs
+
+enum-known-n : tie.Need-enum-known-n
+enum-known-n c = search needs
+
+enum-told : tie.Need-enum-told
+enum-told c = search needs
+
+returns : tie.Need-returns
+returns c = search needs
+
+sub-print-expected : tie.Need-sub-print-expected
+sub-print-expected c = search needs
+
+part-print-expected-start : tie.Need-part-print-expected-start
+part-print-expected-start c = search needs
+
+part-print-expected-end : tie.Need-part-print-expected-end
+part-print-expected-end c = omega (arith, ap bytesOf (c .before .before .n .given .1))
+
+print-expected-requires : tie.Need-print-expected-requires
+print-expected-requires c κs = search needs
+
+returns-2 : tie.Need-returns-2
+returns-2 c = search needs
+
+pub answer-spec : {M : Type 1} → statement M
+answer-spec =
+    tie.close
+    (tie.spec
+    slice-aggregate-start
+    slice-aggregate-start-2
+    start-requires
+    enum-known-n
+    enum-told
+    returns
+    sub-print-expected
+    part-print-expected-start
+    part-print-expected-end
+    print-expected-requires
+    returns-2)

@@ -1,0 +1,86 @@
+// Prints the readings expected at a place for a chain of chain.dat in the folder that it is run in, from the three numbers in its
+// arguments. What is refused or fails is told on standard error, and then nothing is printed.
+use chart::Place;
+use files::Filled;
+use files::Words;
+use shown::Line;
+use typed::TypedQuestion;
+
+// A line has at most 65,535 bytes with its newline, which the arguments have not.
+const LINE_BYTES: usize = 65_534;
+
+fn main() {
+    let mut line = [0u8; LINE_BYTES];
+    let words = files::arguments(
+        &mut line,
+        b"layexpect CHAIN E N prints the readings expected at a place, for a chain of chain.dat in this folder.
+
+  CHAIN  the chain's number in the table, 1 to 16
+  E N    easting and northing of the place in centimetres, 0 to 100000000 and 0 to 1000000000
+
+A line is printed for slave A and one for slave B: the reading in centimetres, the same in metres,
+and its eight bytes in a log record. What is refused is told with its number.
+The readings at (30000, 40000) for chain 1:
+
+  layexpect 1 30000 40000
+",
+    );
+    match words {
+        Words::Line(n) => take(&line[0..n]),
+        Words::Unfit => tell(12),
+        Words::Helped => {}
+    }
+}
+
+fn take(line: &[u8]) {
+    match typed::question(line) {
+        TypedQuestion::Question { chain, place } => answer(chain, place),
+        TypedQuestion::Refused(number) => tell(number),
+    }
+}
+
+fn answer(chain: u32, place: Place) {
+    // A table has at most 384 bytes: with one more, a file too long is seen to be so.
+    let mut table = [0u8; 385];
+    let Filled::Bytes(n) = files::start(b"chain.dat", &mut table) else {
+        return;
+    };
+    print_expected(&table[0..n], chain, place);
+}
+
+fn print_expected(table: &[u8], chain: u32, place: Place) {
+    let mut out = [0u8; 192];
+    match shown::expected(&mut out, table, chain, place) {
+        Line::Text(n) => print(&out[0..n]),
+        Line::Refused(number) => tell(number),
+    }
+}
+
+fn print(text: &[u8]) {
+    files::print(text);
+}
+
+fn tell(number: u32) {
+    match number {
+        1 => refused(
+            1,
+            b"chain.dat was expected to hold 1 to 16 chains of 24 bytes",
+        ),
+        4 => refused(
+            4,
+            b"the place was expected to have an easting of 0 to 100000000 and a northing of 0 to 1000000000 centimetres",
+        ),
+        5 => refused(
+            5,
+            b"a chain of the table was expected, 1 to as many as chain.dat has, with its stations in range and no two on one spot",
+        ),
+        _ => refused(
+            number,
+            b"three numbers in digits alone were expected, CHAIN E N",
+        ),
+    }
+}
+
+fn refused(number: u32, sentence: &[u8]) {
+    files::refused(b"layexpect", 0, number, sentence);
+}

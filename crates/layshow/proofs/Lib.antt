@@ -1,0 +1,2 @@
+-- The law on the length of a line that is shown.
+mod TextLaws

@@ -1,0 +1,76 @@
+-- `layshow::show_stretch` shows no more than was read.
+use mathlib.Core.Path.{ap}
+use native.Mathlib.Omega.{arith}
+use borrow.Author.Needs.{needs}
+use Rattle.files.specs.Answers.{bytesOf}
+use Rattle.layshow.proofs.show_stretch.Statement.{statement}
+use Rattle.layshow.proofs.show_stretch.Tie as tie
+
+large-buffer-requires : tie.Need-large-buffer-requires
+large-buffer-requires c κs = search needs
+
+slice-aggregate-fill : tie.Need-slice-aggregate-fill
+slice-aggregate-fill c = search needs
+
+slice-aggregate-fill-2 : tie.Need-slice-aggregate-fill-2
+slice-aggregate-fill-2 c = search needs
+
+fill-requires : tie.Need-fill-requires
+fill-requires c κs = search needs
+
+enum-known-n : tie.Need-enum-known-n
+enum-known-n c = search needs
+
+enum-told : tie.Need-enum-told
+enum-told c = search needs
+
+returns : tie.Need-returns
+returns c = search needs
+
+sub-put-records : tie.Need-sub-put-records
+sub-put-records c = search needs
+
+part-put-records-start : tie.Need-part-put-records-start
+part-put-records-start c = search needs
+
+part-put-records-end : tie.Need-part-put-records-end
+part-put-records-end c = omega (arith, ap bytesOf (c .before .before .before .n .given .1))
+
+put-records-requires : tie.Need-put-records-requires
+put-records-requires c κs = search needs
+
+printed-requires : tie.Need-printed-requires
+printed-requires c κs = search needs
+
+same-length : tie.Need-same-length
+same-length c = search needs
+
+returns-2 : tie.Need-returns-2
+returns-2 c = search needs
+
+same-length-2 : tie.Need-same-length-2
+same-length-2 c = search needs
+
+returns-3 : tie.Need-returns-3
+returns-3 c = search needs
+
+pub show-stretch-spec : {M : Type 1} → statement M
+show-stretch-spec =
+    tie.close
+    (tie.spec
+    large-buffer-requires
+    slice-aggregate-fill
+    slice-aggregate-fill-2
+    fill-requires
+    enum-known-n
+    enum-told
+    returns
+    sub-put-records
+    part-put-records-start
+    part-put-records-end
+    put-records-requires
+    printed-requires
+    same-length
+    returns-2
+    same-length-2
+    returns-3)

@@ -1,0 +1,2 @@
+-- What the program's functions promise of the counts that they answer.
+pub mod Bounds

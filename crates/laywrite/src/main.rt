@@ -1,0 +1,351 @@
+// Appends log records to lay.dat in the folder that it is run in, from the lines of standard input, a record each. Every line that
+// is refused is told on standard error, as is what fails, and then nothing is appended.
+ghost use Prim.Native.Nat.{_≤_, _<_};
+ghost use mathlib.Core.Path.{_≡_};
+ghost use lib.ListN.{length};
+ghost use Rattle.laywrite.specs.Bounds.{waitingOf};
+use files::Filled;
+use files::Words;
+use libc::SEEK_END;
+use libc::SEEK_SET;
+use lines::Input;
+use typed::TypedDraft;
+use writing::Draft;
+
+// The log that is there, open to append to, and how long it is. Why there is none to append to has been told.
+enum Log {
+    Old { file: i32, length: i64 },
+    Missing,
+    Unfit,
+}
+
+// How many bytes of records wait in a buffer. Why they were dropped, and any that come, has been told.
+enum Records {
+    Waiting(usize),
+    Dropped,
+}
+
+// How far a file is copied. Why that failed has been told.
+enum Copying {
+    Some,
+    All,
+    Failed,
+}
+
+const RECORD_BYTES: usize = 32;
+
+// The longest line, with its newline.
+const LINE_BYTES: usize = 65_535;
+
+// Records are written out when so many bytes of them wait.
+const OUT_BYTES: usize = 65_536;
+
+fn main() {
+    // Any argument is one too many.
+    let mut none = [0u8; 1];
+    let words = files::arguments(
+        &mut none,
+        b"laywrite appends records to lay.dat, the log in this folder, or begins it where there is none.
+
+Each line of standard input is a record, KIND CHAIN LINE X Y, in centimetres:
+
+  1 CHAIN LINE A B    readings of slaves A and B, -1000000000 to 1000000000; chain 1 to 16
+  2 CHAIN LINE E N    a place, easting 0 to 100000000 and northing 0 to 1000000000; any chain
+  3 CHAIN LINE X Y    a hold, the place of the record before it; any chain, X and Y
+
+LINE is 0 to 4294967295. What is refused is told with its line and its number, and then
+nothing is appended. Readings of -100 m and -200 m in chain 1, as line 1 of the log:
+
+  echo 1 1 1 -10000 -20000 | laywrite
+",
+    );
+    match words {
+        Words::Line(n) => by_arguments(n),
+        Words::Unfit => by_arguments(1),
+        Words::Helped => {}
+    }
+}
+
+fn by_arguments(bytes: usize) {
+    if bytes > 0 {
+        refused(
+            0,
+            12,
+            b"no argument was expected; the records stand on standard input, a line each",
+        );
+        return;
+    }
+    let log = open_log();
+    if let Log::Unfit = log {
+        return;
+    }
+    write_log(log);
+}
+
+fn open_log() -> Log {
+    let file = os::open_append(b"lay.dat");
+    if file < 0 {
+        return no_log();
+    }
+    let length = libc::lseek(file, 0, SEEK_END);
+    if length < 0 {
+        os::fail(b"lay.dat");
+        return Log::Unfit;
+    }
+    // The lowest five bits of a number that 32 divides are zero.
+    if length & 31 != 0 {
+        tell(0, 1);
+        return Log::Unfit;
+    }
+    Log::Old { file, length }
+}
+
+fn no_log() -> Log {
+    if os::errno() == libc::ENOENT {
+        return Log::Missing;
+    }
+    os::fail(b"lay.dat");
+    Log::Unfit
+}
+
+// Until every line is accepted the records stay in a file of their own.
+fn write_log(log: Log) {
+    let scratch = make_scratch();
+    if scratch < 0 {
+        return;
+    }
+    if !read_records(scratch) {
+        return;
+    }
+    if libc::lseek(scratch, 0, SEEK_END) == 0 {
+        return;
+    }
+    libc::lseek(scratch, 0, SEEK_SET);
+    append(log, scratch);
+}
+
+// It has no name, so nothing is left of it whatever happens.
+fn make_scratch() -> i32 {
+    let mut name = *b"lay.dat.XXXXXX";
+    let file = os::create_temp(&mut name);
+    if file < 0 {
+        os::fail(&name);
+        return -1;
+    }
+    if os::unlink(&name) < 0 {
+        os::fail(&name);
+        return -1;
+    }
+    file
+}
+
+// Whether every line was accepted, and its record written to the scratch file.
+fn read_records(scratch: i32) -> bool {
+    let mut buffer = [0u8; LINE_BYTES];
+    let mut out = [0u8; OUT_BYTES];
+    let Records::Waiting(n) = each_line(&mut buffer, &mut out, scratch) else {
+        return false;
+    };
+    written(scratch, &out[0..n])
+}
+
+fn each_line(buffer: &mut [u8], out: &mut [u8], scratch: i32) -> Records
+    ensures { λ r. ⌜ waitingOf r ≤ length (now (out .exit)) ⌝ }
+{
+    let mut from = buffer.len();
+    let mut to = buffer.len();
+    let mut records = Records::Waiting(0);
+    let mut line = 0u64;
+    while line < u64::MAX {
+        let input = lines::next(buffer, from, to);
+        line += 1;
+        let Input::Line { start, end, stop } = input else {
+            return ended(input, line, records);
+        };
+        records = take_line(out, records, scratch, line, &buffer[start..end]);
+        from = end + 1;
+        to = stop;
+    }
+    Records::Dropped
+}
+
+// The records, where no line comes next.
+fn ended(input: Input, line: u64, records: Records) -> Records
+    ensures { λ r. ⌜ waitingOf r ≤ waitingOf records ⌝ }
+{
+    match input {
+        Input::Cut => dropped(line, 12),
+        Input::End => records,
+        _ => Records::Dropped,
+    }
+}
+
+// No records, for the reason that is told.
+fn dropped(line: u64, number: u32) -> Records
+    ensures { λ r. ⌜ waitingOf r ≡ 0 ⌝ }
+{
+    tell(line, number);
+    Records::Dropped
+}
+
+fn take_line(out: &mut [u8], before: Records, scratch: i32, line: u64, text: &[u8]) -> Records
+    requires { ⌜ waitingOf before ≤ length (now out) ⌝ }
+    ensures { λ r. ⌜ waitingOf r ≤ length (now (out .exit)) ⌝ }
+{
+    match typed::draft(text) {
+        TypedDraft::Draft(d) => take_draft(out, before, scratch, line, d),
+        TypedDraft::Refused(number) => dropped(line, number),
+    }
+}
+
+fn take_draft(out: &mut [u8], before: Records, scratch: i32, line: u64, d: Draft) -> Records
+    requires { ⌜ waitingOf before ≤ length (now out) ⌝ }
+    ensures { λ r. ⌜ waitingOf r ≤ length (now (out .exit)) ⌝ }
+{
+    let mut bytes = [0u8; RECORD_BYTES];
+    let refusal = writing::write(&mut bytes, d);
+    if refusal != 0 {
+        return dropped(line, refusal);
+    }
+    let Records::Waiting(at) = before else {
+        return Records::Dropped;
+    };
+    keep(out, at, scratch, &bytes)
+}
+
+// Puts a record behind those that wait, and writes them all out where there is no room for it.
+fn keep(out: &mut [u8], at: usize, scratch: i32, bytes: &[u8]) -> Records
+    requires { ⌜ at ≤ length (now out) ⌝ }
+    ensures { λ r. ⌜ waitingOf r ≤ length (now (out .exit)) ⌝ }
+{
+    if out.len() - at >= bytes.len() {
+        return put(out, at, bytes);
+    }
+    if !written(scratch, &out[0..at]) {
+        return Records::Dropped;
+    }
+    put(out, 0, bytes)
+}
+
+fn put(out: &mut [u8], at: usize, bytes: &[u8]) -> Records
+    requires { ⌜ at ≤ length (now out) ⌝ }
+    ensures { λ r. ⌜ waitingOf r ≤ length (now (out .exit)) ⌝ }
+{
+    Records::Waiting(text::put(out, at, bytes))
+}
+
+// Whether all of some bytes are in the scratch file.
+fn written(scratch: i32, bytes: &[u8]) -> bool {
+    if io::write_all(scratch, bytes) {
+        return true;
+    }
+    os::fail(b"lay.dat.XXXXXX");
+    false
+}
+
+// Appends the scratch file to the log, wholly or not at all.
+fn append(log: Log, scratch: i32) {
+    match log {
+        Log::Old { file, length } => lengthen(file, length, scratch),
+        Log::Missing => begin(scratch),
+        Log::Unfit => {}
+    }
+}
+
+fn lengthen(file: i32, length: i64, scratch: i32) {
+    if copied(scratch, file) {
+        return;
+    }
+    if libc::lseek(file, 0, SEEK_END) == length {
+        return;
+    }
+    if libc::ftruncate(file, length) < 0 {
+        os::fail(b"lay.dat");
+    }
+}
+
+fn begin(scratch: i32) {
+    let file = os::create(b"lay.dat");
+    if file < 0 {
+        os::fail(b"lay.dat");
+        return;
+    }
+    if !copied(scratch, file) {
+        os::unlink(b"lay.dat");
+    }
+}
+
+// Whether all of the scratch file is in the log to stay.
+fn copied(scratch: i32, file: i32) -> bool {
+    if !copy_all(scratch, file) {
+        return false;
+    }
+    if libc::fsync(file) < 0 {
+        os::fail(b"lay.dat");
+        return false;
+    }
+    true
+}
+
+// Every turn but the last copies 65,536 bytes, and no file has 2^64 times as many: it ends before the turns do.
+fn copy_all(scratch: i32, file: i32) -> bool {
+    let mut turns = u64::MAX;
+    while turns > 0 {
+        let c = copy_some(scratch, file);
+        if let Copying::All = c {
+            return true;
+        }
+        if let Copying::Failed = c {
+            return false;
+        }
+        turns -= 1;
+    }
+    false
+}
+
+fn copy_some(scratch: i32, file: i32) -> Copying {
+    let mut bytes = io::large_buffer();
+    let Filled::Bytes(n) = files::fill(b"lay.dat.XXXXXX", scratch, &mut bytes) else {
+        return Copying::Failed;
+    };
+    if n == 0 {
+        return Copying::All;
+    }
+    if !io::write_all(file, &bytes[0..n]) {
+        os::fail(b"lay.dat");
+        return Copying::Failed;
+    }
+    Copying::Some
+}
+
+// Tells a refusal, with its line, 0 for none.
+fn tell(line: u64, number: u32) {
+    match number {
+        1 => refused(
+            line,
+            1,
+            b"lay.dat was expected to hold whole records of 32 bytes, and its last one is short",
+        ),
+        2 => refused(line, 2, b"the kind is 1, 2 or 3: hyperbolic, grid or hold"),
+        3 => refused(
+            line,
+            3,
+            b"X and Y are -1000000000 to 1000000000 centimetres",
+        ),
+        4 => refused(
+            line,
+            4,
+            b"a place has an easting of 0 to 100000000 and a northing of 0 to 1000000000 centimetres",
+        ),
+        5 => refused(line, 5, b"the chain of a hyperbolic record is 1 to 16"),
+        _ => refused(
+            line,
+            number,
+            b"a line of five numbers was expected, KIND CHAIN LINE X Y, in digits alone but for a minus sign before X or Y, LINE at most 4294967295; with its newline, which the last one needs too, it has at most 65535 bytes",
+        ),
+    }
+}
+
+fn refused(line: u64, number: u32, sentence: &[u8]) {
+    files::refused(b"laywrite", line, number, sentence);
+}

@@ -1,0 +1,57 @@
+-- Bytes of a buffer copied to its front, the first one first: those to come are still where they were.
+use Prim.Native.Nat.{ℕ, _+_, _-_, _≤_, _<_, min}
+use mathlib.Core.Path.{_≡_, ap, _∙_, sym}
+use mathlib.Core.List.{List, _++_}
+use native.Mathlib.Decide.{decLe}
+use native.Mathlib.Nat.{lt-of-not-le}
+use native.Mathlib.Omega.{arith}
+use native.Mathlib.Numerals.{add-one}
+use lib.ListN.{length, getD, take, drop, set, length-take, length-drop}
+use lib.Seq.{length-take-le, getD-append-add, getD-drop, paste, paste-suc, take-all}
+use Rattle.lines.specs.Input.{between}
+
+-- The buffer after so many of them.
+abbrev pub copied : List ℕ → ℕ → ℕ → List ℕ
+copied b from i = paste b 0 (drop from b) i
+
+-- The next one to copy.
+pub next-there : (b : List ℕ) (from i : ℕ) → from + i < length b → getD (copied b from i) (from + i) 0 ≡ getD (drop from b) i 0
+next-there b from i h =
+    let size : length (take i (drop from b)) ≡ i = length-take-le i (drop from b) (omega (arith, length-drop from b)) in
+    let place : from + i ≡ length (take i (drop from b)) + from = omega arith in
+    ap (λ (n : ℕ). getD (copied b from i) n 0) place
+    ∙ getD-append-add (take i (drop from b)) (drop (0 + i) b) from 0
+    ∙ getD-drop (0 + i) b from 0
+    ∙ ap (λ (n : ℕ). getD b n 0) (omega arith)
+    ∙ sym (getD-drop from b i 0)
+
+-- One more.
+pub one-more : (b : List ℕ) (from i : ℕ) → from + i < length b → set (copied b from i) i (getD (copied b from i) (from + i) 0) ≡ copied b from (i + 1)
+one-more b from i h =
+    ap (λ (x : ℕ). set (copied b from i) i x) (next-there b from i h)
+    ∙ ap (λ (n : ℕ). set (copied b from i) n (getD (drop from b) i 0)) (omega arith)
+    ∙ paste-suc b 0 (drop from b) i 0 (omega arith) (omega (arith, length-drop from b))
+    ∙ ap (copied b from) (sym (add-one i))
+
+-- How many there are, and what they are when all are copied.
+pub so-many : (b : List ℕ) (from to : ℕ) → min to (length b) - from ≡ length (between from to b)
+so-many b from to = omega (arith, length-take (to - from) (drop from b), length-drop from b)
+
+pub all-copied : (b : List ℕ) (from to : ℕ) → copied b from (min to (length b) - from) ≡ between from to b ++ drop (min to (length b) - from) b
+all-copied b from to =
+    let n = min to (length b) - from in
+    let none : 0 + n ≡ n = omega arith in
+    ap (λ (m : ℕ). take n (drop from b) ++ drop m b) none
+    ∙ ap (λ (l : List ℕ). l ++ drop n b) (go (decLe to (length b)))
+  where
+    go : Dec (to ≤ length b) → take (min to (length b) - from) (drop from b) ≡ between from to b
+    go (yes h) =
+        let e : min to (length b) - from ≡ to - from = omega arith in
+        ap (λ (n : ℕ). take n (drop from b)) e
+    go (no h) =
+        take-all (min to (length b) - from) (drop from b) (omega (arith, length-drop from b, lt-of-not-le h))
+        ∙ sym (take-all (to - from) (drop from b) (omega (arith, length-drop from b, lt-of-not-le h)))
+
+-- They are no more than the buffer has.
+pub no-more : (b : List ℕ) (from to : ℕ) → length (between from to b) ≤ length b
+no-more b from to = omega (arith, so-many b from to)

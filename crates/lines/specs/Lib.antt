@@ -1,0 +1,2 @@
+-- What the next line of an input is.
+pub mod Input
