@@ -662,8 +662,8 @@ def filled(length, right):
 def edges():
     """A record's line cut at each of its places by the end of what is read at a time; texts that end about there."""
     tail = lines([[1, 16, 77, -10000, -20000], [2, 0, 78, 30001, 40000]])
-    for edge in 65_536, 131_072:
-        for before in range(24):
+    for edge, step in (65_536, 1), (131_072, 5):
+        for before in range(0, 24, step):
             yield accepted(to_log(filled(edge - before, RECORDS[1]) + tail, f"a line {before} bytes before {edge}"))
         for length in range(edge - 2, edge + 3):
             yield accepted(to_log(filled(length, RECORDS[0]), f"a text of {length} bytes"))

@@ -217,9 +217,9 @@ done
 fresh
 run layjob 83222785 983222785 24 100000 18446744073709551615
 pass_if "the largest job: $(head -n 3 "$said")" ended_well
-run laychain < <(for i in {1..16}; do echo "$i $((i * i)) $((100000000 - i)) $i $((7 * i)) $((1000000000 - i))"; done)
+run laychain < <(for i in {1..16}; do echo $i $((i * i)) $((100000000 - i)) $i $((7 * i)) $((1000000000 - i)); done)
 pass_if "the largest table: $(head -n 3 "$said")" ended_well
-run laywrite < <(for i in {0..4999}; do echo "$((1 + i % 3)) $((i % 16 + 1)) $((i * 858993)) $((i * 19991)) $((i * 199999))"; done)
+run laywrite < <(for i in {0..4999}; do echo $((1 + i % 3)) $((1 + i % 16)) $((i * 858993)) $((i * 19991)) $((i * 199999)); done)
 pass_if "a log of 5,000 records: $(head -n 3 "$said")" ended_well
 pass_if 'a large folder, shown and written again' shown_again
 
@@ -257,7 +257,7 @@ while read -r file mark words; do
     give $words
     pass_if "$words, with a folder $file, tells it: $(head -n 3 "$said")" tells "$file"
     pass_if "$words, with a folder $file, prints nothing of it" [ -z "$(grep "^$mark" "$printed")" ]
-    rmdir "$folder/$file"
+    pass_if "$words: the folder $file stays" rmdir "$folder/$file"
     cp "$example/$file" "$folder"
     pass_if "$words, with a folder $file: nothing else changes" holds "${files[@]}"
 done <<'END'
@@ -375,6 +375,9 @@ done <<'END'
 5 layexpect 2 30000 40000
 12 layshow job.dat
 END
+status=0
+(cd "$folder" && "$repository/bin/layshow") >/dev/full 2>"$said" || status=$?
+pass_if 'bin/layshow ends with 1 on a full device' [ "$status" -eq 1 ]
 by_bin layjob '30000 40000' 1 0 100
 pass_if 'bin/layjob passes its arguments on as they are' [ "$status" -eq 1 ]
 by_bin laywrite < <(printf '4 0 0 0 0\n3 0 3 0')
