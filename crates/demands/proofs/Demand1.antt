@@ -42,7 +42,7 @@ use Rattle.writing.proofs.Theorems.{write-refusals, refused-write-zeros, chain-
 use Rattle.listing.specs.declared.Carried.{Carried}
 use Rattle.listing.specs.declared.Carried.the-variants as carried
 use Rattle.listing.specs.Answers.{Refused, answerOf}
-use Rattle.listing.specs.Texts.{spaced, bytesIn}
+use Rattle.text.specs.Texts.{spaced, bytesIn}
 use Rattle.listing.specs.Listings.{Part, listingOf, hasRoom, listedIn, bufferWith}
 use Rattle.listing.proofs.Theorems.{job-first, then-chain}
 use Rattle.desk.specs.Figures.{chainBy, windowBy, recordFigures, countFigures, chainFigures, jobFigures, heldFigures, listedFigures}

@@ -5,7 +5,7 @@ use Prim.Native.Nat.{ℕ, _+_, _-_, _*_, _/_, _^_, _≤_, _<_}
 use mathlib.Core.Path.{_≡_, ap, subst⁻¹}
 use mathlib.Core.Logic.{_↔_}
 use mathlib.Core.Bool.{true, false}
-use mathlib.Core.List.{List}
+use mathlib.Core.List.{List, _++_}
 use native.Mathlib.Omega.{arith}
 use borrow.Author.Tests.{leb-true}
 use lib.Dec.{T}
@@ -46,13 +46,24 @@ use Rattle.records.specs.ChainTables.{chainCountOf, chainOf}
 use Rattle.records.specs.Jobs.{jobOf}
 use Rattle.writing.specs.declared.Draft.{Draft}
 use Rattle.writing.specs.Writing.{refusalOf, usedOf, bufferOf, rawFor, entryFor}
-use Rattle.writing.specs.ChainWriting.{chainRefusalOf, allSound, tableOf}
+use Rattle.writing.specs.ChainWriting.{chainRefusalOf, chainBufferOf, allSound, tableOf}
 use Rattle.writing.specs.JobWriting.{jobRefusalOf, jobBufferOf}
 use Rattle.writing.proofs.Theorems.{reads-back, chains-written, chains-counted, chains-read-back, window-written, job-reads-back}
+use Rattle.text.specs.Texts.{spaced, figuresText, bytesIn}
+use Rattle.typed.specs.declared.TypedJob.the-variants as typed-job
+use Rattle.typed.specs.declared.TypedChain.the-variants as typed-chain
+use Rattle.typed.specs.declared.TypedDraft.the-variants as typed-draft
+use Rattle.typed.specs.declared.TypedQuestion.the-variants as typed-question
+use Rattle.typed.specs.Numbers.{numberAt}
+use Rattle.typed.specs.Typed.{jobIn, chainIn, draftIn, questionIn}
+use Rattle.shown.specs.Lines.{jobText, jobLine, stationFigures, chainLine, recordText, recordLine}
+use Rattle.shown.specs.Expected.{expectedIn}
 use Rattle.listing.specs.declared.Carried.{Carried}
 use Rattle.listing.specs.Answers.{fixBy, answerBy, answerOf, placesOf}
 use Rattle.demands.proofs.NumberLaws.{job-good}
 use Rattle.demands.proofs.WritingLaws.{hyperbolic-accepted, grid-accepted, hold-accepted, chain-byte}
+use Rattle.demands.proofs.TextLaws.{job-line-shown, job-typed-again, chain-line-shown, chain-typed-again, record-line-shown, record-typed-again}
+use Rattle.demands.proofs.QuestionLaws.{expected-as-typed}
 use Rattle.demands.proofs.AskingLaws.{own-readings, found-by, tests-pass, fix-places}
 
 -- The distance of two places is the whole part of the root of easting difference squared plus northing difference squared:
@@ -132,6 +143,34 @@ pub job-there-and-back : (j : Job) → j .allowance < 2 ^ 64 →
     (isWindow (j .window) ≡ true → j .tolerance ≤ 100_000 → jobRefusalOf 32 j ≡ 0)
     × (jobRefusalOf 32 j ≡ 0 → jobOf (jobBufferOf 32 j) ≡ answer.Job j)
 job-there-and-back j small = (window-written j, job-reads-back j small)
+
+-- Whatever the writer accepts is shown as a line of `LOG`, its fields and a newline, with no refusal; and the fields, typed, are
+-- the same draft again, with 0 for what its kind does not use.
+pub record-shown-and-typed : (d : Draft) → d .line < 2 ^ 32 → refusalOf 32 d ≡ 0 →
+    let fields = recordText (bufferOf 32 d) in
+    (recordLine (bufferOf 32 d) ≡ bytesIn "LOG" ++ (fields ++ bytesIn "\n")) × (draftIn fields ≡ typed-draft.Draft (usedOf d))
+record-shown-and-typed d small accepted = (record-line-shown d small accepted, record-typed-again d small accepted)
+
+-- Every sound chain that is written is shown as a line of `CHAIN`, its number in the table, its fields and a newline, with no
+-- refusal; and the fields, typed, are the same chain again.
+pub chain-shown-and-typed : (c : Chain) (number : ℕ) → isSound c ≡ true →
+    let fields = figuresText (stationFigures c) in
+    (chainLine number (chainBufferOf 24 c) ≡ bytesIn "CHAIN" ++ (spaced number ++ (fields ++ bytesIn "\n")))
+    × (chainIn fields ≡ typed-chain.Chain c)
+chain-shown-and-typed c number sound = (chain-line-shown c sound number, chain-typed-again c sound)
+
+-- Whatever job is accepted is shown as a line of `JOB`, its fields and a newline, with no refusal; and the fields, typed, are
+-- the same job again.
+pub job-shown-and-typed : (j : Job) → j .allowance < 2 ^ 64 → jobRefusalOf 32 j ≡ 0 →
+    let fields = jobText (jobBufferOf 32 j) in
+    (jobLine (jobBufferOf 32 j) ≡ bytesIn "JOB" ++ (fields ++ bytesIn "\n")) × (jobIn fields ≡ typed-job.Job j)
+job-shown-and-typed j small accepted = (job-line-shown j small accepted, job-typed-again j small accepted)
+
+-- The readings shown for a question that was typed are those of the chain's number and the place as they were typed, whatever
+-- their size.
+pub question-as-typed : (table s : List ℕ) (number : ℕ) (p : Place) → questionIn s ≡ typed-question.Question number p →
+    expectedIn table number p ≡ expectedIn table (numberAt s 0) (record { easting = numberAt s 1; northing = numberAt s 2 })
+question-as-typed table s number p e = expected-as-typed table s number p e
 
 -- The writer accepts any two readings up to 1,000,000,000 in size for a chain from 1 to 16, any place in range, and any hold;
 -- and these are read back.

@@ -5,6 +5,8 @@ mod LibraryLaws
 mod WritingLaws
 mod AskingLaws
 mod StoppingLaws
+mod TextLaws
+mod QuestionLaws
 pub mod Demand1
 pub mod Demand2
 pub mod Demand3

@@ -41,10 +41,25 @@ use Rattle.records.proofs.log_record as log-record
 use Rattle.records.proofs.log_entry as log-entry
 use Rattle.records.proofs.chain_count as chain-count
 use Rattle.records.proofs.chain_of as chain-of
+use Rattle.records.proofs.raw_chain as raw-chain
+use Rattle.records.proofs.raw_job as raw-job
 use Rattle.records.proofs.job_of as job-of
 use Rattle.writing.proofs.write as write
 use Rattle.writing.proofs.write_chain as write-chain
 use Rattle.writing.proofs.write_job as write-job
+use Rattle.text.proofs.put as text-put
+use Rattle.text.proofs.put_number as text-put-number
+use Rattle.text.proofs.put_whole as put-whole
+use Rattle.text.proofs.put_bytes as put-bytes
+use Rattle.typed.proofs.line_end as line-end
+use Rattle.typed.proofs.job as typed-job
+use Rattle.typed.proofs.chain as typed-chain
+use Rattle.typed.proofs.draft as typed-draft
+use Rattle.typed.proofs.question as typed-question
+use Rattle.shown.proofs.job as shown-job
+use Rattle.shown.proofs.chain as shown-chain
+use Rattle.shown.proofs.record as shown-record
+use Rattle.shown.proofs.expected as shown-expected
 use Rattle.listing.proofs.list as list
 use Rattle.desk.proofs.desk_centimetres as desk-centimetres
 use Rattle.desk.proofs.desk_metres as desk-metres
@@ -175,6 +190,14 @@ module _ {M : Type 1} (𝓤 : URA M) (H : Heap 𝓤) (A : Atoms 𝓤) (mem : Mem
   pub chain-of-only : OneAnswer 𝓤 chain-of.ended (chain-of.clauses 𝓤 H A mem run)
   chain-of-only κs a g x y = only 𝓤 same (λ answer. answer & refl)
 
+  -- records::raw_chain, by `ensures-1`.
+  pub raw-chain-only : OneAnswer 𝓤 raw-chain.ended (raw-chain.clauses 𝓤 H A mem run)
+  raw-chain-only κs a g x y = only 𝓤 same (λ answer. answer & refl)
+
+  -- records::raw_job, by `ensures-1`.
+  pub raw-job-only : OneAnswer 𝓤 raw-job.ended (raw-job.clauses 𝓤 H A mem run)
+  raw-job-only κs a g x y = only 𝓤 same (λ answer. answer & refl)
+
   -- records::job_of, by `ensures-1`.
   pub job-of-only : OneAnswer 𝓤 job-of.ended (job-of.clauses 𝓤 H A mem run)
   job-of-only κs a g x y = only 𝓤 same (λ answer. answer & refl)
@@ -190,6 +213,58 @@ module _ {M : Type 1} (𝓤 : URA M) (H : Heap 𝓤) (A : Atoms 𝓤) (mem : Mem
   -- writing::write_job, by `ensures-answer`, `ensures-buffer`.
   pub write-job-only : OneAnswer 𝓤 write-job.ended (write-job.clauses 𝓤 H A mem run)
   write-job-only κs a g x y = only 𝓤 (same beside same) (λ (answer, buffer). answer & buffer & refl)
+
+  -- text::put, by `ensures-end`, `ensures-out`.
+  pub text-put-only : OneAnswer 𝓤 text-put.ended (text-put.clauses 𝓤 H A mem run)
+  text-put-only κs a g x y = only 𝓤 (same beside same) (λ (end, out). end & out & refl)
+
+  -- text::put_number, by `ensures-end`, `ensures-out`.
+  pub text-put-number-only : OneAnswer 𝓤 text-put-number.ended (text-put-number.clauses 𝓤 H A mem run)
+  text-put-number-only κs a g x y = only 𝓤 (same beside same) (λ (end, out). end & out & refl)
+
+  -- text::put_whole, by `ensures-end`, `ensures-out`.
+  pub put-whole-only : OneAnswer 𝓤 put-whole.ended (put-whole.clauses 𝓤 H A mem run)
+  put-whole-only κs a g x y = only 𝓤 (same beside same) (λ (end, out). end & out & refl)
+
+  -- text::put_bytes, by `ensures-end`, `ensures-out`.
+  pub put-bytes-only : OneAnswer 𝓤 put-bytes.ended (put-bytes.clauses 𝓤 H A mem run)
+  put-bytes-only κs a g x y = only 𝓤 (same beside same) (λ (end, out). end & out & refl)
+
+  -- typed::line_end, by `ensures-1`.
+  pub line-end-only : OneAnswer 𝓤 line-end.ended (line-end.clauses 𝓤 H A mem run)
+  line-end-only κs a g x y = only 𝓤 same (λ answer. answer & refl)
+
+  -- typed::job, by `ensures-1`.
+  pub typed-job-only : OneAnswer 𝓤 typed-job.ended (typed-job.clauses 𝓤 H A mem run)
+  typed-job-only κs a g x y = only 𝓤 same (λ answer. answer & refl)
+
+  -- typed::chain, by `ensures-1`.
+  pub typed-chain-only : OneAnswer 𝓤 typed-chain.ended (typed-chain.clauses 𝓤 H A mem run)
+  typed-chain-only κs a g x y = only 𝓤 same (λ answer. answer & refl)
+
+  -- typed::draft, by `ensures-1`.
+  pub typed-draft-only : OneAnswer 𝓤 typed-draft.ended (typed-draft.clauses 𝓤 H A mem run)
+  typed-draft-only κs a g x y = only 𝓤 same (λ answer. answer & refl)
+
+  -- typed::question, by `ensures-1`.
+  pub typed-question-only : OneAnswer 𝓤 typed-question.ended (typed-question.clauses 𝓤 H A mem run)
+  typed-question-only κs a g x y = only 𝓤 same (λ answer. answer & refl)
+
+  -- shown::job, by `ensures-answer`, `ensures-out`.
+  pub shown-job-only : OneAnswer 𝓤 shown-job.ended (shown-job.clauses 𝓤 H A mem run)
+  shown-job-only κs a g x y = only 𝓤 (same beside same) (λ (answer, out). answer & out & refl)
+
+  -- shown::chain, by `ensures-answer`, `ensures-out`.
+  pub shown-chain-only : OneAnswer 𝓤 shown-chain.ended (shown-chain.clauses 𝓤 H A mem run)
+  shown-chain-only κs a g x y = only 𝓤 (same beside same) (λ (answer, out). answer & out & refl)
+
+  -- shown::record, by `ensures-answer`, `ensures-out`.
+  pub shown-record-only : OneAnswer 𝓤 shown-record.ended (shown-record.clauses 𝓤 H A mem run)
+  shown-record-only κs a g x y = only 𝓤 (same beside same) (λ (answer, out). answer & out & refl)
+
+  -- shown::expected, by `ensures-answer`, `ensures-out`.
+  pub shown-expected-only : OneAnswer 𝓤 shown-expected.ended (shown-expected.clauses 𝓤 H A mem run)
+  shown-expected-only κs a g x y = only 𝓤 (same beside same) (λ (answer, out). answer & out & refl)
 
   -- listing::list, by `ensures-answer`, `ensures-out`.
   pub list-only : OneAnswer 𝓤 list.ended (list.clauses 𝓤 H A mem run)

@@ -10,7 +10,7 @@ ghost use Rattle.records.specs.declared.LogEntry.the-variants as entry;
 ghost use Rattle.records.specs.Bytes.{byteAt, numberIn, areZero};
 ghost use Rattle.records.specs.LogRecords.{logBytes, rawRecordOf, isHyperbolic, isGrid, isHold, logRecordOf, isPlace, placed, logEntryOf};
 ghost use Rattle.records.specs.ChainTables.{chainBytes, isTable, oneTo, chainCountOf, placeAt, chainAt, rawChainOf, chainOf};
-ghost use Rattle.records.specs.Jobs.{jobBytes, rawJobOf, jobOf};
+ghost use Rattle.records.specs.Jobs.{jobBytes, jobIn, rawJobOf, jobOf};
 ghost use Rattle.records.specs.Gathered.{IsRaw, pairOf, given};
 use chart::Chain;
 use chart::Place;
@@ -156,30 +156,20 @@ pub fn chain_of(s: &[u8], number: u32) -> NamedChain
 pub fn raw_chain(s: &[u8]) -> NamedChain
     ensures { λ r. ⌜ r ≡ rawChainOf (now (s .entry)) ⌝ }
 {
-    if s.len() != CHAIN_BYTES {
-        return NamedChain::Refused(1);
+    if s.len() == CHAIN_BYTES {
+        return NamedChain::Chain(chain_at(s, 0));
     }
-    NamedChain::Chain(chain_at(s, 0))
+    NamedChain::Refused(1)
 }
 
 // What stands in the 32 bytes of a job, whatever it is.
 pub fn raw_job(s: &[u8]) -> JobAnswer
     ensures { λ r. ⌜ r ≡ rawJobOf (now (s .entry)) ⌝ }
 {
-    if s.len() != JOB_BYTES {
-        return JobAnswer::Refused(1);
+    if s.len() == JOB_BYTES {
+        return JobAnswer::Job(job_in(s));
     }
-    let window = Window {
-        corner: place_at(s, 0),
-        k: byte(s, 8),
-    };
-    let tolerance = four(s, 12);
-    let allowance = eight(s, 16);
-    JobAnswer::Job(Job {
-        window,
-        tolerance,
-        allowance,
-    })
+    JobAnswer::Refused(1)
 }
 
 // The job in 32 bytes.
@@ -192,23 +182,14 @@ pub fn job_of(s: &[u8]) -> JobAnswer
     if !job_zeros(s) {
         return JobAnswer::Refused(2);
     }
-    let window = Window {
-        corner: place_at(s, 0),
-        k: byte(s, 8),
-    };
-    if !search::is_window(window) {
+    let j = job_in(s);
+    if !search::is_window(j.window) {
         return JobAnswer::Refused(6);
     }
-    let tolerance = four(s, 12);
-    if tolerance > MOST_TOLERANCE {
+    if j.tolerance > MOST_TOLERANCE {
         return JobAnswer::Refused(7);
     }
-    let allowance = eight(s, 16);
-    JobAnswer::Job(Job {
-        window,
-        tolerance,
-        allowance,
-    })
+    JobAnswer::Job(j)
 }
 
 fn gathered(s: &[u8]) -> RawRecord
@@ -420,6 +401,23 @@ fn place_at(s: &[u8], at: usize) -> Place
     Place {
         easting: four(s, at),
         northing: four(s, at + 4),
+    }
+}
+
+fn job_in(s: &[u8]) -> Job
+    requires { ⌜ length (now s) ≡ jobBytes ⌝ }
+    ensures { λ r. ⌜ r ≡ jobIn (now (s .entry)) ⌝ }
+{
+    let window = Window {
+        corner: place_at(s, 0),
+        k: byte(s, 8),
+    };
+    let tolerance = four(s, 12);
+    let allowance = eight(s, 16);
+    Job {
+        window,
+        tolerance,
+        allowance,
     }
 }
 

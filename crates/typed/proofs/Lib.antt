@@ -2,3 +2,8 @@
 mod Scans
 mod Values
 mod Lines
+pub mod WordLaws
+pub mod NumberLaws
+mod Held
+pub mod HeldRecords
+pub mod Fields

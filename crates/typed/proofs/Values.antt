@@ -9,7 +9,7 @@ use borrow.Author.Tests.{ltb-false, lt-ltb, le-ltb, leb-true, leb-false}
 use lib.Dec.{leb, ltb}
 use lib.ListN.{length, getD, drop, drop-of-length-le}
 use lib.Seq.{drop-cons}
-use Rattle.text.specs.Texts.{numeralFrom, numeral}
+use Rattle.text.specs.Texts.{numeralFrom}
 use Rattle.typed.specs.declared.Sized.{Sized}
 use Rattle.typed.specs.declared.Sized.the-variants.{Value, Large}
 use Rattle.typed.specs.Numbers.{fits, held}

@@ -7,16 +7,16 @@ use borrow.Author.Needs.{needs}
 use Rattle.records.proofs.raw_chain.Statement.{statement}
 use Rattle.records.proofs.raw_chain.Tie as tie
 
-returns : tie.Need-returns
-unfolding rawChainOf
-returns c = rw (ne-eqb _ _ (c .if1 .taken))
-
 chain-at-requires : tie.Need-chain-at-requires
 chain-at-requires c κs = search needs
 
+returns : tie.Need-returns
+unfolding rawChainOf
+returns c = rw (eq-eqb _ _ (c .before .if1 .taken)) (ap Chain (c .chain-at .ensures))
+
 returns-2 : tie.Need-returns-2
 unfolding rawChainOf
-returns-2 c = rw (eq-eqb _ _ (c .before .if1 .left)) (ap Chain (c .chain-at .ensures))
+returns-2 c = rw (ne-eqb _ _ (c .if1 .left))
 
 pub raw-chain-spec : {M : Type 1} → statement M
-raw-chain-spec = tie.close (tie.spec returns chain-at-requires returns-2)
+raw-chain-spec = tie.close (tie.spec chain-at-requires returns returns-2)

@@ -1,0 +1,1070 @@
+#!/usr/bin/env python3
+"""Runs of the desk's tools, and what must come of each, worked out from docs/FORMATS.md and document 01 in whole numbers and
+exact fractions.
+
+    tools.py cases FOLDER          writes the runs that have a reason, a folder each
+    tools.py random SEED FOLDER    writes 300 at random
+    tools.py judge FOLDER          compares what came of each run with what must, and prints how many things were compared
+
+A run has its folder `files`, in which it takes place, and its `tool`, `arguments` (a zero byte behind each) and `input`; it
+leaves `printed`, `said` and `status`. What must come of it stands in `wanted` (what is printed; no such file where help is),
+`refusals` (line and number, the line 0 where none is named) and the folder `after`.
+"""
+import random
+import re
+import struct
+import sys
+from fractions import Fraction
+from itertools import islice
+from math import inf, isfinite, isqrt, nextafter
+from pathlib import Path
+from typing import NamedTuple
+
+EAST, NORTH = 100_000_000, 1_000_000_000
+SIZE = 1_000_000_000
+# a line with its newline
+LONGEST = 65_535
+
+
+class Run(NamedTuple):
+    """A tool with what it is given; the files are those of the folder, by name. Why it is tried is told where it fails."""
+
+    tool: str
+    arguments: list = []
+    text: bytes = b""
+    files: dict = {}
+    why: str = ""
+
+
+class Outcome(NamedTuple):
+    """What is printed (None for help), what is refused as pairs of line and number, and the files afterwards."""
+
+    files: dict
+    printed: bytes = b""
+    refusals: list = []
+
+
+class Refusal(Exception):
+    def __init__(self, number):
+        super().__init__(number)
+        self.number = number
+
+
+def refuse(number, wrong):
+    if wrong:
+        raise Refusal(number)
+
+
+# Words and lines
+
+WORD = re.compile(rb"[^ \t\r]+")
+NUMBER = re.compile(rb"[0-9]+")
+READING = re.compile(rb"-?[0-9]+")
+
+
+def value(word):
+    """What a word says. More than 40 digits are past every limit, and so is 10^40."""
+    digits = word.lstrip(b"-").lstrip(b"0")
+    size = 10**40 if len(digits) > 40 else int(digits or b"0")
+    return -size if word.startswith(b"-") else size
+
+
+def values(line, shapes):
+    words = WORD.findall(line)
+    refuse(12, len(words) != len(shapes))
+    refuse(12, not all(shape.fullmatch(word) for shape, word in zip(shapes, words)))
+    return [value(word) for word in words]
+
+
+def lines_in(text):
+    """The lines without their newlines; None, and no more, for one that is too long or has no newline."""
+    while text:
+        line, newline, text = text.partition(b"\n")
+        if not newline or len(line + newline) > LONGEST:
+            yield None
+            return
+        yield line
+
+
+def line_of(arguments):
+    """The arguments as one line: each is a word of it."""
+    line = b" ".join(arguments)
+    refuse(12, not all(WORD.fullmatch(argument) for argument in arguments))
+    refuse(12, len(line + b"\n") > LONGEST)
+    return line
+
+
+def taken(lines, bytes_of):
+    """The bytes of the lines that are accepted, in one, and the refusals of the others."""
+    accepted, refusals = [], []
+    for at, line in enumerate(lines, 1):
+        try:
+            refuse(12, line is None)
+            accepted.append(bytes_of(at, line))
+        except Refusal as refusal:
+            refusals.append((at, refusal.number))
+    return b"".join(accepted), refusals
+
+
+# Places, chains, windows, metres
+
+
+def in_range(east, north):
+    return 0 <= east <= EAST and 0 <= north <= NORTH
+
+
+def stations(numbers):
+    return list(zip(numbers[0::2], numbers[1::2]))
+
+
+def is_sound(numbers):
+    places = stations(numbers)
+    return all(in_range(*place) for place in places) and len(set(places)) == 3
+
+
+def is_window(east, north, k):
+    return k <= 24 and in_range(east + 2**k - 1, north + 2**k - 1)
+
+
+def distance(p, q):
+    return isqrt((p[0] - q[0]) ** 2 + (p[1] - q[1]) ** 2)
+
+
+def metres(whole):
+    """The eight bytes. Python's quotient of two whole numbers is rounded once."""
+    return struct.pack("<d", whole / 100)
+
+
+def centimetres(eight):
+    """A tie goes to the even number; None where the number cannot be told."""
+    (x,) = struct.unpack("<d", eight)
+    if not isfinite(x) or abs(x) > 10_000_000:
+        return None
+    return round(Fraction(x) * 100)
+
+
+# From text to bytes
+
+
+def job_bytes(line):
+    east, north, k, tolerance, allowance = values(line, [NUMBER] * 5)
+    refuse(12, allowance >= 2**64)
+    refuse(6, not is_window(east, north, k))
+    refuse(7, tolerance > 100_000)
+    return struct.pack("<IIB3xIQ8x", east, north, k, tolerance, allowance)
+
+
+def chain_bytes(at, line):
+    numbers = values(line, [NUMBER] * 6)
+    refuse(1, at > 16)
+    refuse(5, not is_sound(numbers))
+    return struct.pack("<6I", *numbers)
+
+
+def record_bytes(at, line):
+    kind, chain, number, x, y = values(line, [NUMBER] * 3 + [READING] * 2)
+    refuse(12, number >= 2**32)
+    refuse(2, kind not in (1, 2, 3))
+    if kind == 3:
+        return struct.pack("<BxxxI24x", kind, number)
+    refuse(3, max(abs(x), abs(y)) > SIZE)
+    refuse(4, kind == 2 and not in_range(x, y))
+    refuse(5, kind == 1 and not 1 <= chain <= 16)
+    return struct.pack("<BBxxI", kind, chain if kind == 1 else 0, number) + metres(x) + metres(y) + bytes(8)
+
+
+def layjob(run):
+    return Outcome({**run.files, "job.dat": job_bytes(line_of(run.arguments))})
+
+
+def laychain(run):
+    refuse(12, run.arguments)
+    refuse(1, not run.text)
+    table, refusals = taken(islice(lines_in(run.text), 17), chain_bytes)
+    return Outcome(run.files if refusals else {**run.files, "chain.dat": table}, refusals=refusals)
+
+
+def laywrite(run):
+    log = run.files.get("lay.dat", b"")
+    refuse(1, len(log) % 32)
+    refuse(12, run.arguments)
+    records, refusals = taken(lines_in(run.text), record_bytes)
+    return Outcome(run.files if refusals or not records else {**run.files, "lay.dat": log + records}, refusals=refusals)
+
+
+# From bytes to text
+
+
+def layexpect(run):
+    chain, *place = values(line_of(run.arguments), [NUMBER] * 3)
+    table = run.files.get("chain.dat", b"")
+    refuse(1, not is_table(table))
+    refuse(4, not in_range(*place))
+    refuse(5, not 1 <= chain <= len(table) // 24)
+    numbers = struct.unpack_from("<6I", table, 24 * (chain - 1))
+    refuse(5, not is_sound(numbers))
+    master, *slaves = (distance(place, station) for station in stations(numbers))
+    lines = [expected_line(name, slave - master) for name, slave in zip("AB", slaves)]
+    return Outcome(run.files, text_of(lines))
+
+
+def is_table(s):
+    return len(s) % 24 == 0 and 1 <= len(s) // 24 <= 16
+
+
+def expected_line(name, reading):
+    if abs(reading) > SIZE:
+        return f"{name} {reading} REFUSED 3"
+    sign = "-" if reading < 0 else ""
+    whole, hundredths = divmod(abs(reading), 100)
+    return f"{name} {reading} {sign}{whole}.{hundredths:02} {metres(reading).hex()}"
+
+
+def text_of(lines):
+    return "".join(line + "\n" for line in lines).encode()
+
+
+def layshow(run):
+    refuse(12, run.arguments)
+    job, table, log = (run.files.get(name, b"") for name in ("job.dat", "chain.dat", "lay.dat"))
+    records = [log[at : at + 32] for at in range(0, len(log), 32)]
+    return Outcome(run.files, text_of([job_line(job), *chain_lines(table), *map(log_line, records)]))
+
+
+def shown(words, refusal, s):
+    """The words of a record; behind them, where it is refused, the number and the bytes, if there are any."""
+    behind = ["REFUSED", refusal, s.hex()] if refusal else []
+    return " ".join(str(word) for word in words + behind if word != "")
+
+
+def job_line(s):
+    if len(s) != 32:
+        return shown(["JOB"], 1, s[:33])
+    numbers = struct.unpack("<IIB3xIQ8x", s)
+    return shown(["JOB", *numbers], job_refusal(s, *numbers), s)
+
+
+def job_refusal(s, east, north, k, tolerance, allowance):
+    if any(s[9:12] + s[24:32]):
+        return 2
+    if not is_window(east, north, k):
+        return 6
+    return 7 if tolerance > 100_000 else 0
+
+
+def chain_lines(table):
+    if not is_table(table):
+        return [shown(["CHAIN"], 1, table[:385])]
+    chains = [table[at : at + 24] for at in range(0, len(table), 24)]
+    return [chain_line(number, s) for number, s in enumerate(chains, 1)]
+
+
+def chain_line(number, s):
+    numbers = struct.unpack("<6I", s)
+    return shown(["CHAIN", number, *numbers], 0 if is_sound(numbers) else 5, s)
+
+
+def log_line(s):
+    if len(s) != 32:
+        return shown(["LOG"], 1, s)
+    kind, chain, line = struct.unpack("<BBxxI", s[:8])
+    numbers = centimetres(s[8:16]), centimetres(s[16:24])
+    told = ["-" if number is None else number for number in numbers]
+    return shown(["LOG", kind, chain, line, *told], log_refusal(s, kind, numbers), s)
+
+
+def log_refusal(s, kind, numbers):
+    """Of a record by itself: whether its chain is in the table, and what it holds, is not told."""
+    unused = {1: s[24:], 2: s[1:2] + s[24:], 3: s[1:2] + s[8:]}
+    if kind not in unused or any(s[2:4] + unused[kind]):
+        return 2
+    if None in numbers:
+        return 3
+    return 4 if kind == 2 and not in_range(*numbers) else 0
+
+
+TOOLS = {tool.__name__: tool for tool in (layjob, laychain, laywrite, layexpect, layshow)}
+FILES = {
+    "layjob": ["job.dat"],
+    "laychain": ["chain.dat"],
+    "laywrite": ["lay.dat"],
+    "layexpect": ["chain.dat"],
+    "layshow": ["job.dat", "chain.dat", "lay.dat"],
+}
+
+
+def outcome(run):
+    if run.arguments[:1] == [b"--help"]:
+        return Outcome(run.files, None)
+    try:
+        return TOOLS[run.tool](run)
+    except Refusal as refusal:
+        return Outcome(run.files, refusals=[(0, refusal.number)])
+
+
+# Runs that have a reason. First 01's example as text and as bytes, and what may stand in a folder before.
+
+JOB = [30000, 40000, 1, 0, 100]
+CHAIN = [0, 0, 30000, 0, 0, 40000]
+RECORDS = [1, 1, 1, -10000, -20000], [2, 0, 2, 30001, 40000], [3, 0, 3, 0, 0]
+THREE = {
+    "job.dat": bytes.fromhex("30750000 409c0000 01 000000 00000000 6400000000000000 0000000000000000"),
+    "chain.dat": bytes.fromhex("00000000 00000000 30750000 00000000 00000000 409c0000"),
+    "lay.dat": bytes.fromhex(
+        "01 01 0000 01000000 00000000000059c0 00000000000069c0 0000000000000000"
+        "02 00 0000 02000000 5c8fc2f528c07240 0000000000007940 0000000000000000"
+        "03 00 0000 03000000 0000000000000000 0000000000000000 0000000000000000"
+    ),
+}
+OUTER = [EAST, NORTH, 0, NORTH, EAST, 0]
+OLD = {
+    "job.dat": b"a job that is no job, and longer than one",
+    "chain.dat": struct.pack("<6I", *OUTER) * 2,
+    "lay.dat": bytes(range(32)) * 3,
+    "notes": b"a file that is none of the desk's\n",
+}
+
+# Words that are no number, and that are no reading either. The bytes next to the digits are among them.
+NO_WORDS = [
+    *(b"+1", b"--1", b"-", b"1-", b"1.5", b"1.", b".5", b"1e3", b"0x10", b"1,000", b"1_000", b"a", b"1a", b"a1", b"NaN"),
+    *(b"1\x0b", b"\x0c1", b"/", b":", b"1/", b":1", b'"1"', b"\x7f1", b"\xb2", b"1\xff", b"\x80", b"\xb1"),
+    *("\u22121".encode(), "\uff11".encode(), "1\u00a0".encode(), "\u0661".encode()),
+]
+NO_READINGS = [b"-+1", b"-1-", b"-a", b"-1.5", b"-0x1", b"-\xb2", b"1\x00", b"\x001", b"-\x00"]
+NO_NUMBERS = [b"-0", b"-1", b"-00", b"-30000"]
+
+
+def words(values):
+    return [word if isinstance(word, bytes) else str(word).encode() for word in values]
+
+
+def line(values):
+    return b" ".join(words(values)) + b"\n"
+
+
+def lines(many):
+    return b"".join(map(line, many))
+
+
+def instead(values, at, other):
+    return [*values[:at], other, *values[at + 1 :]]
+
+
+def larger(number, least=31):
+    """Numbers that pass for a number where only so many of their bits, or more, are kept; and some of 30 and of 300 digits."""
+    kept = [number + 2**bits for bits in (8, 16, 31, 32, 63, 64, 128) if bits >= least]
+    return [*kept, 10**29 + 1, 10**30 - 1, 10**299 + 1, 10**300 - 1]
+
+
+def grouped(many, size):
+    many = list(many)
+    return [many[at : at + size] for at in range(0, len(many), size)]
+
+
+def to_job(values, why, files=OLD):
+    return Run("layjob", words(values), files=files, why=why)
+
+
+def to_table(text, why, files=OLD):
+    return Run("laychain", text=text, files=files, why=why)
+
+
+def to_log(text, why, log=THREE["lay.dat"]):
+    """A log of None is missing."""
+    return Run("laywrite", text=text, files=OLD | {"lay.dat": log} if log is not None else {}, why=why)
+
+
+def accepted(run):
+    """A run that would show nothing if it were refused."""
+    assert not outcome(run).refusals, run
+    return run
+
+
+def refused(run):
+    """One that would show less if a line of it were accepted."""
+    assert len(outcome(run).refusals) == run.text.count(b"\n"), run
+    return run
+
+
+def examples():
+    """01's example from nothing."""
+    for files in {}, THREE, OLD:
+        yield accepted(to_job(JOB, "01's job", files))
+        yield accepted(to_table(line(CHAIN), "01's chain", files))
+    for log in None, b"", THREE["lay.dat"]:
+        yield accepted(to_log(lines(RECORDS), "01's log", log))
+        yield accepted(to_log(b"", "no line", log))
+    yield to_table(b"", "no line")
+    yield to_table(b"", "no line", {})
+    for place in [30000, 40000], [30001, 40000], [30000, 40001], [1, 1]:
+        yield expecting([1, *place], "01's places")
+    yield Run("layshow", files=THREE, why="01's example")
+
+
+# Arguments
+
+
+def arguments():
+    """For every tool what is no argument of any; standard input has what the tool would take."""
+    spoilt = [b""], [b" "], [b"\t"], [b"\r"], [b"\n"], [b"--"], [b"-"], [b"-h"], [b"--version"], [b"help"], [b"\xff"]
+    near = [b"--help "], [b" --help"], [b"--hel"], [b"--helps"], [b"-help"], [b"--HELP"], [b"", b"--help"], [b"x", b"--help"]
+    helps = [b"--help"], [b"--help", b"--help"], [b"--help", b""], [b"--help", b"1", b"30000", b"40000"], [b"--help", b"\xff "]
+    for tool, text in zip(TOOLS, (b"", line(CHAIN), lines(RECORDS), b"", b"")):
+        for given in (*spoilt, *near, *helps):
+            yield Run(tool, list(given), text, THREE, "arguments that are none")
+        yield Run(tool, [b"--help"], b"no line of any", {}, "help needs no file")
+        yield Run(tool, [b"0" * 100_000], text, THREE, "a long argument")
+
+
+def counts():
+    """Too few and too many arguments, and some that are none among those that would be right."""
+    for tool, right in ("layjob", words(JOB)), ("layexpect", [b"1", b"30000", b"40000"]):
+        for n in range(len(right) + 3):
+            yield Run(tool, (right * 2)[:n], files=THREE, why="how many arguments")
+        for at in range(len(right) + 1):
+            for none in b"", b" ":
+                yield Run(tool, [*right[:at], none, *right[at:]], files=THREE, why="one more, which is no word")
+        yield Run(tool, [b" ".join(right)], files=THREE, why="all words in one argument")
+        yield Run(tool, [b" ".join(right[:2]), *right[2:]], files=THREE, why="two words in one argument")
+        yield Run(tool, [*right, b"--help"], files=THREE, why="help behind the others")
+        for blank in b" ", b"\t", b"\r", b"\n":
+            yield Run(tool, [right[0] + blank, *right[1:]], files=THREE, why="a blank behind a word")
+            yield Run(tool, [*right[:-1], blank + right[-1]], files=THREE, why="a blank before a word")
+        for length in LONGEST - 1, LONGEST, LONGEST + 1:
+            yield Run(tool, spread(right, length), files=THREE, why=f"arguments of a line of {length} bytes")
+    for tool, text in ("laychain", line(CHAIN)), ("laywrite", lines(RECORDS)), ("layshow", b""):
+        yield Run(tool, words(JOB), text, OLD, "arguments where there are none")
+
+
+def spread(right, length):
+    """Spare zeros in front of every word, so that the line, with its newline, has this length."""
+    share = (length - len(b" ".join(right) + b"\n")) // len(right)
+    longer = [b"0" * share + word for word in right]
+    longer[0] = b"0" * (length - len(b" ".join(longer) + b"\n")) + longer[0]
+    return longer
+
+
+# Jobs
+
+
+def jobs():
+    far, all_bits = [0, 0, 0, 0, 0], 2**64 - 1
+    for job in far, [EAST, NORTH, 0, 100_000, all_bits], [*JOB[:4], 0], [b"030000", b"0000040000", b"01", b"000", b"00100"]:
+        yield accepted(to_job(job, "jobs at their ends, and spare zeros"))
+    for k in 23, 24, 25, 26, 31, 32, 63, 64, 65, 255:
+        yield to_job([30000, 40000, k, 0, 100], "exponents")
+    for k in 0, 1, 24:
+        for short in 0, 1, 2**k - 1, 2**k:
+            yield to_job([EAST - short, 5, k, 0, 100], "windows at the eastern edge")
+            yield to_job([5, NORTH - short, k, 0, 100], "windows at the northern edge")
+    for corner in [EAST + 1, 0], [0, NORTH + 1], [2**32 - 1, 0], [0, 2**32 - 1], [2**32 - 1, 2**32 - 1]:
+        yield to_job([*corner, 0, 0, 100], "corners out of range")
+        yield to_job([*corner, 1, 0, 100], "corners out of range")
+    for tolerance in 99_999, 100_000, 100_001, 2**31, 2**32 - 1:
+        yield to_job(instead(JOB, 3, tolerance), "tolerances")
+    for allowance in 2**32 - 1, 2**32, 2**63, all_bits - 1, all_bits, all_bits + 1, b"0" * 50 + b"18446744073709551615":
+        yield to_job(instead(JOB, 4, allowance), "allowances")
+    for at, number in enumerate(JOB):
+        for other in larger(number, 8):
+            yield to_job(instead(JOB, at, other), "numbers too large for their field")
+
+
+def bad_jobs():
+    """Words of another form, each in one of the fields, then two things wrong at once: 12 is first, 6 before 7."""
+    for at, word in enumerate([word for word in NO_WORDS + NO_NUMBERS + NO_READINGS if b"\0" not in word]):
+        yield to_job(instead(JOB, at % 5, word), "a word that is no number")
+    for at in range(5):
+        yield to_job(instead(JOB, at, b"-1"), "a number below nought")
+        yield to_job(instead(JOB, at, b"1x"), "a word that is no number")
+    for k, tolerance, allowance in (25, 100_001, 100), (25, 0, 2**64), (1, 100_001, 2**64), (25, 100_001, b"x"):
+        yield to_job([30000, 40000, k, tolerance, allowance], "several refusals at once")
+    yield to_job([EAST + 1, 0, 0, 100_001, 1], "several refusals at once")
+    yield to_job([b"x", 0, 25, 0, 1], "several refusals at once")
+    yield to_job(instead(JOB, 2, 25), "nothing is written", {})
+    yield to_job([*JOB, 1], "nothing is written", {})
+
+
+# Tables
+
+
+def tables():
+    many = [[i, 2 * i, 30000 + i, i, 7 * i, 40000 + i] for i in range(1, 18)]
+    for n in 1, 2, 15, 16, 17:
+        yield to_table(lines(many[:n]), f"{n} chains")
+        yield to_table(lines(many[:n]), f"{n} chains", {})
+    yield to_table(lines(many[:16]), "a table in place of nothing", {"chain.dat": b""})
+    # the seventeenth line is the last that is told, whatever comes behind it; its form and then the table's length decide
+    for last in lines(many[:1]), b"\n", b"x\n", b"1 2 3 4 5 6", line([0] * 6), b"1" * 70_000:
+        yield to_table(lines(many[:16]) + last, "a seventeenth line")
+        yield to_table(lines(many[:16]) + last + b"x\nx\n", "a seventeenth line, with others behind it")
+    yield to_table(b"x\n" + lines(many[:15]) + b"y\nz\n", "refused lines up to the seventeenth")
+    yield to_table(b"\n" * 40, "empty lines up to the seventeenth")
+    yield to_table(lines([CHAIN, [0] * 6, CHAIN, [b"x"] * 6, instead(CHAIN, 0, EAST + 1)]), "one chain sound, one not")
+
+
+def chains():
+    sound = [CHAIN, OUTER, [0, 0, 0, 1, 1, 0], [EAST, 0, 0, NORTH, 0, 0], [b"00", b"000", b"0030000", b"0", b"0", b"040000"]]
+    sound += [[5, 6, 6, 5, 5, 5], [EAST, NORTH, EAST - 1, NORTH, EAST, NORTH - 1]]
+    yield accepted(to_table(lines(sound), "sound chains"))
+    equal = [0, 0, 0, 0, 0, 40000], [0, 0, 30000, 0, 0, 0], [0, 0, 30000, 0, 30000, 0], [7] * 6
+    beyond = [instead(CHAIN, at, limit + 1) for at, limit in enumerate([EAST, NORTH] * 3)]
+    beyond += [instead(CHAIN, at, 2**32 - 1) for at in range(6)] + [instead(OUTER, at, NORTH + 1) for at in range(6)]
+    huge = [instead(CHAIN, at, other) for at in range(6) for other in larger(CHAIN[at])]
+    for few in grouped([*equal, *beyond, *huge], 16):
+        yield refused(to_table(lines(few), "chains that are not sound"))
+    spoilt = [instead(CHAIN, at % 6, word) for at, word in enumerate(NO_WORDS + NO_NUMBERS + NO_READINGS)]
+    short = [CHAIN[:n] for n in range(6)] + [CHAIN + [0], CHAIN + [0] * 6]
+    both = [[0, 0, 0, 0, 0, b"x"], [b"x", 0, EAST + 1, 0, 0, 0]]
+    for few in grouped([*spoilt, *short, *both], 16):
+        yield refused(to_table(lines(few), "lines that are no chain"))
+    yield to_table(lines([CHAIN, OUTER, CHAIN + [b"x"]]), "nothing is written", {})
+
+
+# Logs
+
+
+def numbers_of_records():
+    """Records that are accepted, at the ends of their fields."""
+    for chain in 1, 2, 15, 16:
+        yield [1, chain, 1, -10000, -20000]
+    for number in 0, 1, 255, 256, 65535, 65536, 2**31, 2**32 - 2, 2**32 - 1:
+        for kind in 1, 2, 3:
+            yield [kind, 1, number, 5, 6]
+    for size in 0, 1, 5, 7, 10, 99, 100, 101, 12345, 2**29 + 1, 999_999_999, SIZE:
+        yield [1, 1, 1, size, -size]
+        yield [1, 1, 1, -size, size]
+    for place in [0, 0], [EAST, NORTH], [0, NORTH], [EAST, 0], [b"-0", b"-000"]:
+        yield [2, 0, 2, *place]
+    yield [1, 1, 1, b"-0", b"-00"]
+    yield [b"01", b"0016", b"00004294967295", b"-0001", b"00000000000001000000000"]
+    # what a kind does not use may say anything
+    for chain in 0, 1, 17, 256, 10**30, 10**300:
+        yield [2, chain, 2, 30001, 40000]
+        yield [3, chain, 3, 30001, 40000]
+    for x in -1, SIZE + 1, -SIZE - 1, 2**64, -(2**64), 10**300, -(10**300):
+        yield [3, 0, 3, x, 0]
+        yield [3, 0, 3, 0, x]
+
+
+def refused_records():
+    """A number for each field past its limit, then several at once: by the number of the refusal, 12 first."""
+    for kind in 0, 4, 5, 255, *larger(1, 8), *larger(2, 8), *larger(3, 8):
+        yield [kind, 1, 1, 5, 6]
+    for chain in 0, 17, 18, 255, *larger(1, 8), *larger(16, 8):
+        yield [1, chain, 1, 5, 6]
+    for number in 2**32, 2**32 + 1, *larger(2**32):
+        for kind in 1, 2, 3:
+            yield [kind, 1, number, 5, 6]
+    for x in SIZE + 1, 2**31, *larger(5), *larger(2**32):
+        for kind in 1, 2:
+            yield from ([kind, 1, 1, x, 6], [kind, 1, 1, -x, 6], [kind, 1, 1, 5, x], [kind, 1, 1, 5, -x])
+    for place in [EAST + 1, 0], [0, NORTH + 1], [-1, 0], [0, -1], [SIZE, SIZE], [-SIZE, -SIZE], [0, -SIZE]:
+        yield [2, 0, 2, *place]
+    yield from ([0, 0, 2**32, 0, 0], [0, 0, 1, SIZE + 1, 0], [1, 0, 1, SIZE + 1, 0], [1, 0, 2**32, SIZE + 1, 0])
+    yield from ([2, 0, 1, -1, SIZE + 1], [2, 0, 1, EAST + 1, -SIZE - 1], [2, 0, 1, -1, b"x"], [9, 9, b"x", 9, 9])
+    yield from ([1, 0, 1, 0, b"--1"], [10**30, 10**30, 10**30, 10**30, 10**30], [4, 17, 1, SIZE + 1, SIZE + 1])
+
+
+def spoilt_records():
+    for word in NO_WORDS + NO_READINGS:
+        yield from (instead(RECORDS[0], at, word) for at in range(5))
+    for word in NO_NUMBERS:
+        yield from (instead(RECORDS[2], at, word) for at in range(3))
+    yield from (RECORDS[0][:n] for n in range(5))
+    yield from (RECORDS[0] + [0], RECORDS[0] * 2, RECORDS[2][:3], [b"LOG", *RECORDS[0]])
+
+
+def logs():
+    good = lines(numbers_of_records())
+    yield accepted(to_log(good, "records at the ends of their fields"))
+    yield accepted(to_log(good, "records at the ends of their fields", None))
+    yield refused(to_log(lines(refused_records()), "records that are refused"))
+    yield refused(to_log(lines(spoilt_records()), "lines that are no record"))
+    yield to_log(good + lines(refused_records()) + good + lines(spoilt_records()), "good lines among others")
+    for bad in line([4, 0, 1, 0, 0]), b"\n", b"x", b"1 1 1 0 0":
+        yield to_log(bad + good, "the first line is refused")
+        yield to_log(good + bad, "the last line is refused")
+        yield to_log(good + bad, "the last line is refused", None)
+    for length in 0, 1, 31, 32, 33, 63, 64, 65, 4096, 65_536, 65_537, 131_071:
+        log = (bytes(range(256)) * 512)[:length]
+        yield to_log(lines(RECORDS), f"a log of {length} bytes", log)
+    for text in b"", b"x\n", b"x", b"1" * 70_000:
+        yield to_log(text, "a short last record is told before anything is read", OLD["lay.dat"] + b"\1")
+
+
+# Blanks, and how lines end
+
+
+def blanks():
+    for tool, right in ("laychain", CHAIN), ("laywrite", RECORDS[0]):
+        first = line(right)
+        plain = words(right)
+        kinds = b" ", b"\t", b"\r", b"  ", b" \t\r ", b"\r\r", b"\t" * 9
+        good = [blank.join(plain) + b"\n" for blank in kinds] + [blank + first for blank in kinds]
+        good += [first[:-1] + blank + b"\n" for blank in kinds[:2]]
+        yield accepted(Run(tool, text=b"".join(good), files=THREE, why="blanks"))
+        yield accepted(Run(tool, text=first.replace(b"\n", b"\r\n") * 3, files=THREE, why="carriage returns before newlines"))
+        none = [b"", b" ", b"\t", b"\r", b" \t \r", b"\r" + first[:-2] + b" x", b"\v".join(plain), b"\0".join(plain)]
+        none += [b",".join(plain), "\u00a0".encode().join(plain), b"\0", first[:-1] + b"\0", first[:-1] + b" \0"]
+        none += ["\ufeff".encode() + first[:-1]]
+        yield refused(Run(tool, text=b"\n".join(none) + b"\n", files=THREE, why="lines without the words"))
+        for end in b"", b" ", b"\r", b"\t ", b"\0", b"1", b"\r\n\r", b"\n\n":
+            yield Run(tool, text=first * 2 + first[:-1] + end, files=THREE, why="how the last line ends")
+            yield Run(tool, text=first[:-1] + end, files={}, why="how the only line ends")
+        for alone in b"\n", b" ", b"\0", b"\n\n", first.replace(b"\n", b"\r"), first.replace(b" ", b"\n"):
+            yield Run(tool, text=alone, files=THREE, why="lines that are nothing much")
+
+
+# Long lines and long texts
+
+
+def stretched(right, length, how):
+    """The line with its newline, of so many bytes by blanks or spare zeros."""
+    first = line(right)
+    more = length - len(first)
+    return {
+        "front": b" " * more + first,
+        "behind": first[:-1] + b"\t" * more + b"\n",
+        "between": first.replace(b" ", b" " * (more + 1), 1),
+        "zeros": b"0" * more + first,
+        "digits": first[:-1] + b"1" * more + b"\n",
+    }[how]
+
+
+def long_lines():
+    for tool, right in ("laychain", CHAIN), ("laywrite", [3, 0, 3, 0, 1]):
+        first = line(right)
+        for how in "front", "behind", "between", "zeros":
+            for length in LONGEST - 1, LONGEST, LONGEST + 1, 3 * LONGEST:
+                long = stretched(right, length, how)
+                yield Run(tool, text=long, files=THREE, why=f"{how}: a line of {length} bytes")
+                yield Run(tool, text=first + long + first, files=THREE, why=f"{how}: a second line of {length} bytes")
+        for length in LONGEST, LONGEST + 1:
+            long = b"x" * (length - 1) + b"\n"
+            yield Run(tool, text=b"x\n" + long + b"x\nx\n", files=THREE, why=f"only the last long line ends it: {length} bytes")
+            yield Run(tool, text=first * 9 + stretched(right, length, "digits") + b"x\n", files=THREE, why="long numbers")
+            yield Run(tool, text=b" " * (length - 1) + b"\nx\n", files=THREE, why=f"a blank line of {length} bytes")
+        for length in LONGEST - 1, LONGEST, LONGEST + 1, 70_000, 2 * LONGEST, 131_072:
+            yield Run(tool, text=b"0" * length, files=THREE, why=f"{length} bytes without a newline")
+            yield Run(tool, text=first + b" " * length, files=THREE, why=f"{length} blanks without a newline")
+        yield accepted(Run(tool, text=stretched(right, LONGEST, "front") * 5, files=THREE, why="five of the longest lines"))
+    yield accepted(to_table(stretched(CHAIN, 5000, "between") * 16, "a table of 80,000 bytes"))
+    yield to_table(stretched(CHAIN, 5000, "between") * 17, "a table of 85,000 bytes")
+    yield accepted(to_table(stretched(CHAIN, LONGEST, "zeros") * 16, "a table of a million bytes"))
+
+
+def filled(length, right):
+    """Lines of that many bytes in all."""
+    text = line(right) * ((length - 100) // len(line(right)))
+    return text + stretched(right, length - len(text), "front")
+
+
+def edges():
+    """A record's line cut at each of its places by the end of what is read at a time; texts that end about there."""
+    tail = lines([[1, 16, 77, -10000, -20000], [2, 0, 78, 30001, 40000]])
+    for edge, step in (65_536, 1), (131_072, 5):
+        for before in range(0, 24, step):
+            yield accepted(to_log(filled(edge - before, RECORDS[1]) + tail, f"a line {before} bytes before {edge}"))
+        for length in range(edge - 2, edge + 3):
+            yield accepted(to_log(filled(length, RECORDS[0]), f"a text of {length} bytes"))
+            yield to_log(filled(length, RECORDS[0])[:-1], f"a text of {length} bytes without its last newline")
+            yield to_log(filled(length, RECORDS[0]) + b"\n", f"a text of {length} bytes and an empty line")
+
+
+def long_texts():
+    many = [[1 + i % 3, 1 + i % 16, i, i * 9973 % EAST, i * 99_991 % NORTH] for i in range(8_000)]
+    yield accepted(to_log(lines(many), "8,000 lines"))
+    yield accepted(to_log(lines(many), "8,000 lines, and no log before", None))
+    yield to_log(lines(many) + b"4 0 0 0 0\n", "8,000 lines and one that is refused")
+    yield to_log(b"0 0 0 0 0\n" + lines(many), "8,000 lines behind one that is refused")
+    yield to_log(lines([i % 5, 1, i, i * 99_999, 5] for i in range(8_000)), "thousands of lines, many refused")
+    yield to_log(b"\n" * 1_000, "1,000 empty lines")
+
+
+# Expected readings
+
+
+def expecting(values, why, files=THREE):
+    return Run("layexpect", words(values), files=files, why=why)
+
+
+def of_chains(*chains):
+    return {"chain.dat": b"".join(struct.pack("<6I", *chain) for chain in chains)}
+
+
+def expected():
+    for place in *stations(CHAIN), *stations(OUTER), [29999, 0], [15000, 20000], [3, 4], [12345, 678]:
+        yield expecting([1, *place], "places")
+    near = of_chains([1000, 1000, 1000, 1005, 1007, 1000])
+    for place in [1000, 1000], [1000, 1005], [1007, 1000], [1000, 1002], [1000, 1003], [1003, 1000], [1003, 1003], [1004, 1000]:
+        yield expecting([1, *place], "readings of a few centimetres", near)
+    # the greatest reading that can be written, the next, and the same below nought
+    for east in 0, 1, 44_721, 44_722, 44_723, EAST:
+        yield expecting([1, 0, 0], "readings about 1,000,000,000", of_chains([0, 0, east, NORTH, 1, 0]))
+        yield expecting([1, 0, 0], "readings about 1,000,000,000", of_chains([0, 0, 1, 0, east, NORTH]))
+        yield expecting([1, east, NORTH], "readings about -1,000,000,000", of_chains([0, 0, east, NORTH, 7, NORTH]))
+    yield expecting([1, 0, 0], "both readings too large", of_chains([0, 0, EAST, NORTH, EAST - 1, NORTH]))
+    for place in [EAST + 1, 0], [0, NORTH + 1], *([x, 0] for x in larger(30000)), *([0, y] for y in larger(40000)):
+        yield expecting([1, *place], "places out of range")
+    for chain in 0, 2, 3, 17, *larger(1, 8):
+        yield expecting([chain, 30000, 40000], "chains that are not in the table")
+    for spoilt in [b"01", b"030000", b"000040000"], *(instead([1, 30000, 40000], at, b"-0") for at in range(3)):
+        yield expecting(spoilt, "spare zeros, and minus nought")
+    for at, word in enumerate([word for word in NO_WORDS if b"\0" not in word]):
+        yield expecting(instead([1, 30000, 40000], at % 3, word), "a word that is no number")
+
+
+def asked_tables():
+    """The chain that is asked for, and none beside it; then tables of other lengths, and what comes first."""
+    unsound = [0, 0, 0, 0, 0, 40000]
+    pair = of_chains(unsound, CHAIN)
+    for chain in 0, 1, 2, 3:
+        yield expecting([chain, 30000, 40000], "a chain that is not sound beside one that is", pair)
+    for chain in unsound, instead(CHAIN, 0, EAST + 1), instead(CHAIN, 3, NORTH + 1), [0, 0, 7, 7, 7, 7], [7, 0, 1, 1, 7, 0]:
+        yield expecting([1, 30000, 40000], "a chain that is not sound", of_chains(chain))
+    many = of_chains(*([i, 2 * i, 30000 + i, i, 7 * i, 40000 + i] for i in range(1, 18)))["chain.dat"]
+    for chain in 1, 2, 15, 16, 17:
+        yield expecting([chain, 30000, 40000], "one of 16 chains", {"chain.dat": many[:384]})
+    for length in 0, 1, 23, 24, 25, 383, 384, 385, 408:
+        yield expecting([1, 30000, 40000], f"a table of {length} bytes", {"chain.dat": many[:length]})
+    yield expecting([1, 30000, 40000], "no table", {})
+    yield expecting([1, EAST + 1, 0], "1 before 4", {"chain.dat": many[:25]})
+    yield expecting([1, b"x", 0], "12 before 1", {})
+    yield expecting([0, EAST + 1, 0], "4 before 5")
+    yield expecting([1, 0, NORTH + 1], "4 before 5", of_chains(unsound))
+    yield expecting([0, 0, b"-1"], "12 before 5")
+
+
+# What the files hold
+
+
+def showing(why, **files):
+    """By the stem of each file's name; those that are not given are 01's, and those of None are missing."""
+    named = THREE | {f"{name}.dat": s for name, s in files.items()}
+    return Run("layshow", files={name: s for name, s in named.items() if s is not None}, why=why)
+
+
+def as_job(east=30000, north=40000, k=1, tolerance=0, allowance=100, zeros=b"\0\0\0", last=bytes(8)):
+    return struct.pack("<IIB", east, north, k) + zeros + struct.pack("<IQ", tolerance, allowance) + last
+
+
+def with_byte(s, at, byte):
+    return s[:at] + bytes([byte]) + s[at + 1 :]
+
+
+def shown_jobs():
+    for at in 9, 10, 11, 24, 31:
+        for byte in 1, 128:
+            yield showing("a byte that must be zero", job=with_byte(THREE["job.dat"], at, byte))
+    for changes in (
+        *({"k": k} for k in (0, 24, 25, 255)),
+        *({"east": east, "k": k} for east in (EAST, EAST + 1, 2**32 - 1) for k in (0, 1)),
+        *({"north": north, "k": k} for north in (NORTH, NORTH + 1, 2**32 - 1) for k in (0, 1)),
+        *({"tolerance": t} for t in (100_000, 100_001, 2**32 - 1)),
+        *({"allowance": a} for a in (0, 2**32, 2**64 - 1)),
+        *({"k": 25, "tolerance": 100_001, "last": last} for last in (bytes(8), b"\1" + bytes(7))),
+        {"tolerance": 100_001, "zeros": b"\0\1\0"},
+        {"k": 24, "east": EAST - 2**24 + 1, "north": NORTH - 2**24 + 1},
+        {"k": 24, "east": EAST - 2**24 + 2},
+    ):
+        yield showing("jobs of 32 bytes", job=as_job(**changes))
+    yield showing("a job of 32 bytes", job=b"\xff" * 32)
+    for length in 0, 1, 31, 33, 34, 64, 100_000:
+        yield showing(f"a job of {length} bytes", job=(bytes(range(1, 256)) * 400)[:length])
+
+
+def shown_tables():
+    unsound = [0, 0, 0, 0, 0, 40000], [5, 6, 7, 8, 5, 6], [1, 1, 9, 9, 9, 9], [0] * 6, [2**32 - 1] * 6
+    beyond = [instead(CHAIN, at, limit + 1) for at, limit in enumerate([EAST, NORTH] * 3)]
+    for chains in [OUTER], [CHAIN, OUTER], unsound, beyond, [CHAIN, *unsound, OUTER, *beyond, CHAIN]:
+        yield showing("chains sound and not", chain=of_chains(*chains)["chain.dat"])
+    many = b"".join(struct.pack("<6I", i, 2 * i, 30000 + i, i, 7 * i, 40000 + i) for i in range(1, 5000))
+    for length in 0, 1, 23, 24, 25, 47, 48, 383, 384, 385, 386, 408, 70_000:
+        yield showing(f"a table of {length} bytes", chain=many[:length])
+
+
+def as_record(kind, first, second, chain=0, number=7, third=bytes(8), zeros=b"\0\0"):
+    """Numbers are floats, or the eight bytes."""
+    eights = [x if isinstance(x, bytes) else struct.pack("<d", x) for x in (first, second, third)]
+    return bytes([kind, chain]) + zeros + struct.pack("<I", number) + b"".join(eights)
+
+
+def pattern(bits):
+    return struct.pack("<Q", bits)
+
+
+QUIET, INFINITY, MINUS = 0x7FF8 << 48, 0x7FF0 << 48, 1 << 63
+NANS = [pattern(sign + bits) for sign in (0, MINUS) for bits in (QUIET, QUIET + 1, INFINITY + 1, MINUS - 1)]
+ODD = [*NANS, *(pattern(sign + bits) for sign in (0, MINUS) for bits in (INFINITY, 0, 1, 2**52))]
+ODD += [1e300, -1e300, 1e7, -1e7, nextafter(1e7, inf), -nextafter(1e7, inf), nextafter(1e7, 0.0), 1e7 + 1]
+TIES = [0.125, 0.375, 0.625, 0.875, 1.125, 0.005, 0.015, 0.025, 1.005, 300.01, 9_999_999.995, 4_999_999.125]
+PLACES = [-0.001, -0.01, -0.005, 1e6, 1_000_000.005, nextafter(1_000_000.005, 0.0), 1_000_000.01, 42_949_672.96, 9_999_999.99]
+
+
+def shown_numbers():
+    for x in ODD + TIES + [-x for x in TIES] + PLACES:
+        for kind in 0, 1, 2, 3, 4:
+            yield as_record(kind, x, 1.0)
+            yield as_record(kind, 1.0, x)
+    for x in ODD:
+        for kind in 1, 2, 3, 255:
+            yield as_record(kind, x, x, third=x)
+            yield as_record(kind, bytes(8), bytes(8), third=x)
+
+
+def shown_bytes():
+    """Records with each byte changed, some in two places; chains and line numbers of any size."""
+    for s in grouped(THREE["lay.dat"], 32):
+        for at in range(32):
+            for byte in 0, 1, 4, 127, 128, 255:
+                yield with_byte(bytes(s), at, byte)
+    for chain in 0, 1, 16, 17, 255:
+        yield from (as_record(kind, bytes(8), bytes(8), chain, 2**32 - 1) for kind in (1, 2, 3, 0))
+        yield as_record(1, pattern(QUIET), 2.0, chain)
+    yield as_record(2, 2e6, pattern(QUIET))
+    yield as_record(2, 2e6, pattern(INFINITY), zeros=b"\1\0")
+    yield as_record(1, pattern(QUIET), 2.0, zeros=b"\0\xff")
+    yield b"\xff" * 32
+    yield bytes(32)
+
+
+def shown_logs():
+    yield showing("numbers of every sort", lay=b"".join(shown_numbers()))
+    yield showing("bytes changed", lay=b"".join(shown_bytes()))
+    for length in 0, 1, 8, 31, 32, 33, 63, 95:
+        yield showing(f"a log of {length} bytes", lay=THREE["lay.dat"][:length])
+    mixed = b"".join(islice(shown_numbers(), 300)) * 20
+    for length in 65_504, 65_535, 65_536, 65_537, 65_567, 65_568, 131_072, 131_073, 192_000:
+        yield showing(f"a log of {length} bytes", lay=mixed[:length])
+    yield showing("a log of the longest lines", lay=b"\xff" * 131_080)
+    for missing in ["job"], ["chain"], ["lay"], ["job", "chain"], ["job", "chain", "lay"]:
+        yield showing("files that are missing", **dict.fromkeys(missing))
+        yield showing("files that are empty", **dict.fromkeys(missing, b""))
+
+
+def cases():
+    yield from examples()
+    yield from arguments()
+    yield from counts()
+    yield from (*jobs(), *bad_jobs())
+    yield from (*tables(), *chains())
+    yield from logs()
+    yield from (*blanks(), *long_lines(), *edges(), *long_texts())
+    yield from (*expected(), *asked_tables())
+    yield from (*shown_jobs(), *shown_tables(), *shown_logs())
+
+
+# Runs at random
+
+LIMITS = [0, 1, 2, 3, 4, 16, 17, 24, 25, 255, 256, 100_000, 100_001, EAST, EAST + 1, NORTH, NORTH + 1, 2**32 - 1, 2**32, 2**63]
+LIMITS += [2**64 - 1, 2**64, 10**30, 10**300]
+
+
+def drawn(draw, most, wild=0.0):
+    """A number up to a most, of any length; with the chance `wild`, one about some limit."""
+    if draw.random() < wild:
+        return max(0, draw.choice(LIMITS) + draw.choice((-1, 0, 0, 1)))
+    return draw.randint(0, min(most, 10 ** draw.randint(1, 20)))
+
+
+def drawn_job(draw, wild):
+    k = drawn(draw, 24, wild)
+    side = 2 ** min(k, 24) - 1
+    corner = [drawn(draw, EAST - side, wild), drawn(draw, NORTH - side, wild)]
+    return [*corner, k, drawn(draw, 100_000, wild), drawn(draw, 2**64 - 1, wild)]
+
+
+def drawn_place(draw, wild=0.0):
+    return [drawn(draw, EAST, wild), drawn(draw, NORTH, wild)]
+
+
+def drawn_chain(draw, wild):
+    places = [drawn_place(draw, wild) for _ in range(3)]
+    if draw.random() < wild:
+        places[draw.randrange(3)] = places[draw.randrange(3)]
+    return sum(places, [])
+
+
+def drawn_record(draw, wild):
+    kind = drawn(draw, 4, wild) if draw.random() < wild else draw.choice((1, 1, 2, 3))
+    sign = draw.choice((1, -1))
+    readings = [sign * drawn(draw, SIZE, wild), drawn(draw, SIZE, wild)]
+    chain = draw.randint(1, 16) if kind == 1 and draw.random() >= wild else drawn(draw, 17, wild)
+    return [kind, chain, drawn(draw, 2**32 - 1, wild), *(drawn_place(draw, wild) if kind == 2 else readings)]
+
+
+def drawn_words(draw, values, wild):
+    """The words of these numbers, with spare zeros in front of some; wildly, one is of another form, missing or too many."""
+    given = words(values)
+    for at in range(len(given)):
+        if draw.random() < 0.1:
+            zeros = b"0" * draw.choice((1, 2, 9, 400))
+            given[at] = b"-" + zeros + given[at][1:] if given[at].startswith(b"-") else zeros + given[at]
+    if draw.random() < wild:
+        at = draw.randrange(len(given))
+        spoilt = draw.choice(draw.choice((NO_WORDS, NO_READINGS, NO_NUMBERS)))
+        given[at : at + draw.randint(0, 1)] = draw.choice(([], [spoilt], [spoilt]))
+    return given
+
+
+def drawn_line(draw, values, wild):
+    """Its words with blanks of any sort between them."""
+    text = b"".join(word + draw.choice((b" ", b" ", b" ", b"\t", b"\r", b"  ")) for word in drawn_words(draw, values, wild))
+    return draw.choice((b"", b"", b" ")) + (text if draw.random() < 0.2 else text[:-1]) + b"\n"
+
+
+def is_accepted(bytes_of, text):
+    return not taken(lines_in(text), bytes_of)[1]
+
+
+def drawn_text(draw, values_of, bytes_of, most):
+    """Lines at random, half of the texts of accepted ones alone; a text may be cut at its end."""
+    wild = draw.choice((0.0, 0.02, 0.2))
+    many = [drawn_line(draw, values_of(draw, wild), wild) for _ in range(draw.randint(1, most))]
+    if draw.random() < 0.5:
+        many = [text for text in many if is_accepted(bytes_of, text)]
+    text = b"".join(many)
+    return text[: -draw.randint(1, 3)] if draw.random() < 0.05 else text
+
+
+def drawn_table(draw, wild=0.3):
+    numbers = sum((drawn_chain(draw, wild) for _ in range(draw.randint(1, 16))), [])
+    return struct.pack(f"<{len(numbers)}I", *(number % 2**32 for number in numbers))
+
+
+def drawn_bytes(draw):
+    """A log record of any sort: sound, with a byte changed, with numbers of any size, or of any bytes at all."""
+    kind, chain, number, x, y = drawn_record(draw, 0.0)
+    sound = record_bytes(1, line([kind, max(1, min(chain, 16)), number, x, y])[:-1])
+    return draw.choice((
+        sound,
+        sound,
+        with_byte(sound, draw.randrange(32), draw.randrange(256)),
+        as_record(draw.choice((1, 2)), draw.uniform(-2, 2) * 10 ** draw.randint(-3, 8), draw.random() * 1e7, number=number),
+        draw.randbytes(32),
+    ))
+
+
+def drawn_files(draw):
+    """The files as they may be found, some missing, some cut or too long."""
+    job = as_job(*(number % 2**bits for number, bits in zip(drawn_job(draw, 0.2), (32, 32, 8, 32, 64))))
+    log = b"".join(drawn_bytes(draw) for _ in range(draw.randint(0, 60)))
+    files = {"job.dat": job, "chain.dat": drawn_table(draw), "lay.dat": log}
+    for name in FILES["layshow"]:
+        if draw.random() < 0.1:
+            files[name] = (files[name] + draw.randbytes(9))[: draw.choice((0, 1, 23, 31, 33, -1, -7, 10_000))]
+        if draw.random() < 0.05:
+            del files[name]
+    return files
+
+
+def drawn_run(draw, tool):
+    files, wild = drawn_files(draw), draw.choice((0.0, 0.1))
+    if tool == "layjob":
+        return Run(tool, [word for word in drawn_words(draw, drawn_job(draw, wild), wild) if b"\0" not in word], files=files)
+    if tool == "laychain":
+        return Run(tool, text=drawn_text(draw, drawn_chain, chain_bytes, 18), files=files)
+    if tool == "laywrite":
+        return Run(tool, text=drawn_text(draw, drawn_record, record_bytes, 400), files=files)
+    if tool == "layexpect":
+        asked = [drawn(draw, 8, wild), *drawn_place(draw, wild)]
+        return Run(tool, [word for word in drawn_words(draw, asked, wild) if b"\0" not in word], files=files)
+    return Run(tool, files=files)
+
+
+def at_random(seed):
+    draw = random.Random(seed)
+    for tool, many in ("layjob", 40), ("laychain", 60), ("laywrite", 100), ("layexpect", 50), ("layshow", 50):
+        for _ in range(many):
+            yield drawn_run(draw, tool)._replace(why=f"at random, seed {seed}")
+
+
+# Runs and what came of them, in folders
+
+
+def put(folder, files):
+    folder.mkdir()
+    for name, content in files.items():
+        (folder / name).write_bytes(content)
+
+
+def write(folder, runs):
+    for at, run in enumerate(runs):
+        wanted = outcome(run)
+        given = {"tool": run.tool.encode(), "input": run.text, "why": run.why.encode()}
+        given["arguments"] = b"".join(argument + b"\0" for argument in run.arguments)
+        given["refusals"] = lines(wanted.refusals)
+        if wanted.printed is not None:
+            given["wanted"] = wanted.printed
+        put(folder / f"{at:04}_{run.tool}", given)
+        put(folder / f"{at:04}_{run.tool}" / "files", run.files)
+        put(folder / f"{at:04}_{run.tool}" / "after", wanted.files)
+
+
+def content(folder):
+    """The files of a folder by name, of whatever sort they are."""
+    return {path.name: path.read_bytes() if path.is_file() else None for path in folder.iterdir()}
+
+
+def compared(what, came, wanted):
+    """A pair for each line that must be there, and for each that must not: what it is, and whether it is so."""
+    came, wanted = came.split(b"\n"), wanted.split(b"\n")
+    if len(came) != len(wanted):
+        yield f"{what}: {len(came) - 1} lines, not {len(wanted) - 1}", False
+    for at, (one, other) in enumerate(zip(came, wanted), 1):
+        yield f"{what}, line {at}: {one[:200]!r}, not {other[:200]!r}", one == other
+
+
+def helped(tool, printed):
+    """Help is some lines of text that have the name of the tool and of each of its files."""
+    named = [tool, *FILES[tool]]
+    yield f"help: {printed[:200]!r}", re.fullmatch(rb"([ -~]*\n)+", printed) and all(name.encode() in printed for name in named)
+
+
+def refusals_said(tool, said):
+    """The lines of standard error as `refusals` has them; one of another form stands as it is."""
+    told = re.compile(rb"%s: (?:line ([1-9][0-9]*) )?REFUSED ([1-9][0-9]*): [!-~][ -~]*" % tool.encode())
+    for one in said.split(b"\n"):
+        match = told.fullmatch(one)
+        yield b" ".join((match[1] or b"0", match[2])) if match else one
+
+
+def checks(folder):
+    """What is compared of a run: pairs of words and whether it is so."""
+    run = content(folder)
+    tool = run["tool"].decode()
+    yield f"status {run['status'].decode().strip()}", run["status"] == b"0\n"
+    yield from compared("printed", run["printed"], run["wanted"]) if "wanted" in run else helped(tool, run["printed"])
+    yield from compared("said", b"\n".join(refusals_said(tool, run["said"])), run["refusals"])
+    files, wanted = content(folder / "files"), content(folder / "after")
+    yield f"the files {sorted(files)}, not {sorted(wanted)}", files.keys() == wanted.keys()
+    for name in files.keys() & wanted.keys():
+        yield f"{name} is not as it must be", files[name] == wanted[name]
+
+
+def judge(folder):
+    """How many things were compared; or for the first runs that are not as they must be, what is not."""
+    passed, failed = 0, []
+    for run in sorted(folder.iterdir()):
+        results = list(checks(run))
+        passed += len(results)
+        wrong = [what for what, so in results if not so]
+        if wrong:
+            why = (run / "why").read_text()
+            given = (run / "arguments").read_bytes()[:100].split(b"\0")[:-1]
+            failed.append("\n    ".join([f"{run.name} ({why}), arguments {given}", *wrong[:4]]))
+    if failed:
+        sys.exit("\n".join([*failed[:40], f"{len(failed)} runs are not as they must be"]))
+    print(passed)
+
+
+def main(verb, *rest):
+    folder = Path(rest[-1])
+    if verb == "judge":
+        judge(folder)
+    else:
+        write(folder, cases() if verb == "cases" else at_random(rest[0]))
+
+
+if __name__ == "__main__":
+    main(*sys.argv[1:])

@@ -1,0 +1,410 @@
+#!/usr/bin/env bash
+# What the desk's tools make of text, arguments and files, against docs/FORMATS.md and document 01, byte by byte, and against
+# a reading of its own (tools.py); what they tell where a file cannot be read or written; bin/; and the walk of README.md. A
+# seed other than the gate's may be given.
+cd "$(dirname "$0")/.." && . tests/common.bash
+export LC_ALL=C
+seed=${1:-20261115}
+folders=$(mktemp -d)
+trap 'rm -rf "$folders"' EXIT
+folder=$folders/folder printed=$folders/printed said=$folders/said
+example=$repository/examples/three_records
+files=(chain.dat job.dat lay.dat)
+records='1 1 1 -10000 -20000
+2 0 2 30001 40000
+3 0 3 0 0'
+
+# run TOOL ARGUMENTS...: runs it in the folder; in `status` how it ended
+run() {
+    status=0
+    (cd "$folder" && program "$@") >"$printed" 2>"$said" || status=$?
+}
+
+# give TOOL WORDS...: runs it with the words as its arguments, or as a line of its standard input
+give() {
+    case $1 in
+    laychain | laywrite) run "$1" <<<"${*:2}" ;;
+    *) run "$@" </dev/null ;;
+    esac
+}
+
+# fresh FILES...: makes the folder anew, with these files of 01's example
+fresh() {
+    rm -rf "$folder"
+    mkdir "$folder"
+    [ $# -eq 0 ] || (cd "$example" && cp "$@" "$folder")
+}
+
+# holds FILES...: that the folder has these files of 01's example, in the order of their names, and nothing else
+holds() {
+    local file
+    [ "$(ls -A "$folder")" = "$(printf "${1:+%s\n}" "$@")" ] || return 1
+    for file; do cmp -s "$folder/$file" "$example/$file" || return 1; done
+}
+
+ended_well() { [ "$status" -eq 0 ] && [ ! -s "$said" ]; }
+
+# prints LINES: that these were printed, to the byte, and no others
+prints() { ended_well && cmp -s "$printed" <(printf "${1:+%s\n}" "$1"); }
+
+# refused TOOL NUMBERS...: that these were told, a line each, and nothing was printed; LINE:NUMBER where a line is named
+refused() {
+    local tool=$1 told
+    told=$(sed -E "s/^$tool: line ([0-9]+) REFUSED ([0-9]+): [^ ].*/\1:\2/; s/^$tool: REFUSED ([0-9]+): [^ ].*/\1/" "$said")
+    [ "$status" -eq 0 ] && [ ! -s "$printed" ] && [ "$told" = "$(printf '%s\n' "${@:2}")" ]
+}
+
+# tells NAME: that it told of NAME in one line, and of nothing else
+tells() { [ "$status" -eq 0 ] && [[ "$(<"$said")" == *"$1"*:?* ]] && [ "$(wc -l <"$said")" -eq 1 ]; }
+
+# 01's example from text: the files are those of the example, and listed as 01 says.
+fresh
+give layjob 30000 40000 1 0 100
+pass_if "01's job: $(head -n 3 "$said")" prints ''
+pass_if "01's job, written" holds job.dat
+give laychain 0 0 30000 0 0 40000
+pass_if "01's chain: $(head -n 3 "$said")" prints ''
+pass_if "01's chain, written" holds chain.dat job.dat
+give laywrite "$records"
+pass_if "01's log: $(head -n 3 "$said")" prints ''
+pass_if "01's log, written" holds "${files[@]}"
+run laylist
+pass_if "01's listing from text: $(head -n 9 "$printed" "$said")" prints "$(<"$example/listing")"
+
+# It is shown as docs/FORMATS.md shows it, and the readings at 01's places are 01's.
+shown='JOB 30000 40000 1 0 100
+CHAIN 1 0 0 30000 0 0 40000
+LOG 1 1 1 -10000 -20000
+LOG 2 0 2 30001 40000
+LOG 3 0 3 0 0'
+give layshow
+pass_if "01's example, shown: $(head -n 9 "$printed" "$said")" prints "$shown"
+while IFS=: read -r place a b; do
+    give layexpect 1 $place
+    pass_if "readings at $place: $(head -n 9 "$printed" "$said")" prints "A$a
+B$b"
+done <<'END'
+30000 40000: -10000 -100.00 00000000000059c0: -20000 -200.00 00000000000069c0
+30001 40000: -10000 -100.00 00000000000059c0: -19999 -199.99 48e17a14aeff68c0
+30000 40001: -9999 -99.99 8fc2f5285cff58c0: -20000 -200.00 00000000000069c0
+1 1: 29998 299.98 48e17a14aebf7240: 39998 399.98 48e17a14aeff7840
+END
+pass_if 'the files stay' holds "${files[@]}"
+
+# Limits: what is just accepted (0) and what is just refused, and what comes first.
+while IFS=: read -r words answer; do
+    fresh "${files[@]}"
+    give $words
+    if [ "$answer" -eq 0 ]; then
+        pass_if "$words: $(head -n 3 "$said")" ended_well
+        continue
+    fi
+    case $words in laychain* | laywrite*) answer="1:${answer# }" ;; esac
+    pass_if "$words, refused with $answer: $(head -n 3 "$said")" refused "${words%% *}" "${answer# }"
+    pass_if "$words: the files stay" holds "${files[@]}"
+done <<'END'
+layjob 30000 40000 24 0 100: 0
+layjob 30000 40000 25 0 100: 6
+layjob 100000000 40000 0 0 100: 0
+layjob 100000000 40000 1 0 100: 6
+layjob 99999999 40000 1 0 100: 0
+layjob 30000 1000000000 0 0 100: 0
+layjob 30000 1000000000 1 0 100: 6
+layjob 4294997296 40000 1 0 100: 6
+layjob 30000 40000 257 0 100: 6
+layjob 30000 40000 1 100000 100: 0
+layjob 30000 40000 1 100001 100: 7
+layjob 30000 40000 1 4294967296 100: 7
+layjob 30000 40000 1 0 18446744073709551615: 0
+layjob 30000 40000 1 0 18446744073709551616: 12
+layjob 30000 40000 25 100001 100: 6
+layjob 30000 40000 25 100001 x: 12
+layjob -0 40000 1 0 100: 12
+layjob 30000 40000 1 0: 12
+layjob 30000 40000 1 0 100 1: 12
+layjob 0030000 00040000 01 00 0100: 0
+laychain 0 0 30000 0 0 40000: 0
+laychain 100000000 1000000000 0 1000000000 100000000 0: 0
+laychain 100000001 0 30000 0 0 40000: 5
+laychain 0 0 30000 1000000001 0 40000: 5
+laychain 4294967296 0 30000 0 0 40000: 5
+laychain 0 0 0 0 0 40000: 5
+laychain 0 0 30000 0 0 0: 5
+laychain 0 0 30000 0 30000 0: 5
+laychain 0 0 0 0 0 x: 12
+laychain 0 0 30000 0 0: 12
+laychain 0 0 30000 0 0 40000 1: 12
+laywrite 0 1 1 0 0: 2
+laywrite 4 1 1 0 0: 2
+laywrite 257 1 1 0 0: 2
+laywrite 1 1 4294967295 1000000000 -1000000000: 0
+laywrite 1 1 4294967296 1000000000 -1000000000: 12
+laywrite 1 1 1 1000000001 0: 3
+laywrite 1 1 1 0 -1000000001: 3
+laywrite 1 1 1 18446744073709551616 0: 3
+laywrite 2 0 1 100000000 1000000000: 0
+laywrite 2 0 1 100000001 0: 4
+laywrite 2 0 1 0 -1: 4
+laywrite 2 0 1 -0 -0: 0
+laywrite 1 0 1 0 0: 5
+laywrite 1 16 1 0 0: 0
+laywrite 1 17 1 0 0: 5
+laywrite 1 257 1 0 0: 5
+laywrite 3 17 1 -1000000001 x: 12
+laywrite 3 17 1 -1000000001 1000000001: 0
+laywrite 2 17 1 30001 40000: 0
+laywrite 0 0 1 1000000001 -1: 2
+laywrite 1 0 1 1000000001 -1: 3
+laywrite 2 0 1 -1 1000000001: 3
+laywrite 1 1 1 +1 0: 12
+laywrite 1 1 1 1.5 0: 12
+laywrite 1 1 1 1e3 0: 12
+layexpect 1 100000000 1000000000: 0
+layexpect 1 100000001 0: 4
+layexpect 1 0 1000000001: 4
+layexpect 0 30000 40000: 5
+layexpect 2 30000 40000: 5
+layexpect 0 100000001 0: 4
+layexpect 1 30000: 12
+layexpect 1 30000 -1: 12
+layshow 1: 12
+END
+
+# came_of FOLDER: that each of its runs came to what it must; how many things were compared is counted
+came_of() {
+    local compared
+    compared=$(python3 tests/tools.py judge "$1") && passed=$((passed + compared))
+}
+
+# all_hold VERB...: that of every run that tools.py writes. Nothing else is started for a run: there are many.
+all_hold() {
+    local made=$folders/$1 each arguments
+    mkdir "$made"
+    python3 tests/tools.py "$@" "$made"
+    for each in "$made"/*; do
+        mapfile -d '' arguments <"$each/arguments"
+        status=0
+        cd "$each/files"
+        program "$(<../tool)" "${arguments[@]}" <../input >../printed 2>../said || status=$?
+        echo "$status" >../status
+    done
+    cd "$repository"
+    pass_if "$1" came_of "$made"
+}
+all_hold cases
+all_hold random "$seed"
+
+# shown_again: that what layshow prints of the folder, given to the tools, makes the same files
+shown_again() {
+    local again=$folders/again
+    rm -rf "$again"
+    mkdir "$again"
+    run layshow
+    ended_well || return 1
+    (
+        cd "$again"
+        program layjob $(sed -n 's/^JOB //p' "$printed")
+        sed -n 's/^CHAIN [0-9]* //p' "$printed" | program laychain
+        sed -n 's/^LOG //p' "$printed" | program laywrite
+    ) >"$said" 2>&1
+    [ ! -s "$said" ] && diff -r "$folder" "$again"
+}
+for name in double_crossing three_records; do
+    fresh
+    cp "examples/$name/"*.dat "$folder"
+    pass_if "$name, shown and written again" shown_again
+done
+fresh
+run layjob 83222785 983222785 24 100000 18446744073709551615
+pass_if "the largest job: $(head -n 3 "$said")" ended_well
+run laychain < <(for i in {1..16}; do echo $i $((i * i)) $((100000000 - i)) $i $((7 * i)) $((1000000000 - i)); done)
+pass_if "the largest table: $(head -n 3 "$said")" ended_well
+run laywrite < <(for i in {0..4999}; do echo $((1 + i % 3)) $((1 + i % 16)) $((i * 858993)) $((i * 19991)) $((i * 199999)); done)
+pass_if "a log of 5,000 records: $(head -n 3 "$said")" ended_well
+pass_if 'a large folder, shown and written again' shown_again
+
+# Help is the same whatever stands behind it.
+for tool in layjob laychain laywrite layexpect layshow; do
+    fresh
+    run "$tool" --help </dev/null
+    cp "$printed" "$folders/help"
+    pass_if "$tool --help is printed" [ -s "$printed" ]
+    run "$tool" --help 1 30000 '' </dev/null
+    pass_if "$tool --help with others behind it" cmp -s "$printed" "$folders/help"
+    pass_if "$tool --help does nothing else" holds
+done
+
+# pieces TEXT...: one text, in pieces that come one after the other
+pieces() {
+    local piece
+    for piece; do
+        printf %s "$piece"
+        sleep 0.05
+    done
+}
+fresh chain.dat job.dat
+run laywrite < <(pieces '1 1 1 -100' '00 -20000' $'\n2 0 2 3' $'0001 40000\n3 0 3 0 0' $'\n')
+pass_if "a log in pieces: $(head -n 3 "$said")" holds "${files[@]}"
+fresh job.dat lay.dat
+run laychain < <(pieces '0 0 300' '00 0 0 4000' '0' $'\n')
+pass_if "a table in pieces: $(head -n 3 "$said")" holds "${files[@]}"
+
+# Files that cannot be read or written. A folder in place of one is told, nothing is printed of it, and nothing else changes.
+while read -r file mark words; do
+    fresh "${files[@]}"
+    rm "$folder/$file"
+    mkdir "$folder/$file"
+    give $words
+    pass_if "$words, with a folder $file, tells it: $(head -n 3 "$said")" tells "$file"
+    pass_if "$words, with a folder $file, prints nothing of it" [ -z "$(grep "^$mark" "$printed")" ]
+    pass_if "$words: the folder $file stays" rmdir "$folder/$file"
+    cp "$example/$file" "$folder"
+    pass_if "$words, with a folder $file: nothing else changes" holds "${files[@]}"
+done <<'END'
+job.dat . layjob 30000 40000 1 0 100
+chain.dat . laychain 0 0 30000 0 0 40000
+lay.dat . laywrite 3 0 3 0 0
+chain.dat . layexpect 1 30000 40000
+job.dat JOB layshow
+chain.dat CHAIN layshow
+lay.dat LOG layshow
+END
+
+# Standard input that cannot be read is not taken for an empty one.
+for tool in laychain laywrite; do
+    fresh "${files[@]}"
+    run "$tool" </
+    pass_if "$tool of a folder tells it: $(head -n 3 "$said")" tells 'standard input'
+    pass_if "$tool of a folder: the files stay" holds "${files[@]}"
+    run "$tool" <&-
+    pass_if "$tool without standard input: the files stay" holds "${files[@]}"
+done
+
+# Nor does a refusal that cannot be told change anything.
+fresh "${files[@]}"
+(cd "$folder" && program laywrite 2>&- <<<'4 0 0 0 0') || true
+pass_if 'a refusal without standard error' holds "${files[@]}"
+
+# Where no file can be made, as in /proc, that is told.
+while read -r file words; do
+    folder=/proc give $words
+    pass_if "$words where no file can be made: $(head -n 3 "$said")" tells "$file"
+done <<'END'
+job.dat layjob 30000 40000 1 0 100
+chain.dat laychain 0 0 30000 0 0 40000
+lay.dat laywrite 3 0 3 0 0
+END
+
+# limited BLOCKS TOOL ARGUMENTS...: runs it where no file may have more than so many times 1,024 bytes
+limited() {
+    local told
+    status=0
+    told=$(trap '' XFSZ && cd "$folder" && ulimit -f "$1" && program "${@:2}" 2>&1) || status=$?
+    echo "$told" >"$said"
+}
+
+# A file that grows too large is told; job and table stay as they were, and a log is cut back to what it was.
+fresh "${files[@]}"
+limited 0 layjob 30000 40000 0 0 1
+pass_if "a job that cannot be written is told: $(head -n 3 "$said")" tells job.dat
+limited 0 laychain < <(echo 1 0 30000 0 0 40000)
+pass_if "a table that cannot be written is told: $(head -n 3 "$said")" tells chain.dat
+limited 0 laywrite < <(echo 3 0 3 0 0)
+pass_if "a log that cannot be written is told: $(head -n 3 "$said")" tells lay.dat
+pass_if 'what cannot be written changes nothing' holds "${files[@]}"
+fresh
+head -c 992 /dev/zero >"$folder/lay.dat"
+limited 1 laywrite < <(echo "$records")
+pass_if "a log that ends at its limit is told: $(head -n 3 "$said")" tells lay.dat
+pass_if 'and has its old length' [ "$(wc -c <"$folder/lay.dat")" -eq 992 ]
+pass_if 'with nothing beside it' [ "$(ls -A "$folder")" = lay.dat ]
+
+# What cannot be printed is told as well.
+unprinted() {
+    status=0
+    (cd "$folder" && program "$@") >/dev/full 2>"$said" </dev/null || status=$?
+    pass_if "$* on a full device: $(head -n 3 "$said")" tells 'standard output'
+    (cd "$folder" && program "$@" >&-) 2>"$said" </dev/null || status=$?
+    pass_if "$* with standard output closed: $(head -n 3 "$said")" tells 'standard output'
+}
+fresh "${files[@]}"
+unprinted layshow
+unprinted layexpect 1 30000 40000
+for tool in layjob laychain laywrite layexpect layshow; do unprinted "$tool" --help; done
+head -c 320000 /dev/zero >"$folder/lay.dat"
+unprinted layshow
+
+# by_bin TOOL ARGUMENTS...: runs it in the folder by bin/
+by_bin() {
+    status=0
+    (cd "$folder" && "${bin:-$repository/bin}/$1" "${@:2}") >"$printed" 2>"$said" || status=$?
+}
+
+# By bin/ they do the same, and end with 1 where something was told.
+fresh
+by_bin layjob 30000 40000 1 0 100
+pass_if "bin/layjob: $(head -n 3 "$said")" prints ''
+by_bin laychain <<<'0 0 30000 0 0 40000'
+pass_if "bin/laychain: $(head -n 3 "$said")" prints ''
+by_bin laywrite <<<"$records"
+pass_if "bin/laywrite: $(head -n 3 "$said")" prints ''
+pass_if 'the files made by bin/' holds "${files[@]}"
+by_bin layshow
+pass_if "bin/layshow: $(head -n 3 "$said")" prints "$shown"
+by_bin layexpect 1 30000 40000
+pass_if "bin/layexpect: $(head -n 3 "$said")" prints 'A -10000 -100.00 00000000000059c0
+B -20000 -200.00 00000000000069c0'
+by_bin laylist
+pass_if "bin/laylist: $(head -n 3 "$said")" prints "$(<"$example/listing")"
+mkdir "$folders/links"
+ln -s "$repository/bin/layshow" "$folders/links"
+bin=$folders/links by_bin layshow
+pass_if "a link to bin/layshow: $(head -n 3 "$said")" prints "$shown"
+by_bin layjob --help
+pass_if 'bin/layjob --help ends with 0' ended_well
+while read -r number words; do
+    by_bin $words </dev/null
+    pass_if "bin/$words ends with 1" [ "$status" -eq 1 ]
+    status=0
+    pass_if "bin/$words is refused with $number: $(head -n 3 "$said")" refused "${words%% *}" "$number"
+done <<'END'
+6 layjob 30000 40000 25 0 100
+12 layjob 30000 40000 1 0
+1 laychain
+12 laywrite 1
+5 layexpect 2 30000 40000
+12 layshow job.dat
+END
+status=0
+(cd "$folder" && "$repository/bin/layshow") >/dev/full 2>"$said" || status=$?
+pass_if 'bin/layshow ends with 1 on a full device' [ "$status" -eq 1 ]
+by_bin layjob '30000 40000' 1 0 100
+pass_if 'bin/layjob passes its arguments on as they are' [ "$status" -eq 1 ]
+by_bin laywrite < <(printf '4 0 0 0 0\n3 0 3 0')
+pass_if 'bin/laywrite ends with 1 where lines are refused' [ "$status" -eq 1 ]
+status=0
+pass_if "bin/laywrite tells each line: $(head -n 3 "$said")" refused laywrite 1:2 2:12
+pass_if 'refused by bin/, the files stay' holds "${files[@]}"
+
+# walk: takes the commands of a section of README.md and what it shows of each. Commands stand behind four spaces and `$ `, what
+# belongs to them behind four spaces and `> `, and what they print behind four spaces.
+walk() {
+    awk -v to="$walked" '
+        /^## / { inside = $0 == "## From text to places" }
+        !inside { next }
+        /^    \$ / { n++; print "exec >" to "/printed." n " 2>&1" >(to "/script"); print substr($0, 7) >(to "/script"); next }
+        /^    >( |$)/ { print substr($0, 7) >(to "/script"); next }
+        /^    / { print substr($0, 5) >(to "/shown." n) }
+        END { print n + 0 }
+    ' README.md
+}
+walked=$folders/walked
+mkdir -p "$walked/folder"
+steps=$(walk)
+pass_if 'README.md has a section "From text to places" with commands' [ "$steps" -gt 0 ]
+(cd "$walked/folder" && PATH=$PATH:$repository/bin bash ../script </dev/null)
+for ((n = 1; n <= steps; n++)); do
+    touch "$walked/shown.$n"
+    pass_if "command $n of README.md prints what it shows" diff "$walked/shown.$n" "$walked/printed.$n"
+done
+done_testing
