@@ -66,17 +66,18 @@ nothing is appended. Readings of -100 m and -200 m in chain 1, as line 1 of the 
     }
 }
 
+// The log is looked at before anything that is given.
 fn by_arguments(bytes: usize) {
+    let log = open_log();
+    if let Log::Unfit = log {
+        return;
+    }
     if bytes > 0 {
         refused(
             0,
             12,
             b"no argument was expected; the records stand on standard input, a line each",
         );
-        return;
-    }
-    let log = open_log();
-    if let Log::Unfit = log {
         return;
     }
     write_log(log);
