@@ -2,7 +2,8 @@
 // as empty. What is refused or fails is told on standard error, and nothing is printed after it.
 ghost use Prim.Native.Nat.{_+_, _≤_, _<_};
 ghost use lib.ListN.{length};
-ghost use Rattle.layshow.specs.Bounds.{textOf, endOf};
+ghost use Rattle.shown.specs.Rooms.{textOf};
+ghost use Rattle.layshow.specs.Bounds.{endOf};
 use files::Filled;
 use files::Opened;
 use files::Words;

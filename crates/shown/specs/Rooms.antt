@@ -24,6 +24,11 @@ unfoldable pub bufferFor : List ℕ → Reply → List ℕ
 bufferFor out (Says text) = text ++ drop (length text) out
 bufferFor out (Refuses number) = out
 
+-- How many bytes of text an answer tells of.
+abbrev pub textOf : Line → ℕ
+textOf (line.Text n) = n
+textOf (line.Refused number) = 0
+
 -- Room for any line of so many bytes, with those in hexadecimal; without it, 9.
 abbrev pub hasRoom : ℕ → ℕ → Bool
 hasRoom bytes count = leb (192 + 2 * count) bytes

@@ -2,7 +2,7 @@
 use mathlib.Core.Path.{sym, _∙_}
 use native.Mathlib.Omega.{arith}
 use borrow.Author.Needs.{needs}
-use Rattle.layexpect.proofs.TextLaws.{text-fits}
+use Rattle.shown.proofs.Fitting.{text-fits}
 use Rattle.layexpect.proofs.print_expected.Statement.{statement}
 use Rattle.layexpect.proofs.print_expected.Tie as tie
 

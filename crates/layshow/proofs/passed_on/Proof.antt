@@ -2,7 +2,7 @@
 use mathlib.Core.Path.{ap}
 use native.Mathlib.Omega.{arith}
 use borrow.Author.Needs.{needs}
-use Rattle.layshow.specs.Bounds.{textOf}
+use Rattle.shown.specs.Rooms.{textOf}
 use Rattle.layshow.proofs.passed_on.Statement.{statement}
 use Rattle.layshow.proofs.passed_on.Tie as tie
 

@@ -1,7 +1,7 @@
 -- `layshow::put_chain` stays within the buffer: the line lies within the part of it that was lent to `shown::chain`.
 use native.Mathlib.Omega.{arith}
 use borrow.Author.Needs.{needs}
-use Rattle.layshow.proofs.TextLaws.{text-fits}
+use Rattle.shown.proofs.Fitting.{text-fits}
 use Rattle.layshow.proofs.put_chain.Statement.{statement}
 use Rattle.layshow.proofs.put_chain.Tie as tie
 

@@ -1,7 +1,7 @@
 -- `layshow::put_job` stays within the buffer, in which the line lies.
 use native.Mathlib.Omega.{arith}
 use borrow.Author.Needs.{needs}
-use Rattle.layshow.proofs.TextLaws.{text-fits}
+use Rattle.shown.proofs.Fitting.{text-fits}
 use Rattle.layshow.proofs.put_job.Statement.{statement}
 use Rattle.layshow.proofs.put_job.Tie as tie
 

@@ -1,12 +1,11 @@
--- A line that is shown lies within the buffer that it was put into: the buffer then begins with it.
+-- Text that is shown lies within the buffer that it was put into: the buffer then begins with it.
 use Prim.Native.Nat.{ℕ, _≤_}
 use mathlib.Core.List.{List}
 use mathlib.Core.Path.{_≡_, ap}
 use native.Mathlib.Omega.{arith}
 use lib.ListN.{length, length-append}
 use Rattle.shown.specs.declared.Line.{Line}
-use Rattle.shown.specs.Rooms.{Reply, Says, Refuses, lineFor, bufferFor}
-use Rattle.layshow.specs.Bounds.{textOf}
+use Rattle.shown.specs.Rooms.{Reply, Says, Refuses, lineFor, bufferFor, textOf}
 
 pub text-fits : (out : List ℕ) (reply : Reply) {r : Line} {after : List ℕ} → r ≡ lineFor reply → after ≡ bufferFor out reply → textOf r ≤ length after
 unfolding lineFor bufferFor

@@ -1,2 +1,0 @@
--- The law on the length of the text that is shown.
-mod TextLaws

@@ -1,2 +1,0 @@
--- The law on the length of a line that is shown.
-mod TextLaws
