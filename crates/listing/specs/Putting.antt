@@ -1,7 +1,7 @@
 -- How the code puts lines into a buffer: what its private functions promise each other. No public promise rests on it.
 use Prim.Native.Nat.{ℕ, _+_, _*_, _≤_}
 use mathlib.Core.Path.{_≡_}
-use mathlib.Core.List.{List, [], _∷_, _++_}
+use mathlib.Core.List.{List, _++_}
 use lib.ListN.{length, take, drop}
 use Rattle.chart.specs.declared.Place.{Place}
 use Rattle.search.specs.Answers.{entriesOf}

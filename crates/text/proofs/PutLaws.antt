@@ -129,3 +129,12 @@ with-length o at x = go (roomFor (length o) at x) refl
     go : (b : Bool) → roomFor (length o) at x ≡ b → length (withText o at x) ≡ length o
     go true e = put-length (put-from {o = o} {at = at} {x = x} (refl, refl) (leb-true (at + length x) (length o) e))
     go false e = ap length (sym (nothing-promised o at x (leb-false (at + length x) (length o) e) .1))
+
+-- So a text that starts in it ends in it.
+pub ends-inside : (bytes at : ℕ) (x : List ℕ) → at ≤ bytes → endAfter bytes at x ≤ bytes
+unfolding endAfter
+ends-inside bytes at x h = go (roomFor bytes at x) refl
+  where
+    go : (b : Bool) → roomFor bytes at x ≡ b → endAfter bytes at x ≤ bytes
+    go true e = rw (e) (leb-true (at + length x) bytes e)
+    go false e = rw (e) h

@@ -3,7 +3,7 @@ use native.Mathlib.Omega.{arith}
 use borrow.Author.Needs.{needs}
 use lib.ListN.{length}
 use Rattle.text.specs.Texts.{digitsOf}
-use Rattle.files.proofs.TextLaws.{ends-inside}
+use Rattle.text.proofs.PutLaws.{ends-inside}
 use Rattle.files.proofs.put_number.Statement.{statement}
 use Rattle.files.proofs.put_number.Tie as tie
 

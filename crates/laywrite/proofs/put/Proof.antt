@@ -2,7 +2,7 @@
 use native.Mathlib.Omega.{arith}
 use borrow.Author.Needs.{needs}
 use lib.ListN.{length}
-use Rattle.files.proofs.TextLaws.{ends-inside}
+use Rattle.text.proofs.PutLaws.{ends-inside}
 use Rattle.laywrite.proofs.put.Statement.{statement}
 use Rattle.laywrite.proofs.put.Tie as tie
 

@@ -1,5 +1,5 @@
 -- `shown::put_slave` meets its contract: its five pieces, one behind the other.
-use Prim.Native.Nat.{ℕ, _≤_}
+use Prim.Native.Nat.{_≤_}
 use mathlib.Core.Path.{_≡_, ap, subst}
 use mathlib.Core.List.{_∷_, _++_}
 use native.Mathlib.Omega.{arith}

@@ -1,2 +1,0 @@
--- A law on text that is put into a buffer, for programs too.
-pub mod TextLaws
