@@ -590,6 +590,8 @@ def logs():
         yield to_log(lines(RECORDS), f"a log of {length} bytes", log)
     for text in b"", b"x\n", b"x", b"1" * 70_000:
         yield to_log(text, "a short last record is told before anything is read", OLD["lay.dat"] + b"\1")
+    for given in [b"x"], [b""], [b"--help"]:
+        yield to_log(b"x\n", "a short last record is told before arguments, but not before help", b"\1")._replace(arguments=given)
 
 
 # Blanks, and how lines end

@@ -270,6 +270,19 @@ chain.dat CHAIN layshow
 lay.dat LOG layshow
 END
 
+# Memory where there is none can be opened, but not read.
+while read -r file words; do
+    fresh "${files[@]}"
+    ln -sf /proc/self/mem "$folder/$file"
+    give $words
+    pass_if "$words, with memory as $file, tells it: $(head -n 3 "$said")" tells "$file"
+done <<'END'
+chain.dat layexpect 1 30000 40000
+job.dat layshow
+chain.dat layshow
+lay.dat layshow
+END
+
 # Standard input that cannot be read is not taken for an empty one.
 for tool in laychain laywrite; do
     fresh "${files[@]}"
@@ -280,10 +293,13 @@ for tool in laychain laywrite; do
     pass_if "$tool without standard input: the files stay" holds "${files[@]}"
 done
 
-# Nor does a refusal that cannot be told change anything.
+# Without standard error nothing that would be told goes to a file instead.
 fresh "${files[@]}"
 (cd "$folder" && program laywrite 2>&- <<<'4 0 0 0 0') || true
-pass_if 'a refusal without standard error' holds "${files[@]}"
+pass_if 'a line refused without standard error' holds "${files[@]}"
+fresh chain.dat job.dat
+(cd "$folder" && program laywrite 2>&- <<<"$records") || true
+pass_if 'lines accepted without standard error' holds "${files[@]}"
 
 # Where no file can be made, as in /proc, that is told.
 while read -r file words; do
