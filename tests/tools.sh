@@ -168,6 +168,7 @@ layexpect 0 100000001 0: 4
 layexpect 1 30000: 12
 layexpect 1 30000 -1: 12
 layshow 1: 12
+laylist 1: 12
 END
 
 # came_of FOLDER: that each of its runs came to what it must; how many things were compared is counted
@@ -224,7 +225,7 @@ pass_if "a log of 5,000 records: $(head -n 3 "$said")" ended_well
 pass_if 'a large folder, shown and written again' shown_again
 
 # Help is the same whatever stands behind it.
-for tool in layjob laychain laywrite layexpect layshow; do
+for tool in layjob laychain laywrite layexpect layshow laylist; do
     fresh
     run "$tool" --help </dev/null
     cp "$printed" "$folders/help"
@@ -346,7 +347,7 @@ unprinted() {
 fresh "${files[@]}"
 unprinted layshow
 unprinted layexpect 1 30000 40000
-for tool in layjob laychain laywrite layexpect layshow; do unprinted "$tool" --help; done
+for tool in layjob laychain laywrite layexpect layshow laylist; do unprinted "$tool" --help; done
 head -c 320000 /dev/zero >"$folder/lay.dat"
 unprinted layshow
 

@@ -5,6 +5,7 @@ ghost use lib.ListN.{length};
 ghost use Rattle.laylist.specs.Bounds.{endOf};
 use files::Filled;
 use files::Opened;
+use files::Words;
 use libc::STDERR_FILENO;
 use listing::Carried;
 use listing::Listed;
@@ -31,6 +32,39 @@ const MUCH_TEXT: usize = 65_536;
 const OUT_BYTES: usize = 163_840;
 
 fn main() {
+    // Any argument is one too many.
+    let mut none = [0u8; 1];
+    let words = files::arguments(
+        &mut none,
+        b"laylist lists a lay log: it reads job.dat, chain.dat and lay.dat in this folder, and prints a line a record.
+
+  LINE FIX COUNT VISITS E N E N ..    the places that two readings allow, in chart order
+  LINE GRID 1 0 E N                   the place that a grid record names
+  LINE HOLD 1 0 E N                   the place of the record just before
+  LINE REFUSED NUMBER VISITS          a record that is refused
+
+LINE is the record's line number; eastings and northings are in centimetres. A job or table that
+is refused prints JOB REFUSED or CHAIN REFUSED alone. A missing file counts as empty.
+
+  laylist
+",
+    );
+    match words {
+        Words::Line(n) => by_arguments(n),
+        Words::Unfit => by_arguments(1),
+        Words::Helped => {}
+    }
+}
+
+fn by_arguments(bytes: usize) {
+    if bytes > 0 {
+        files::refused(b"laylist", 0, 12, b"no argument was expected");
+        return;
+    }
+    list_files();
+}
+
+fn list_files() {
     // A job has 32 bytes and a table at most 384: with one more, a file too long is seen to be so.
     let mut job = [0u8; 33];
     let mut table = [0u8; 385];

@@ -1,10 +1,10 @@
--- `laylist::main` hands on no more of a buffer than was read to it.
+-- `laylist::list_files` hands on no more of a buffer than was read to it.
 use mathlib.Core.Path.{ap}
 use native.Mathlib.Omega.{arith}
 use borrow.Author.Needs.{needs}
 use Rattle.files.specs.Answers.{bytesOf}
-use Rattle.laylist.proofs.main.Statement.{statement}
-use Rattle.laylist.proofs.main.Tie as tie
+use Rattle.laylist.proofs.list_files.Statement.{statement}
+use Rattle.laylist.proofs.list_files.Tie as tie
 
 slice-aggregate-start : tie.Need-slice-aggregate-start
 slice-aggregate-start c = search needs
@@ -66,8 +66,8 @@ list-by-requires c κs = search needs
 returns-3 : tie.Need-returns-3
 returns-3 c = search needs
 
-pub main-spec : {M : Type 1} → statement M
-main-spec =
+pub list-files-spec : {M : Type 1} → statement M
+list-files-spec =
     tie.close
     (tie.spec
     slice-aggregate-start
