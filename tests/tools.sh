@@ -91,6 +91,16 @@ done <<'END'
 END
 pass_if 'the files stay' holds "${files[@]}"
 
+# Records that are refused are shown as docs/FORMATS.md shows them, from the bytes that stand there.
+refusals=$(sed -n 's/^    \(LOG .* REFUSED .*\)/\1/p' docs/FORMATS.md)
+pass_if 'docs/FORMATS.md shows refused records' [ "$(wc -l <<<"$refusals")" -eq 2 ]
+while read -r line; do
+    fresh
+    printf "$(sed 's/.* //; s/../\\x&/g' <<<"$line")" >"$folder/lay.dat"
+    give layshow
+    pass_if "docs/FORMATS.md: $line" [ "$(grep '^LOG' "$printed")" = "$line" ]
+done <<<"$refusals"
+
 # Limits: what is just accepted (0) and what is just refused, and what comes first.
 while IFS=: read -r words answer; do
     fresh "${files[@]}"
