@@ -52,6 +52,7 @@ use Rattle.text.proofs.put_number as text-put-number
 use Rattle.text.proofs.put_whole as put-whole
 use Rattle.text.proofs.put_bytes as put-bytes
 use Rattle.typed.proofs.line_end as line-end
+use Rattle.typed.proofs.is_word as is-word
 use Rattle.typed.proofs.job as typed-job
 use Rattle.typed.proofs.chain as typed-chain
 use Rattle.typed.proofs.draft as typed-draft
@@ -234,6 +235,10 @@ module _ {M : Type 1} (𝓤 : URA M) (H : Heap 𝓤) (A : Atoms 𝓤) (mem : Mem
   -- typed::line_end, by `ensures-1`.
   pub line-end-only : OneAnswer 𝓤 line-end.ended (line-end.clauses 𝓤 H A mem run)
   line-end-only κs a g x y = only 𝓤 same (λ answer. answer & refl)
+
+  -- typed::is_word, by `ensures-1`.
+  pub is-word-only : OneAnswer 𝓤 is-word.ended (is-word.clauses 𝓤 H A mem run)
+  is-word-only κs a g x y = only 𝓤 same (λ answer. answer & refl)
 
   -- typed::job, by `ensures-1`.
   pub typed-job-only : OneAnswer 𝓤 typed-job.ended (typed-job.clauses 𝓤 H A mem run)

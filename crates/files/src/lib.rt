@@ -181,25 +181,10 @@ fn put_argument(line: &mut [u8], at: usize, i: usize) -> Words
         return Words::Unfit;
     }
     let end = at + n;
-    if has_blank(&line[at..end]) {
+    if !typed::is_word(&line[at..end]) {
         return Words::Unfit;
     }
     Words::Line(end)
-}
-
-fn has_blank(word: &[u8]) -> bool {
-    let mut i = 0;
-    while i < word.len() {
-        if is_blank(word[i]) {
-            return true;
-        }
-        i += 1;
-    }
-    false
-}
-
-fn is_blank(b: u8) -> bool {
-    b == b' ' || b == b'\t' || b == b'\r'
 }
 
 // Puts bytes in the place of a file. They go to a fresh file first, which then takes the name: so the old file is there, or

@@ -8,7 +8,7 @@ use native.Mathlib.Numerals.{add-one}
 use lib.ListN.{length, getD, take, drop, drop-of-length-le, length-drop}
 use lib.Seq.{drop-cons, drop-drop}
 use Rattle.typed.specs.declared.Class.the-variants as class
-use Rattle.typed.specs.Words.{run, isInLine, isBlank, isInWord, fromWord, firstWord, behindWord, wordAt}
+use Rattle.typed.specs.Words.{run, areAll, isInLine, isBlank, isInWord, fromWord, firstWord, behindWord, wordAt}
 use Rattle.typed.specs.Numbers.{isDigit}
 use Rattle.typed.specs.Scanning.{isOf, Spans}
 
@@ -51,9 +51,13 @@ pub word-class : (s : List ℕ) → run (isOf class.InWord) s ≡ run isInWord s
 unfolding isOf
 word-class s = refl
 
-pub digit-class : (s : List ℕ) → run (isOf class.Digit) s ≡ run isDigit s
+pub all-digits : (s : List ℕ) → areAll (isOf class.Digit) s ≡ areAll isDigit s
 unfolding isOf
-digit-class s = refl
+all-digits s = refl
+
+pub all-in-word : (s : List ℕ) → areAll (isOf class.InWord) s ≡ areAll isInWord s
+unfolding isOf
+all-in-word s = refl
 
 -- Two scans, past the blanks from a place on and past the word behind them.
 pub record Scanned (s : List ℕ) (at start end : ℕ) : Type 0 where

@@ -7,7 +7,7 @@ use lib.IntN.{ℤ}
 use lib.ListN.{length, getD, drop}
 use Rattle.metres.specs.Metres.{signed}
 use Rattle.text.specs.Texts.{numeral}
-use Rattle.typed.specs.Words.{run, wordAt}
+use Rattle.typed.specs.Words.{areAll, wordAt}
 
 -- A decimal digit.
 abbrev pub isDigit : ℕ → Bool
@@ -15,7 +15,7 @@ isDigit b = leb 48 b && leb b 57
 
 -- A number: digits, one at least, and nothing else. Its value is `numeral`.
 abbrev pub isNumber : List ℕ → Bool
-isNumber w = leb 1 (length w) && eqb (run isDigit w) (length w)
+isNumber w = areAll isDigit w
 
 -- A reading is a number that may have a minus sign in front of it.
 abbrev pub isBelow : List ℕ → Bool

@@ -1,14 +1,18 @@
 -- Lines and words (docs/FORMATS.md, Text).
 use Prim.Native.Nat.{ℕ, zero, suc}
-use mathlib.Core.Bool.{Bool, not, cond, _||_}
+use mathlib.Core.Bool.{Bool, not, cond, _&&_, _||_}
 use mathlib.Core.List.{List, [], _∷_}
-use lib.Dec.{eqb}
-use lib.ListN.{take, drop}
+use lib.Dec.{leb, eqb}
+use lib.ListN.{length, take, drop}
 
 -- How many bytes at the start of a text are such.
 unfoldable pub run : (ℕ → Bool) → List ℕ → ℕ
 run such [] = 0
 run such (b ∷ bs) = cond (such b) (suc (run such bs)) 0
+
+-- All of a text is such, and there is some of it.
+abbrev pub areAll : (ℕ → Bool) → List ℕ → Bool
+areAll such s = leb 1 (length s) && eqb (run such s) (length s)
 
 -- A byte that does not end a line.
 abbrev pub isInLine : ℕ → Bool
@@ -20,6 +24,10 @@ isBlank b = eqb b 32 || (eqb b 9 || eqb b 13)
 
 abbrev pub isInWord : ℕ → Bool
 isInWord b = not (isBlank b)
+
+-- One word and nothing else, as an argument must be.
+abbrev pub isOneWord : List ℕ → Bool
+isOneWord s = areAll isInWord s
 
 -- A line from its first word on, that word, and what stands behind it.
 abbrev pub fromWord : List ℕ → List ℕ

@@ -3,7 +3,7 @@ ghost use mathlib.Core.Path.{_≡_};
 ghost use Prim.Native.Nat.{_+_, _-_, _≤_};
 ghost use lib.ListN.{length, drop};
 ghost use Rattle.text.specs.Texts.{numeral};
-ghost use Rattle.typed.specs.Words.{run, isInLine, isBlank, wordAt};
+ghost use Rattle.typed.specs.Words.{run, areAll, isInLine, isBlank, isOneWord, wordAt};
 ghost use Rattle.typed.specs.Numbers.{isDigit, isNumber, isBelow, sizeIn, isReading, areNumbers, noWord, isLine, numberAt, heldReading};
 ghost use Rattle.typed.specs.Typed.{placeIn, windowIn, jobIn, chainIn, isDraft, draftIn, questionIn};
 ghost use Rattle.typed.specs.Scanning.{isOf, sizedOf, isValue, heldIn, fitsIn, Spans};
@@ -59,6 +59,13 @@ pub fn line_end(text: &[u8]) -> usize
     ensures { λ r. ⌜ r ≡ run isInLine (now (text .entry)) ⌝ }
 {
     scan(text, 0, Class::InLine)
+}
+
+// Whether a text is one word and nothing else.
+pub fn is_word(s: &[u8]) -> bool
+    ensures { λ r. ⌜ r ≡ isOneWord (now (s .entry)) ⌝ }
+{
+    all_of(s, Class::InWord)
 }
 
 // The job in a line.
@@ -319,10 +326,17 @@ fn is_below(w: &[u8]) -> bool
 fn is_number(w: &[u8]) -> bool
     ensures { λ r. ⌜ r ≡ isNumber (now (w .entry)) ⌝ }
 {
-    if w.len() == 0 {
+    all_of(w, Class::Digit)
+}
+
+// Whether there are bytes, all of them of a class.
+fn all_of(s: &[u8], class: Class) -> bool
+    ensures { λ r. ⌜ r ≡ areAll (isOf class) (now (s .entry)) ⌝ }
+{
+    if s.len() == 0 {
         return false;
     }
-    scan(w, 0, Class::Digit) == w.len()
+    scan(s, 0, class) == s.len()
 }
 
 // The value of digits.
