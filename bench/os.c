@@ -2,6 +2,7 @@
 // for measuring on other machines, and no program of target/bin has it.
 #include <errno.h>
 #include <fcntl.h>
+#include <stddef.h>
 #include <stdint.h>
 
 int32_t rattle_open_to_read(const char *path) { return open(path, O_RDONLY | O_NOCTTY | O_CLOEXEC); }
@@ -9,3 +10,13 @@ int32_t rattle_open_to_read(const char *path) { return open(path, O_RDONLY | O_N
 int32_t rattle_errno(void) { return errno; }
 
 void rattle_set_errno(int32_t error) { errno = error; }
+
+// The bench gives laylist no argument: there is its own name alone.
+size_t rattle_arg_count(void) { return 1; }
+
+ptrdiff_t rattle_arg(size_t i, unsigned char *buffer, size_t bytes) {
+    (void)i;
+    (void)buffer;
+    (void)bytes;
+    return -1;
+}
