@@ -13,7 +13,7 @@ use Rattle.text.specs.Texts.{numeralFrom}
 use Rattle.typed.specs.declared.Sized.{Sized}
 use Rattle.typed.specs.declared.Sized.the-variants.{Value, Large}
 use Rattle.typed.specs.Numbers.{fits, held}
-use Rattle.typed.specs.Scanning.{sizedOf, isValue, heldIn, fitsIn}
+use Rattle.typed.specs.Scanning.{sizedOf, isValue, heldTo, heldIn, fitsIn}
 
 -- One digit more, and the last.
 pub numeral-more : (n : ℕ) (w : List ℕ) (i : ℕ) → i < length w → numeralFrom n (drop i w) ≡ numeralFrom (10 * n + (getD w i 0 - 48)) (drop (i + 1) w)
@@ -39,7 +39,7 @@ sized-large n h = rw (le-ltb n (2 ^ 64) h)
 
 -- So nothing is lost of it for a field of at most 64 bits.
 pub held-sized : (bits n : ℕ) → 2 ^ bits ≤ 2 ^ 64 → heldIn bits (sizedOf n) ≡ held bits n
-unfolding heldIn
+unfolding heldTo
 held-sized bits n h = go (ltb n (2 ^ 64)) refl
   where
     go : (t : Bool) → ltb n (2 ^ 64) ≡ t → heldIn bits (sizedOf n) ≡ held bits n
@@ -58,10 +58,10 @@ fits-sized bits n h = go (ltb n (2 ^ 64)) refl
 pub held-told : (bits m : ℕ) {n : Sized} {r : ℕ} → 2 ^ bits ≤ 2 ^ 64 → r ≡ heldIn bits n → n ≡ sizedOf m → r ≡ held bits m
 held-told bits m h r-is n-is = r-is ∙ ap (heldIn bits) n-is ∙ held-sized bits m h
 
-pub held-63-small : (n : Sized) → heldIn 63 n < 2 ^ 63
-unfolding heldIn
-held-63-small (Value n) = omega arith
-held-63-small Large = omega arith
+pub held-within : (most : ℕ) (n : Sized) → heldTo most n ≤ most
+unfolding heldTo
+held-within most (Value n) = omega arith
+held-within most Large = omega arith
 
 pub value-sized : (n : ℕ) → isValue (sizedOf n) ≡ fits 64 n
 unfolding isValue

@@ -1,5 +1,5 @@
 -- How the code goes through a line: what its private functions promise each other. No public promise rests on it.
-use Prim.Native.Nat.{ℕ, _-_, _^_, _≤_}
+use Prim.Native.Nat.{ℕ, _-_, _^_, _≤_, min}
 use mathlib.Core.Path.{_≡_}
 use mathlib.Core.Bool.{Bool, true, false, cond}
 use mathlib.Core.List.{List}
@@ -10,7 +10,7 @@ use Rattle.typed.specs.declared.Sized.{Sized}
 use Rattle.typed.specs.declared.Sized.the-variants as sized
 use Rattle.typed.specs.declared.Span.{Span}
 use Rattle.typed.specs.Words.{isInLine, isBlank, isInWord}
-use Rattle.typed.specs.Numbers.{isDigit, fits, held}
+use Rattle.typed.specs.Numbers.{isDigit, fits}
 
 -- The bytes of a class.
 unfoldable pub isOf : Class → ℕ → Bool
@@ -23,14 +23,17 @@ isOf class.Digit b = isDigit b
 abbrev pub sizedOf : ℕ → Sized
 sizedOf n = cond (fits 64 n) (sized.Value n) sized.Large
 
--- Whether it has 64 bits; the same in a field of so many; and whether it fits there.
+-- Whether it has 64 bits; the same in a field that holds at most so much, or so many bits; and whether it fits there.
 unfoldable pub isValue : Sized → Bool
 isValue (sized.Value n) = true
 isValue sized.Large = false
 
-unfoldable pub heldIn : ℕ → Sized → ℕ
-heldIn bits (sized.Value n) = held bits n
-heldIn bits sized.Large = 2 ^ bits - 1
+unfoldable pub heldTo : ℕ → Sized → ℕ
+heldTo most (sized.Value n) = min n most
+heldTo most sized.Large = most
+
+abbrev pub heldIn : ℕ → Sized → ℕ
+heldIn bits n = heldTo (2 ^ bits - 1) n
 
 unfoldable pub fitsIn : ℕ → Sized → Bool
 fitsIn bits (sized.Value n) = fits bits n

@@ -1,12 +1,12 @@
 // Text that a person types: lines, their words, and the job, chain, log record or question that a line stands for.
 ghost use mathlib.Core.Path.{_≡_};
-ghost use Prim.Native.Nat.{_+_, _-_, _≤_};
+ghost use Prim.Native.Nat.{_+_, _-_, _≤_, min};
 ghost use lib.ListN.{length, drop};
 ghost use Rattle.text.specs.Texts.{numeral};
 ghost use Rattle.typed.specs.Words.{run, areAll, isInLine, isBlank, isOneWord, wordAt};
 ghost use Rattle.typed.specs.Numbers.{isDigit, isNumber, isBelow, sizeIn, isReading, areNumbers, noWord, isLine, numberAt, heldReading};
 ghost use Rattle.typed.specs.Typed.{placeIn, windowIn, jobIn, chainIn, isDraft, draftIn, questionIn};
-ghost use Rattle.typed.specs.Scanning.{isOf, sizedOf, isValue, heldIn, fitsIn, Spans};
+ghost use Rattle.typed.specs.Scanning.{isOf, sizedOf, isValue, heldTo, heldIn, fitsIn, Spans};
 use chart::Chain;
 use chart::Place;
 use records::Job;
@@ -237,34 +237,38 @@ fn number(s: &[u8], i: usize) -> Sized
 fn as_32(n: Sized) -> u32
     ensures { λ r. ⌜ r ≡ heldIn 32 n ⌝ }
 {
-    let Sized::Value(v) = n else {
-        return u32::MAX;
-    };
-    if v > u32::MAX as u64 {
-        return u32::MAX;
-    }
-    v as u32
+    held_to(n, u32::MAX as u64) as u32
 }
 
 fn as_63(n: Sized) -> u64
     ensures { λ r. ⌜ r ≡ heldIn 63 n ⌝ }
 {
-    let Sized::Value(v) = n else {
-        return i64::MAX as u64;
-    };
-    if v > i64::MAX as u64 {
-        return i64::MAX as u64;
-    }
-    v
+    held_to(n, i64::MAX as u64)
 }
 
 fn as_64(n: Sized) -> u64
     ensures { λ r. ⌜ r ≡ heldIn 64 n ⌝ }
 {
+    held_to(n, u64::MAX)
+}
+
+// A number in a field: a larger one counts as the greatest that the field holds.
+fn held_to(n: Sized, most: u64) -> u64
+    ensures { λ r. ⌜ r ≡ heldTo most n ⌝ }
+{
     match n {
-        Sized::Value(v) => v,
-        Sized::Large => u64::MAX,
+        Sized::Value(v) => least(v, most),
+        Sized::Large => most,
     }
+}
+
+fn least(a: u64, b: u64) -> u64
+    ensures { λ r. ⌜ r ≡ min a b ⌝ }
+{
+    if a < b {
+        return a;
+    }
+    b
 }
 
 fn fits_32(n: Sized) -> bool

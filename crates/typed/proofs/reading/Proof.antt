@@ -1,5 +1,5 @@
 -- `typed::reading` meets its contract: a size of 63 bits has its negative among the numbers of 64.
-use Prim.Native.Nat.{ℕ, _^_, _<_}
+use Prim.Native.Nat.{ℕ, _-_, _^_, _<_}
 use mathlib.Core.Path.{_≡_, sym, ap, ap₂, _∙_}
 use mathlib.Core.List.{List}
 use native.Mathlib.Omega.{arith}
@@ -13,7 +13,7 @@ use Rattle.metres.proofs.Negatives.{minus-is, minus-fits}
 use Rattle.typed.specs.Words.{wordAt}
 use Rattle.typed.specs.Numbers.{isBelow, held, sizeAt}
 use Rattle.typed.specs.Scanning.{sizedOf}
-use Rattle.typed.proofs.Values.{held-told, held-63-small}
+use Rattle.typed.proofs.Values.{held-told, held-within}
 use borrow.Author.Needs.{needs}
 use Rattle.typed.proofs.reading.Statement.{statement}
 use Rattle.typed.proofs.reading.Tie as tie
@@ -53,7 +53,7 @@ as-63-requires c κs = search needs
 
 -- The number in 63 bits, and the word's sign.
 small : (c : tie.After-as-63) → c .as-63 .result < 2 ^ 63
-small c = omega (arith, c .as-63 .ensures, held-63-small (c .before .value .result))
+small c = omega (arith, c .as-63 .ensures, held-within (2 ^ 63 - 1) (c .before .value .result))
 
 number : (c : tie.After-as-63) → c .as-63 .result ≡ held 63 (sizeAt (c .before .before .before .before .before .before .before .before .args .s .now) (c .before .before .before .before .before .before .before .before .args .i))
 number c =
