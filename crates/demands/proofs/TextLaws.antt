@@ -43,7 +43,8 @@ use Rattle.typed.specs.Numbers.{isNumber, isBelow, sizeIn, isReading, areNumber
 use Rattle.typed.specs.Typed.{jobIn as jobTypedIn, chainIn, isDraft, draftIn}
 use Rattle.typed.proofs.WordLaws.{spacedWords, spaced-both, spaced-one, words-back}
 use Rattle.typed.proofs.NumberLaws.{digits-word, digits-number, whole-word, whole-reading, whole-back, figures-spaced, figures-line, figures-back}
-use Rattle.typed.proofs.HeldRecords.{passed, used-fits}
+use Rattle.records.proofs.RefusalLaws.{passed}
+use Rattle.typed.proofs.HeldRecords.{used-fits}
 use Rattle.typed.proofs.Fields.{jobTyped, chainTyped, draftTyped, job-taken, chain-taken, draft-taken}
 use Rattle.shown.specs.Fields.{wholeOr, centimetresText, refusedText}
 use Rattle.shown.specs.Lines.{lineWith, jobFigures, jobFields, jobText, jobLine, stationFigures, chainFields, chainText, refusalIn, chainLine, rawText, rawFields, recordText, recordLine}

@@ -1,6 +1,6 @@
 -- Which numbers a refusal may have. Tests leave two answers each: where both are allowed, whichever they give is.
 use Prim.Native.Nat.{ℕ}
-use mathlib.Core.Path.{_≡_}
+use mathlib.Core.Path.{_≡_, refl}
 use mathlib.Core.Bool.{Bool, true, false, cond}
 use mathlib.Core.List.{List}
 use lib.IntN.{ℤ}
@@ -20,6 +20,12 @@ Among refusal numbers answer = isAmong (refusal answer) numbers ≡ true
 pub either : {A : Type 0} (P : A → Type 0) (t : Bool) {refused rest : A} → P refused → P rest → P (unless t refused rest)
 either P true h k = k
 either P false h k = h
+
+-- Where an answer is another than a refusal, its test has passed and the rest has given it.
+pub passed : {A : Type 0} (t : Bool) {refused rest answer : A} → (refused ≡ answer → ⊥) →
+    unless t refused rest ≡ answer → (t ≡ true) × (rest ≡ answer)
+passed true n e = (refl, e)
+passed false n e = absurd (n e)
 
 pub either-kind : {A : Type 0} (P : A → Type 0) (t : Bool) {kind rest : A} → P kind → P rest → P (cond t kind rest)
 either-kind P true h k = h

@@ -18,6 +18,7 @@ use Rattle.writing.specs.declared.Draft.{Draft}
 use Rattle.writing.specs.Writing.{refusalOf, usedOf}
 use Rattle.writing.specs.ChainWriting.{chainRefusalOf}
 use Rattle.writing.specs.JobWriting.{jobRefusalOf}
+use Rattle.records.proofs.RefusalLaws.{passed}
 use Rattle.typed.specs.declared.TypedJob.the-variants as job
 use Rattle.typed.specs.declared.TypedChain.the-variants as chain
 use Rattle.typed.specs.declared.TypedDraft.the-variants as draft
@@ -26,7 +27,7 @@ use Rattle.typed.specs.Words.{wordAt}
 use Rattle.typed.specs.Numbers.{isBelow, isReading, areNumbers, noWord, isLine, numberAt, fits, held, sizeAt, readingAt}
 use Rattle.typed.specs.Typed.{jobIn, chainIn, isDraft, draftIn, questionIn}
 use Rattle.typed.proofs.Held.{heldPlace, held-in-range, heldChain, held-signed}
-use Rattle.typed.proofs.HeldRecords.{passed, heldJob, job-refused, job-kept, chain-refused, chain-kept, heldDraft, draft-refused, used-kept, draft-kept, named-held, expected-held}
+use Rattle.typed.proofs.HeldRecords.{heldJob, job-refused, job-kept, chain-refused, chain-kept, heldDraft, draft-refused, used-kept, draft-kept, named-held, expected-held}
 
 -- What a line says, whatever the size of its numbers.
 abbrev pub placeTyped : List ℕ → ℕ → Place

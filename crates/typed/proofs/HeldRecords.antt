@@ -20,7 +20,6 @@ use Rattle.chart.proofs.ReadingLaws.{expected-out}
 use Rattle.search.specs.Windows.{isWindow}
 use Rattle.search.specs.Questions.{mostTolerance}
 use Rattle.records.specs.declared.Job.{Job}
-use Rattle.records.specs.Bytes.{unless}
 use Rattle.records.specs.LogRecords.{logBytes}
 use Rattle.records.specs.ChainTables.{chainBytes, mostChains, oneTo, chainOf, isTable, chainsIn}
 use Rattle.records.specs.Jobs.{jobBytes}
@@ -30,14 +29,9 @@ use Rattle.writing.specs.Writing.{isKind, numbersFit, refusalOf, usedOf}
 use Rattle.writing.specs.ChainWriting.{chainRefusalOf}
 use Rattle.writing.specs.JobWriting.{jobRefusalOf}
 use Rattle.writing.proofs.WriteLaws.{used-small}
+use Rattle.records.proofs.RefusalLaws.{passed}
 use Rattle.typed.specs.Numbers.{held}
 use Rattle.typed.proofs.Held.{number-held, held-most, held-equal, held-one-to, heldPlace, held-in-range, place-held, heldChain, chain-held, held-sound, heldWindow, held-is-window, window-held, heldWhole, held-size, whole-held, held-is-place}
-
--- Where an answer is another than a refusal, its test has passed and the rest has given it.
-pub passed : {A : Type 0} (t : Bool) {refused rest answer : A} → (refused ≡ answer → ⊥) →
-    unless t refused rest ≡ answer → (t ≡ true) × (rest ≡ answer)
-passed true n e = (refl, e)
-passed false n e = absurd (n e)
 
 -- A job.
 abbrev pub heldJob : Job → Job

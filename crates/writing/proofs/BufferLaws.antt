@@ -1,19 +1,12 @@
--- What all writes share: a test that passed, and what a buffer holds.
-use Prim.Native.Nat.{ℕ, _<_}
+-- What all writes share: what a buffer holds.
+use Prim.Native.Nat.{ℕ}
 use mathlib.Core.Path.{_≡_, refl, ap, _∙_}
 use mathlib.Core.Bool.{Bool, true, false}
 use mathlib.Core.List.{List}
-use native.Mathlib.Omega.{arith}
 use lib.Dec.{eqb}
 use lib.ListN.{length, replicate, length-replicate}
 use borrow.Author.Tests.{eqb-true, eqb-false, ne-eqb}
-use Rattle.records.specs.Bytes.{unless}
 use Rattle.writing.specs.Buffers.{leftIn}
-
--- Where nothing was refused, a test has passed and the rest has not refused either.
-pub passed : (t : Bool) (number rest : ℕ) → 0 < number → unless t number rest ≡ 0 → (t ≡ true) × (rest ≡ 0)
-passed true number rest h e = (refl, e)
-passed false number rest h e = absurd (omega arith)
 
 -- What a buffer holds after a write that was not refused, and after one that was.
 pub left-written : (bytes refusal : ℕ) (written : List ℕ) → refusal ≡ 0 → leftIn bytes refusal written ≡ written

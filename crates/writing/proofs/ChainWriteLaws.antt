@@ -9,8 +9,9 @@ use Rattle.fields.specs.Fields.{bytesOf, putAt}
 use Rattle.chart.specs.declared.Chain.{Chain}
 use Rattle.chart.specs.Chains.{isSound}
 use Rattle.records.specs.ChainTables.{chainBytes}
+use Rattle.records.proofs.RefusalLaws.{passed}
 use Rattle.writing.specs.ChainWriting.{putPlaceAt, bytesOfChain, chainRefusalOf, chainBufferOf}
-use Rattle.writing.proofs.BufferLaws.{passed, left-written, left-zero, left-length}
+use Rattle.writing.proofs.BufferLaws.{left-written, left-zero, left-length}
 
 -- The first test that fails refuses.
 pub chain-1 : (bytes : ℕ) (c : Chain) → (bytes ≡ chainBytes → ⊥) → chainRefusalOf bytes c ≡ 1
@@ -28,7 +29,7 @@ chain-accepted bytes c whole s = rw (eq-eqb bytes chainBytes whole, s)
 -- Only a buffer of 24 bytes is written.
 pub chain-fills : (bytes : ℕ) (c : Chain) → chainRefusalOf bytes c ≡ 0 → bytes ≡ chainBytes
 unfolding chainRefusalOf
-chain-fills bytes c e = eqb-true bytes chainBytes (passed _ 1 _ (omega arith) e .0)
+chain-fills bytes c e = eqb-true bytes chainBytes (passed _ (λ f. omega arith) e .0)
 
 -- Put one after the other into zeros, the places are the chain.
 pub places-together : (c : Chain) → putPlaceAt (putPlaceAt (putPlaceAt (replicate chainBytes 0) 0 (c .master)) 8 (c .a)) 16 (c .b) ≡ bytesOfChain c

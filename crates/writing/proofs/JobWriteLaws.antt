@@ -12,9 +12,10 @@ use Rattle.search.specs.Questions.{mostTolerance}
 use Rattle.search.proofs.WindowLaws.{window-says}
 use Rattle.records.specs.declared.Job.{Job}
 use Rattle.records.specs.Jobs.{jobBytes}
+use Rattle.records.proofs.RefusalLaws.{passed}
 use Rattle.writing.specs.ChainWriting.{putPlaceAt}
 use Rattle.writing.specs.JobWriting.{bytesOfJob, jobRefusalOf, jobBufferOf}
-use Rattle.writing.proofs.BufferLaws.{passed, left-written, left-zero}
+use Rattle.writing.proofs.BufferLaws.{left-written, left-zero}
 
 -- The first test that fails refuses.
 pub job-1 : (bytes : ℕ) (j : Job) → (bytes ≡ jobBytes → ⊥) → jobRefusalOf bytes j ≡ 1
@@ -38,9 +39,9 @@ module _ (bytes : ℕ) (j : Job) (whole : bytes ≡ jobBytes) where
 pub job-passed : (bytes : ℕ) (j : Job) → jobRefusalOf bytes j ≡ 0 → (bytes ≡ jobBytes) × (isWindow (j .window) ≡ true) × (j .tolerance ≤ mostTolerance)
 unfolding jobRefusalOf
 job-passed bytes j e =
-    let whole = passed (eqb bytes jobBytes) 1 _ (omega arith) e in
-    let window = passed (isWindow (j .window)) 6 _ (omega arith) (whole .1) in
-    (eqb-true bytes jobBytes (whole .0), window .0, leb-true _ _ (passed (leb (j .tolerance) mostTolerance) 7 0 (omega arith) (window .1) .0))
+    let whole = passed (eqb bytes jobBytes) (λ f. omega arith) e in
+    let window = passed (isWindow (j .window)) (λ f. omega arith) (whole .1) in
+    (eqb-true bytes jobBytes (whole .0), window .0, leb-true _ _ (passed (leb (j .tolerance) mostTolerance) (λ f. omega arith) (window .1) .0))
 
 -- Its exponent fits a byte.
 pub small-k : (j : Job) → isWindow (j .window) ≡ true → j .window .k < 256

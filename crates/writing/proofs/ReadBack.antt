@@ -24,9 +24,9 @@ use Rattle.records.specs.declared.LogEntry.{LogEntry}
 use Rattle.records.specs.declared.LogEntry.the-variants as entry
 use Rattle.records.specs.Bytes.{allZero}
 use Rattle.records.specs.LogRecords.{rawRecordOf, logRecordOf, isPlace, placed, withBoth, inCentimetres, logEntryOf}
+use Rattle.records.proofs.RefusalLaws.{passed}
 use Rattle.writing.specs.declared.Draft.{Draft}
 use Rattle.writing.specs.Writing.{refusalOf, usedOf, inMetres, metresBytes, recordBytes, rawFor, entryFor}
-use Rattle.writing.proofs.BufferLaws.{passed}
 use Rattle.writing.proofs.WriteLaws.{known-kind}
 
 -- binary64 holds the metres of every number of centimetres: a quotient, or plus zero for one that is not written.
@@ -84,13 +84,13 @@ by-kind : (kind chain line : ℕ) (x y : ℤ) →
 unfolding refusalOf usedOf entryFor
 by-kind zero chain line x y e = absurd (omega arith)
 by-kind (suc zero) chain line x y e =
-    readings-back chain line x y (passed _ 3 _ (omega arith) e .0)
+    readings-back chain line x y (passed _ (λ f. omega arith) e .0)
 by-kind (suc (suc zero)) chain line x y e =
-    let fit = passed _ 3 _ (omega arith) e in
-    place-back line x y (fit .0) (passed _ 4 _ (omega arith) (fit .1) .0)
+    let fit = passed _ (λ (f : _≡_ {A = ℕ} 3 0). omega arith) e in
+    place-back line x y (fit .0) (passed _ (λ f. omega arith) (fit .1) .0)
 by-kind (suc (suc (suc zero))) chain line x y e = hold-back line
 by-kind (suc (suc (suc (suc kind)))) chain line x y e =
-    absurd (omega (arith, known-kind (suc (suc (suc (suc kind)))) (passed _ 2 _ (omega arith) e .0)))
+    absurd (omega (arith, known-kind (suc (suc (suc (suc kind)))) (passed _ (λ f. omega arith) e .0)))
 
 -- The same at any draft.
 pub entry-back : (d : Draft) → refusalOf 32 d ≡ 0 → logEntryOf (recordBytes (usedOf d)) ≡ entryFor (usedOf d)

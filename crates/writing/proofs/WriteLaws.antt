@@ -16,9 +16,10 @@ use Rattle.chart.proofs.PlaceLaws.{too-far-east, by-northing}
 use Rattle.records.specs.LogRecords.{logBytes, isPlace}
 use Rattle.records.specs.ChainTables.{mostChains, oneTo}
 use Rattle.records.proofs.TableLaws.{one-to-says}
+use Rattle.records.proofs.RefusalLaws.{passed}
 use Rattle.writing.specs.declared.Draft.{Draft}
 use Rattle.writing.specs.Writing.{isKind, numbersFit, placeFits, chainFits, refusalOf, usedOf, inMetres, recordBytes, bufferOf}
-use Rattle.writing.proofs.BufferLaws.{passed, left-written, left-zero}
+use Rattle.writing.proofs.BufferLaws.{left-written, left-zero}
 
 -- The numbers, of every kind but a hold.
 pub hold-fits : (d : Draft) → d .kind ≡ 3 → numbersFit d ≡ true
@@ -122,16 +123,16 @@ known-kind kind e = one-to-says 3 kind e .1
 -- Only a buffer of 32 bytes is written.
 pub written-bytes : (bytes : ℕ) (d : Draft) → refusalOf bytes d ≡ 0 → bytes ≡ logBytes
 unfolding refusalOf
-written-bytes bytes d e = eqb-true bytes logBytes (passed _ 1 _ (omega arith) e .0)
+written-bytes bytes d e = eqb-true bytes logBytes (passed _ (λ f. omega arith) e .0)
 
 -- Kind and chain of what is written each fit a byte.
 pub used-small : (bytes : ℕ) (d : Draft) → refusalOf bytes d ≡ 0 → (usedOf d .kind < 256) × (usedOf d .chain < 256)
 unfolding refusalOf usedOf
 used-small bytes d e =
-    let kind = passed (isKind (d .kind)) 2 _ (omega arith) (passed (eqb bytes logBytes) 1 _ (omega arith) e .1) in
-    let numbers = passed (numbersFit d) 3 _ (omega arith) (kind .1) in
-    let place = passed (placeFits d) 4 _ (omega arith) (numbers .1) in
-    let chain = passed (chainFits d) 5 0 (omega arith) (place .1) in
+    let kind = passed (isKind (d .kind)) (λ f. omega arith) (passed (eqb bytes logBytes) (λ f. omega arith) e .1) in
+    let numbers = passed (numbersFit d) (λ f. omega arith) (kind .1) in
+    let place = passed (placeFits d) (λ f. omega arith) (numbers .1) in
+    let chain = passed (chainFits d) (λ f. omega arith) (place .1) in
     (omega (arith, known-kind (d .kind) (kind .0)), small (eqb (d .kind) 1) (d .chain) (chain .0))
   where
     small : (t : Bool) (n : ℕ) → (not t || oneTo mostChains n) ≡ true → cond t n 0 < 256
