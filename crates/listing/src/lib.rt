@@ -18,6 +18,7 @@ use chart::Place;
 use records::ChainCount;
 use records::Job;
 use records::JobAnswer;
+use records::LOG_BYTES;
 use records::LogEntry;
 use records::NamedChain;
 use records::RawAnswer;
@@ -57,9 +58,8 @@ struct Standing {
     carried: Carried,
 }
 
-const LOG_BYTES: usize = 32;
-
-const LONGEST_LINE: usize = 5_760;
+// No line of a record is longer.
+pub const LONGEST_LINE: usize = 5_760;
 
 // Puts the listing of a log at the start of a buffer, or that of a further part of a log, with the place carried to it. The
 // buffer must have room for the longest line, 5,760 bytes, for each whole record of the log and for one more; else 9.

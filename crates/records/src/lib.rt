@@ -83,15 +83,17 @@ enum Pair {
     Unusable,
 }
 
-const LOG_BYTES: usize = 32;
+// The bytes of a log record, of a chain and of a job.
+pub const LOG_BYTES: usize = 32;
 
-const CHAIN_BYTES: usize = 24;
+pub const CHAIN_BYTES: usize = 24;
 
-const JOB_BYTES: usize = 32;
+pub const JOB_BYTES: usize = 32;
 
-const MOST_CHAINS: usize = 16;
+// How many chains a table may have, and its bytes then.
+pub const MOST_CHAINS: usize = 16;
 
-const MOST_TOLERANCE: u32 = 100_000;
+pub const TABLE_BYTES: usize = MOST_CHAINS * CHAIN_BYTES;
 
 // The raw log record in 32 bytes.
 pub fn raw_record(s: &[u8]) -> RawAnswer
@@ -186,7 +188,7 @@ pub fn job_of(s: &[u8]) -> JobAnswer
     if !search::is_window(j.window) {
         return JobAnswer::Refused(6);
     }
-    if j.tolerance > MOST_TOLERANCE {
+    if j.tolerance > search::MOST_TOLERANCE {
         return JobAnswer::Refused(7);
     }
     JobAnswer::Job(j)

@@ -71,7 +71,8 @@ const MOST_EXPONENT: u32 = 24;
 
 const MOST_READING: u64 = 1_000_000_000;
 
-const MOST_TOLERANCE: u32 = 100_000;
+// How large a tolerance may be, in centimetres.
+pub const MOST_TOLERANCE: u32 = 100_000;
 
 // Whether k is at most 24 and every cell of the window in range.
 pub fn is_window(w: Window) -> bool

@@ -28,12 +28,8 @@ pub enum Line {
     Refused(u32),
 }
 
-const CHAIN_BYTES: usize = 24;
-
 // The room for the longest line, beside its bytes in hexadecimal.
-const LINE_ROOM: usize = 192;
-
-const MOST_CENTIMETRES: u64 = 1_000_000_000;
+pub const LINE_ROOM: usize = 192;
 
 // Puts the line of a job at the start of a buffer. Here and below, a buffer that has not room for 192 bytes and two for each
 // that is shown is refused with 9.
@@ -115,7 +111,7 @@ fn job_refusal(s: &[u8]) -> u32
 fn chain_refusal(s: &[u8]) -> u32
     ensures { λ r. ⌜ r ≡ refusalIn (now (s .entry)) ⌝ }
 {
-    if s.len() != CHAIN_BYTES {
+    if s.len() != records::CHAIN_BYTES {
         return 1;
     }
     match records::chain_of(s, 1) {
@@ -307,7 +303,7 @@ fn put_written(out: &mut [u8], at: usize, z: i64) -> usize
     ensures text { λ r. ⌜ Puts (now (out .entry)) at (writtenText z) (now (out .exit)) r ⌝ }
     ensures few { λ _. ⌜ length (writtenText z) ≤ 73 ⌝ }
 {
-    if metres::size(z) > MOST_CENTIMETRES {
+    if metres::size(z) > metres::MOST_CENTIMETRES {
         return text::put(out, at, b" REFUSED 3");
     }
     let a = text::put(out, at, b" ");
