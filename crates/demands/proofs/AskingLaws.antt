@@ -39,7 +39,7 @@ own-readings c p a b e = go (inRange p) (isSound c) refl e
 -- A search with them finds the place.
 pub found-by : (c : Chain) (p : Place) (a b : ℤ) (w : Window) (tolerance allowance entries : ℕ) →
     let q = questionOf c a b tolerance allowance entries in
-    expectedAt c p ≡ Readings a b → IsCellIn w p → Accepted q w → AmpleRoom q w → AmpleAllowance q w → Listed p (searchOf q w .places)
+    expectedAt c p ≡ Readings a b → IsCellIn w p → Accepted (q .rule) w → AmpleRoom q w → AmpleAllowance q w → Listed p (searchOf q w .places)
 found-by c p a b w tolerance allowance entries e inside =
     let own = own-readings c p a b e in
     let asked : ℤ → ℤ → Question = λ x y. questionOf c x y tolerance allowance entries in

@@ -50,7 +50,7 @@ no-other-list q w e l is =
 
 -- The count is that of the matching cells, and the visits are those that the rule counts.
 pub counts-are-right : (q : Question) (w : Window) → Enough q w →
-    (figuresIn q w .count ≡ length (matchingIn q w)) × (figuresIn q w .visits ≡ visitsIn q w)
+    (figuresIn q w .count ≡ length (matchingIn (q .rule) w)) × (figuresIn q w .visits ≡ visitsIn (q .rule) w)
 counts-are-right q w e = (
   places-are-counted q w (e .accepted) (e .room) (e .allowance),
   visits-are-counted q w (e .accepted) (e .room) (e .allowance),
@@ -58,41 +58,41 @@ counts-are-right q w e = (
 
 -- The rule: a cell takes one visit; a larger square that is dropped takes one; any other takes one and those of its quarters.
 -- A square that is dropped has no matching cell.
-pub visits-by-the-rule : (q : Question) (k : ℕ) (p : Place) →
-    (visitsOf q 0 p ≡ 1)
-    × (isKept q k p ≡ false → (visitsOf q (suc k) p ≡ 1) × (matching q (suc k) p ≡ []))
-    × (isKept q k p ≡ true → visitsOf q (suc k) p
-    ≡ 1 + (visitsOf q k p + (visitsOf q k (east (2 ^ k) p) + (visitsOf q k (north (2 ^ k) p) + visitsOf q k (northEast (2 ^ k) p)))))
+pub visits-by-the-rule : (rule : Rule) (k : ℕ) (p : Place) →
+    (visitsOf rule 0 p ≡ 1)
+    × (isKept rule k p ≡ false → (visitsOf rule (suc k) p ≡ 1) × (matching rule (suc k) p ≡ []))
+    × (isKept rule k p ≡ true → visitsOf rule (suc k) p
+    ≡ 1 + (visitsOf rule k p + (visitsOf rule k (east (2 ^ k) p) + (visitsOf rule k (north (2 ^ k) p) + visitsOf rule k (northEast (2 ^ k) p)))))
 unfolding visitsOf
-visits-by-the-rule q k p = (refl, (λ e. (visits-dropped q k p e, dropped-none q k p e)), visits-kept q k p)
+visits-by-the-rule rule k p = (refl, (λ e. (visits-dropped rule k p e, dropped-none rule k p e)), visits-kept rule k p)
 
 -- An allowance of (4^(k+1) - 1)/3 is always enough.
-pub greatest-allowance : (q : Question) (w : Window) → (4 ^ (w .k + 1) - 1) / 3 ≤ q .allowance → visitsIn q w ≤ q .allowance
+pub greatest-allowance : (q : Question) (w : Window) → (4 ^ (w .k + 1) - 1) / 3 ≤ q .limits .allowance → visitsIn (q .rule) w ≤ q .limits .allowance
 greatest-allowance q w h = always-enough q w h
 
 -- Room for 4^k places is always enough too.
-pub greatest-room : (q : Question) (w : Window) → 4 ^ w .k ≤ q .room → length (matchingIn q w) ≤ q .room
-greatest-room q w h = le-trans (matching-few q (w .k) (w .corner)) h
+pub greatest-room : (q : Question) (w : Window) → 4 ^ w .k ≤ q .limits .room → length (matchingIn (q .rule) w) ≤ q .limits .room
+greatest-room q w h = le-trans (matching-few (q .rule) (w .k) (w .corner)) h
 
 -- 8, "no fix", is answered exactly when no cell of the window matches.
-pub no-fix : (q : Question) (w : Window) → Accepted q w → AmpleAllowance q w →
-    (figuresIn q w .refusal ≡ 8) ↔ ((o : Place) → IsCellIn w o → matches q o ≡ false)
+pub no-fix : (q : Question) (w : Window) → Accepted (q .rule) w → AmpleAllowance q w →
+    (figuresIn q w .refusal ≡ 8) ↔ ((o : Place) → IsCellIn w o → matches (q .rule) o ≡ false)
 no-fix q w a enough = (eight-only-then q w, eight-when-none q w a enough)
 
 -- 9 is answered, where the allowance is ample, exactly when more cells match than there is room for.
-pub no-room : (q : Question) (w : Window) → Accepted q w → AmpleAllowance q w →
-    (figuresIn q w .refusal ≡ 9) ↔ (q .room < length (matchingIn q w))
+pub no-room : (q : Question) (w : Window) → Accepted (q .rule) w → AmpleAllowance q w →
+    (figuresIn q w .refusal ≡ 9) ↔ (q .limits .room < length (matchingIn (q .rule) w))
 no-room q w a enough = (nine-only-then q w a enough, nine-when-short q w a enough)
 
 -- 10 is answered, where the room is ample, exactly when the rule counts more visits than are allowed; and then the visits made
 -- are exactly the allowance.
-pub allowance-used-up : (q : Question) (w : Window) → Accepted q w → AmpleRoom q w →
-    ((figuresIn q w .refusal ≡ 10) ↔ (q .allowance < visitsIn q w))
-    × (figuresIn q w .refusal ≡ 10 → figuresIn q w .visits ≡ q .allowance)
+pub allowance-used-up : (q : Question) (w : Window) → Accepted (q .rule) w → AmpleRoom q w →
+    ((figuresIn q w .refusal ≡ 10) ↔ (q .limits .allowance < visitsIn (q .rule) w))
+    × (figuresIn q w .refusal ≡ 10 → figuresIn q w .visits ≡ q .limits .allowance)
 allowance-used-up q w a room = ((ten-only-then q w a room, ten-when-short q w a room), visits-in-allowance q w .1)
 
 -- Without any allowance the answer is 10, whatever the room.
-pub no-allowance : (q : Question) (w : Window) → Accepted q w → q .allowance ≡ 0 → figuresIn q w .refusal ≡ 10
+pub no-allowance : (q : Question) (w : Window) → Accepted (q .rule) w → q .limits .allowance ≡ 0 → figuresIn q w .refusal ≡ 10
 no-allowance q w a none = ten-at-once q w a none
 
 -- The demand in the words of its arguments: with a sound chain, readings, a window and a tolerance within their limits, room
@@ -103,13 +103,13 @@ pub every-such-cell : (c : Chain) (a b : ℤ) (w : Window) (tolerance allowance 
     let q = questionOf c a b tolerance allowance entries in
     let places = searchOf q w .places in
     isSound c ≡ true → natAbs a ≤ 1_000_000_000 → natAbs b ≤ 1_000_000_000 → isWindow w ≡ true → tolerance ≤ 100_000 →
-    length (matchingIn q w) ≤ entries / 2 → (4 ^ (w .k + 1) - 1) / 3 ≤ allowance →
+    length (matchingIn (q .rule) w) ≤ entries / 2 → (4 ^ (w .k + 1) - 1) / 3 ≤ allowance →
     ((o : Place) → Listed o places
     ↔ (IsCellIn w o × (differ (readingOf c (c .a) o) a ≤ tolerance) × (differ (readingOf c (c .b) o) b ≤ tolerance)))
     × EachOnce places
     × Rises (chartNumber w) places
     × (figuresIn q w .count ≡ length places)
-    × (figuresIn q w .visits ≡ visitsIn q w)
+    × (figuresIn q w .visits ≡ visitsIn (q .rule) w)
 every-such-cell c a b w tolerance allowance entries sound ha hb window few room enough =
     let q = questionOf c a b tolerance allowance entries in
     let all : Enough q w = record {

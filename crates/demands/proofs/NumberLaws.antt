@@ -116,21 +116,21 @@ module _ (P : Outcome → Type 0) where
         P (searchOf q w)
     unfolding searchOf
     any-search three five six seven ten nine on =
-        tested (noneTooLarge (q .wanted)) ReadingTooLarge _ three
-        (tested (isSound (q .chain)) Unsound _ five
+        tested (noneTooLarge (q .rule .wanted)) ReadingTooLarge _ three
+        (tested (isSound (q .rule .chain)) Unsound _ five
         (tested (isWindow w) BadWindow _ six
-        (tested (leb (q .tolerance) mostTolerance) BadTolerance _ seven (at-end (walk q w) (ten _) (nine _) on))))
+        (tested (leb (q .rule .tolerance) mostTolerance) BadTolerance _ seven (at-end (walk q w) (ten _) (nine _) on))))
 
-    pub good-search : isWindow w ≡ true → leb (q .tolerance) mostTolerance ≡ true →
+    pub good-search : isWindow w ≡ true → leb (q .rule .tolerance) mostTolerance ≡ true →
         P (refused ReadingTooLarge) → P (refused Unsound) →
         ((v : ℕ) → P (refused (AllowanceUsed v))) → ((v : ℕ) → P (refused (NoRoom v))) → P (gone (walk q w .places) (walk q w .visits)) →
         P (searchOf q w)
     unfolding searchOf
     good-search window tolerance three five ten nine on =
-        tested (noneTooLarge (q .wanted)) ReadingTooLarge _ three
-        (tested (isSound (q .chain)) Unsound _ five
+        tested (noneTooLarge (q .rule .wanted)) ReadingTooLarge _ three
+        (tested (isSound (q .rule .chain)) Unsound _ five
         (passed (isWindow w) BadWindow _ window
-        (passed (leb (q .tolerance) mostTolerance) BadTolerance _ tolerance (at-end (walk q w) (ten _) (nine _) on))))
+        (passed (leb (q .rule .tolerance) mostTolerance) BadTolerance _ tolerance (at-end (walk q w) (ten _) (nine _) on))))
 
 -- Every answer of a search has one of its numbers.
 pub search-number : (a : Answer) → NoneOr (3 ∷ 5 ∷ 6 ∷ 7 ∷ 8 ∷ 9 ∷ 10 ∷ []) (searchFigures a .refusal)
@@ -148,9 +148,9 @@ search-number (AllowanceUsed visits) = refl
 pub refused-lists : (q : Question) (w : Window) (o : Outcome) → Ending q w o → Refuses (searchFigures (o .answer) .refusal) → o .places ≡ []
 unfolding searchFigures
 refused-lists q w _ (early a f v) r = refl
-refused-lists q w _ (done most) r = go (matchingIn q w) r
+refused-lists q w _ (done most) r = go (matchingIn (q .rule) w) r
   where
-    go : (ps : List Place) → Refuses (searchFigures (gone ps (visitsIn q w) .answer) .refusal) → gone ps (visitsIn q w) .places ≡ []
+    go : (ps : List Place) → Refuses (searchFigures (gone ps (visitsIn (q .rule) w) .answer) .refusal) → gone ps (visitsIn (q .rule) w) .places ≡ []
     go [] r = refl
     go (p ∷ ps) r = absurd (r refl)
 refused-lists q w _ (full v most) r = refl
@@ -160,9 +160,9 @@ refused-lists q w _ out r = refl
 pub refused-early : (q : Question) (w : Window) (o : Outcome) → Ending q w o → isAmong (searchFigures (o .answer) .refusal) (3 ∷ 5 ∷ 6 ∷ 7 ∷ []) ≡ true → searchFigures (o .answer) .visits ≡ 0
 unfolding searchFigures isAmong
 refused-early q w _ (early a f v) r = v
-refused-early q w _ (done most) r = go (matchingIn q w) r
+refused-early q w _ (done most) r = go (matchingIn (q .rule) w) r
   where
-    go : (ps : List Place) → isAmong (searchFigures (gone ps (visitsIn q w) .answer) .refusal) (3 ∷ 5 ∷ 6 ∷ 7 ∷ []) ≡ true → searchFigures (gone ps (visitsIn q w) .answer) .visits ≡ 0
+    go : (ps : List Place) → isAmong (searchFigures (gone ps (visitsIn (q .rule) w) .answer) .refusal) (3 ∷ 5 ∷ 6 ∷ 7 ∷ []) ≡ true → searchFigures (gone ps (visitsIn (q .rule) w) .answer) .visits ≡ 0
     go [] r = absurd (false≢true r)
     go (p ∷ ps) r = absurd (false≢true r)
 refused-early q w _ (full v most) r = absurd (false≢true r)
@@ -182,15 +182,15 @@ answered-lists q w =
     go (p ∷ ps) v e = omega arith
 
 -- No list has more places than there is room for.
-pub room-kept : (q : Question) (w : Window) → length (searchOf q w .places) ≤ q .room
+pub room-kept : (q : Question) (w : Window) → length (searchOf q w .places) ≤ q .limits .room
 room-kept q w =
-    any-search (λ (o : Outcome). length (o .places) ≤ q .room) q w
+    any-search (λ (o : Outcome). length (o .places) ≤ q .limits .room) q w
     (omega arith) (omega arith) (omega arith) (omega arith) (λ v. omega arith) (λ v. omega arith)
     (go (walk q w .places) (walk q w .visits) walked)
   where
-    walked : length (walk q w .places) ≤ q .room
+    walked : length (walk q w .places) ≤ q .limits .room
     walked =
-        visit-keeps q (λ (s : Standing). length (s .places) ≤ q .room)
+        visit-keeps q (λ (s : Standing). length (s .places) ≤ q .limits .room)
         (record {
           out = λ s h o. h;
           count = λ s h z l. h;
@@ -199,7 +199,7 @@ room-kept q w =
         })
         (w .k) (w .corner) start (omega arith)
 
-    go : (ps : List Place) (v : ℕ) → length ps ≤ q .room → length (gone ps v .places) ≤ q .room
+    go : (ps : List Place) (v : ℕ) → length ps ≤ q .limits .room → length (gone ps v .places) ≤ q .limits .room
     go [] v h = h
     go (p ∷ ps) v h = h
 

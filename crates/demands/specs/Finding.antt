@@ -12,7 +12,7 @@ use Rattle.search.specs.Cells.{chartNumber, Rises, Listed, AmpleRoom, AmpleAllo
 -- A sound chain, two readings, a window and a tolerance, all within their limits; room for every matching cell; and an
 -- allowance for every visit that the rule counts.
 pub record Enough (q : Question) (w : Window) : Type 0 where
-  pub accepted : Accepted q w
+  pub accepted : Accepted (q .rule) w
   pub room : AmpleRoom q w
   pub allowance : AmpleAllowance q w
 
@@ -23,7 +23,7 @@ EachOnce (p ∷ ps) = (Listed p ps → ⊥) × EachOnce ps
 
 -- The list holds every matching cell of the window and no other, each once, in chart order: by rising interleaved numbers.
 pub record IsTheList (q : Question) (w : Window) (places : List Place) : Type 0 where
-  pub every : (o : Place) → IsCellIn w o → matches q o ≡ true → Listed o places
-  pub no-other : (o : Place) → Listed o places → IsCellIn w o × (matches q o ≡ true)
+  pub every : (o : Place) → IsCellIn w o → matches (q .rule) o ≡ true → Listed o places
+  pub no-other : (o : Place) → Listed o places → IsCellIn w o × (matches (q .rule) o ≡ true)
   pub once : EachOnce places
   pub in-order : Rises (chartNumber w) places
