@@ -127,6 +127,30 @@ pub fn log_entry(s: &[u8]) -> LogEntry
     }
 }
 
+// Whether two numbers are easting and northing of a place in range. They may be too large for a place's numbers.
+pub fn is_place(x: i64, y: i64) -> bool
+    ensures { λ r. ⌜ r ≡ isPlace x y ⌝ }
+{
+    if x < 0 {
+        return false;
+    }
+    if y < 0 {
+        return false;
+    }
+    let e = metres::size(x);
+    let n = metres::size(y);
+    if e > u32::MAX as u64 {
+        return false;
+    }
+    if n > u32::MAX as u64 {
+        return false;
+    }
+    chart::in_range(Place {
+        easting: e as u32,
+        northing: n as u32,
+    })
+}
+
 // How many chains there are in the bytes of a table.
 pub fn chain_count(s: &[u8]) -> ChainCount
     ensures { λ r. ⌜ r ≡ chainCountOf (now (s .entry)) ⌝ }
@@ -336,30 +360,6 @@ fn place(p: Pair) -> LogEntry
     LogEntry::Place(Place {
         easting: metres::size(x) as u32,
         northing: metres::size(y) as u32,
-    })
-}
-
-// Whether two numbers are easting and northing of a place in range. They may be too large for a place's numbers.
-fn is_place(x: i64, y: i64) -> bool
-    ensures { λ r. ⌜ r ≡ isPlace x y ⌝ }
-{
-    if x < 0 {
-        return false;
-    }
-    if y < 0 {
-        return false;
-    }
-    let e = metres::size(x);
-    let n = metres::size(y);
-    if e > u32::MAX as u64 {
-        return false;
-    }
-    if n > u32::MAX as u64 {
-        return false;
-    }
-    chart::in_range(Place {
-        easting: e as u32,
-        northing: n as u32,
     })
 }
 
