@@ -109,12 +109,12 @@ unfoldable pub bufferWith : List ℕ → List ℕ → Part → List ℕ
 bufferWith out log p = cond (hasRoom (length out) log) (p .text ++ drop (length (p .text)) out) out
 
 -- All that a listing leaves: its answer, and every byte of its buffer.
-pub record Left : Type 0 where
+pub record ListLeft : Type 0 where
   pub answer : Listed
   pub buffer : List ℕ
 
 -- What the listing of a log, or of a further part of one, leaves in a buffer.
-abbrev pub leftBy : List ℕ → List ℕ → List ℕ → List ℕ → Carried → Left
-leftBy out job table log before =
+abbrev pub listLeft : List ℕ → List ℕ → List ℕ → List ℕ → Carried → ListLeft
+listLeft out job table log before =
     let p = listingFrom job table log before in
     record { answer = listedIn (length out) log p; buffer = bufferWith out log p }

@@ -12,7 +12,7 @@ ghost use Rattle.records.specs.ChainTables.{chainCountOf};
 ghost use Rattle.text.specs.Texts.{spaced, figuresText};
 ghost use Rattle.text.specs.Puts.{Put};
 ghost use Rattle.listing.specs.Answers.{RecordAnswer, Refused, fixBy, holdOf, answerOf, searched, carriedBy, only, programRoom};
-ghost use Rattle.listing.specs.Listings.{headOf, lineOf, linesOf, noticeOf, listingBy, longestLine, leftBy};
+ghost use Rattle.listing.specs.Listings.{headOf, lineOf, linesOf, noticeOf, listingBy, longestLine, listLeft};
 ghost use Rattle.listing.specs.Putting.{Gives, Begins, Tells, listEntries, wordText};
 use chart::Place;
 use records::ChainCount;
@@ -64,8 +64,8 @@ pub const LONGEST_LINE: usize = 5_760;
 // Puts the listing of a log at the start of a buffer, or that of a further part of a log, with the place carried to it. The
 // buffer must have room for the longest line, 5,760 bytes, for each whole record of the log and for one more; else 9.
 pub fn list(out: &mut [u8], job: &[u8], table: &[u8], log: &[u8], before: Carried) -> Listed
-    ensures answer { λ r. ⌜ r ≡ leftBy (now (out .entry)) (now (job .entry)) (now (table .entry)) (now (log .entry)) before .answer ⌝ }
-    ensures out { λ _. ⌜ now (out .exit) ≡ leftBy (now (out .entry)) (now (job .entry)) (now (table .entry)) (now (log .entry)) before .buffer ⌝ }
+    ensures answer { λ r. ⌜ r ≡ listLeft (now (out .entry)) (now (job .entry)) (now (table .entry)) (now (log .entry)) before .answer ⌝ }
+    ensures out { λ _. ⌜ now (out .exit) ≡ listLeft (now (out .entry)) (now (job .entry)) (now (table .entry)) (now (log .entry)) before .buffer ⌝ }
 {
     if out.len() / LONGEST_LINE <= log.len() / LOG_BYTES {
         return Listed::Refused(9);

@@ -69,13 +69,13 @@ unfoldable pub listOf : ℕ → List Place → List ℕ
 listOf entries ps = entriesOf ps ++ replicate (entries - 2 * length ps) 0
 
 -- All that a search leaves: its answer, and every entry of its list, whatever it held.
-pub record Left : Type 0 where
+pub record SearchLeft : Type 0 where
   pub answer : Answer
   pub list : List ℕ
 
 -- What a search of a window for readings, one for each slave, leaves in a list of so many entries.
-abbrev pub leftBy : Chain → List ℤ → Window → ℕ → ℕ → ℕ → Left
-leftBy c readings w tolerance allowance entries =
+abbrev pub searchLeft : Chain → List ℤ → Window → ℕ → ℕ → ℕ → SearchLeft
+searchLeft c readings w tolerance allowance entries =
     let o = searchOf (questionOf c readings tolerance allowance entries) w in
     record { answer = o .answer; list = listOf entries (o .places) }
 

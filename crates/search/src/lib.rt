@@ -13,7 +13,7 @@ ghost use Rattle.search.specs.Windows as windows;
 ghost use Rattle.search.specs.Questions.{noneTooLarge};
 ghost use Rattle.search.specs.Walk.{Standing, start};
 ghost use Rattle.search.specs.Walk as walk;
-ghost use Rattle.search.specs.Answers.{ended, listOf, leftBy, searchFigures};
+ghost use Rattle.search.specs.Answers.{ended, listOf, searchLeft, searchFigures};
 ghost use Rattle.search.specs.Holding.{above, below, ruleBy, questionBy, Fair, Ready, OnChart, Holds};
 use chart::Chain;
 use chart::Place;
@@ -102,8 +102,8 @@ pub fn search(
     tolerance: u32,
     allowance: u64,
 ) -> Answer
-    ensures answer { λ r. ⌜ r ≡ leftBy c (ra ∷ rb ∷ []) w tolerance allowance (length (now (list .entry))) .answer ⌝ }
-    ensures list { λ _. ⌜ now (list .exit) ≡ leftBy c (ra ∷ rb ∷ []) w tolerance allowance (length (now (list .entry))) .list ⌝ }
+    ensures answer { λ r. ⌜ r ≡ searchLeft c (ra ∷ rb ∷ []) w tolerance allowance (length (now (list .entry))) .answer ⌝ }
+    ensures list { λ _. ⌜ now (list .exit) ≡ searchLeft c (ra ∷ rb ∷ []) w tolerance allowance (length (now (list .entry))) .list ⌝ }
 {
     let readings = none_too_large(ra, rb);
     let chain = chart::sound(c);
