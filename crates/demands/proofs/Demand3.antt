@@ -8,22 +8,22 @@ use mathlib.Core.Logic.{_↔_}
 use mathlib.Core.Bool.{true, false}
 use mathlib.Core.List.{List, []}
 use native.Mathlib.Nat.{le-trans}
-use lib.IntN.{ℤ, natAbs}
+use lib.IntN.{ℤ}
 use lib.ListN.{length}
 use Rattle.chart.specs.declared.Place.{Place}
 use Rattle.chart.specs.declared.Chain.{Chain}
 use Rattle.chart.specs.Chains.{isSound}
-use Rattle.chart.specs.Readings.{readingOf, differ}
+use Rattle.chart.specs.Readings.{wantedOf}
 use Rattle.search.specs.declared.Window.{Window}
 use Rattle.search.specs.Windows.{east, north, northEast, isWindow, IsCellIn}
-use Rattle.search.specs.Questions.{Question, questionOf, matches, isKept}
+use Rattle.search.specs.Questions.{Rule, Question, ruleOf, questionOf, matches, isKept}
 use Rattle.search.specs.Answers.{Accepted, searchOf, figuresIn}
 use Rattle.search.specs.Cells.{chartNumber, Rises, Listed, matching, matchingIn, visitsOf, visitsIn, AmpleRoom, AmpleAllowance}
 use Rattle.search.proofs.Whole.{visits-kept, visits-dropped}
 use Rattle.search.proofs.Dropping.{dropped-none}
 use Rattle.search.proofs.Theorems.{listed-iff-matches, numbers-rise, only-list, eight-only-then, eight-when-none, visits-are-counted, places-are-counted, listed-are-counted, always-enough, nine-when-short, nine-only-then, visits-in-allowance}
-use Rattle.demands.specs.Finding.{Enough, EachOnce, IsTheList}
-use Rattle.demands.proofs.AskingLaws.{tests-pass, both-differ}
+use Rattle.demands.specs.Finding.{Enough, EachSmall, EachWithin, EachOnce, IsTheList}
+use Rattle.demands.proofs.AskingLaws.{tests-pass, each-differs}
 use Rattle.demands.proofs.StoppingLaws.{rising-once, matching-few, ten-when-short, ten-only-then, ten-at-once}
 
 -- The list of a search holds every cell of the window that matches, and no other, each once, in chart order.
@@ -37,11 +37,10 @@ exactly-the-matching-cells q w e =
       in-order = numbers-rise q w;
     }
 
--- That a cell matches two readings says that both of its differences are within the tolerance.
-pub matching-means : (c : Chain) (a b : ℤ) (tolerance allowance entries : ℕ) (o : Place) →
-    (matches (questionOf c a b tolerance allowance entries) o ≡ true)
-    ↔ ((differ (readingOf c (c .a) o) a ≤ tolerance) × (differ (readingOf c (c .b) o) b ≤ tolerance))
-matching-means c a b tolerance allowance entries o = both-differ tolerance c a b o
+-- That a cell matches readings says that each of its differences is within the tolerance.
+pub matching-means : (c : Chain) (readings : List ℤ) (tolerance : ℕ) (o : Place) →
+    (matches (ruleOf c readings tolerance) o ≡ true) ↔ EachWithin tolerance c (wantedOf c readings) o
+matching-means c readings tolerance o = each-differs tolerance c (wantedOf c readings) o
 
 -- Any list of which this may be said is the list of the search.
 pub no-other-list : (q : Question) (w : Window) → Enough q w → (l : List Place) → IsTheList q w l → l ≡ searchOf q w .places
@@ -96,32 +95,31 @@ pub no-allowance : (q : Question) (w : Window) → Accepted (q .rule) w → q .l
 no-allowance q w a none = ten-at-once q w a none
 
 -- The demand in the words of its arguments: with a sound chain, readings, a window and a tolerance within their limits, room
--- for the matching cells and the greatest allowance, a cell is listed exactly if it lies in the window and both its
--- differences are within the tolerance; the listed cells stand each once, in chart order; and their count and the visits are
+-- for the matching cells and the greatest allowance, a cell is listed exactly if it lies in the window and each of its
+-- differences is within the tolerance; the listed cells stand each once, in chart order; and their count and the visits are
 -- right.
-pub every-such-cell : (c : Chain) (a b : ℤ) (w : Window) (tolerance allowance entries : ℕ) →
-    let q = questionOf c a b tolerance allowance entries in
+pub every-such-cell : (c : Chain) (readings : List ℤ) (w : Window) (tolerance allowance entries : ℕ) →
+    let q = questionOf c readings tolerance allowance entries in
     let places = searchOf q w .places in
-    isSound c ≡ true → natAbs a ≤ 1_000_000_000 → natAbs b ≤ 1_000_000_000 → isWindow w ≡ true → tolerance ≤ 100_000 →
+    isSound c ≡ true → EachSmall readings → isWindow w ≡ true → tolerance ≤ 100_000 →
     length (matchingIn (q .rule) w) ≤ entries / 2 → (4 ^ (w .k + 1) - 1) / 3 ≤ allowance →
-    ((o : Place) → Listed o places
-    ↔ (IsCellIn w o × (differ (readingOf c (c .a) o) a ≤ tolerance) × (differ (readingOf c (c .b) o) b ≤ tolerance)))
+    ((o : Place) → Listed o places ↔ (IsCellIn w o × EachWithin tolerance c (wantedOf c readings) o))
     × EachOnce places
     × Rises (chartNumber w) places
     × (figuresIn q w .count ≡ length places)
     × (figuresIn q w .visits ≡ visitsIn (q .rule) w)
-every-such-cell c a b w tolerance allowance entries sound ha hb window few room enough =
-    let q = questionOf c a b tolerance allowance entries in
+every-such-cell c readings w tolerance allowance entries sound small window few room enough =
+    let q = questionOf c readings tolerance allowance entries in
     let all : Enough q w = record {
-      accepted = tests-pass c a b w tolerance allowance entries ha hb sound window few;
+      accepted = tests-pass c readings w tolerance small sound window few;
       room = room;
       allowance = greatest-allowance q w enough;
     } in
     let list = exactly-the-matching-cells q w all in
-    let means = both-differ tolerance c a b in (
+    let means = matching-means c readings tolerance in (
       (λ o. (
-        (λ m. (list .no-other o m .0, means o .0 (list .no-other o m .1) .0, means o .0 (list .no-other o m .1) .1)),
-        (λ h. list .every o (h .0) (means o .1 (h .1, h .2))),
+        (λ m. (list .no-other o m .0, means o .0 (list .no-other o m .1))),
+        (λ h. list .every o (h .0) (means o .1 (h .1))),
       )),
       list .once,
       list .in-order,

@@ -14,10 +14,10 @@ use Rattle.metres.specs.declared.Length.{Length}
 use Rattle.metres.specs.declared.Length.the-variants as metres
 use Rattle.metres.specs.Metres.{wholeFigures, lengthFigures, plusZero}
 use Rattle.chart.specs.declared.Place.{Place}
-use Rattle.chart.specs.declared.Expected.{Expected}
-use Rattle.chart.specs.declared.Expected.the-variants as expected
+use Rattle.chart.specs.declared.Chain.{Chain}
+use Rattle.chart.specs.Places.{inRange}
 use Rattle.chart.specs.Chains.{isSound}
-use Rattle.chart.specs.Readings.{figuresOf}
+use Rattle.chart.specs.Readings.{readingsOf, Expects, NoneFor, expectedAt, noFigures, figuresOf}
 use Rattle.chart.proofs.PlaceLaws.{both}
 use Rattle.search.specs.declared.Window.{Window}
 use Rattle.search.specs.declared.Answer.{Answer}
@@ -78,11 +78,18 @@ unfolding lengthFigures isAmong
 length-number (metres.Metres x) = (refl, λ r. absurd (r refl))
 length-number metres.Refused = (refl, λ r. refl)
 
-pub readings-number : (a : Expected) → NoneOr (4 ∷ 5 ∷ []) (figuresOf a .refusal) × (Refuses (figuresOf a .refusal) → (figuresOf a .a ≡ pos 0) × (figuresOf a .b ≡ pos 0))
-unfolding figuresOf isAmong
-readings-number (expected.Readings a b) = (refl, λ r. absurd (r refl))
-readings-number expected.OutOfRange = (refl, λ r. (refl, refl))
-readings-number expected.Unsound = (refl, λ r. (refl, refl))
+pub readings-number : (c : Chain) (p : Place) →
+    let f = figuresOf (expectedAt c p) in
+    NoneOr (4 ∷ 5 ∷ []) (f .refusal) × (Refuses (f .refusal) → f ≡ noFigures (f .refusal))
+unfolding expectedAt figuresOf isAmong
+readings-number c p = go (inRange p) (isSound c)
+  where
+    go : (s t : Bool) →
+        let f = figuresOf (cond s (cond t (Expects (readingsOf c p)) (NoneFor 5)) (NoneFor 4)) in
+        NoneOr (4 ∷ 5 ∷ []) (f .refusal) × (Refuses (f .refusal) → f ≡ noFigures (f .refusal))
+    go true true = (refl, λ r. absurd (r refl))
+    go true false = (refl, λ r. refl)
+    go false t = (refl, λ r. refl)
 
 -- A listing that has room, and one that has not.
 pub listed-number : (b : Bool) (p : Part) (held text : List ℕ) →
@@ -231,11 +238,11 @@ abbrev pub recordNumbers : List ℕ
 recordNumbers = 1 ∷ 2 ∷ 3 ∷ 4 ∷ 5 ∷ 8 ∷ 9 ∷ 10 ∷ 11 ∷ []
 
 module _ (j : Job) (window : isWindow (j .window) ≡ true) (tolerance : leb (j .tolerance) mostTolerance ≡ true) where
-  fix-number : (a b : ℤ) (chain : NamedChain) → isAmong (chainRefusal chain) (0 ∷ 1 ∷ 5 ∷ []) ≡ true → NoneOr recordNumbers (recordRefusal (fixBy j a b chain))
+  fix-number : (readings : List ℤ) (chain : NamedChain) → isAmong (chainRefusal chain) (0 ∷ 1 ∷ 5 ∷ []) ≡ true → NoneOr recordNumbers (recordRefusal (fixBy j readings chain))
   unfolding fixBy searched recordRefusal searchFigures isAmong chainRefusal
-  fix-number a b (named.Refused number) h = wider number (0 ∷ 1 ∷ 5 ∷ []) (0 ∷ recordNumbers) refl h
-  fix-number a b (named.Chain c) h =
-      let q : Question = questionOf c a b (j .tolerance) (j .allowance) (2 * programRoom) in
+  fix-number readings (named.Refused number) h = wider number (0 ∷ 1 ∷ 5 ∷ []) (0 ∷ recordNumbers) refl h
+  fix-number readings (named.Chain c) h =
+      let q : Question = questionOf c readings (j .tolerance) (j .allowance) (2 * programRoom) in
       good-search (λ (o : Outcome). NoneOr recordNumbers (recordRefusal (searched o))) q (j .window) window tolerance
       refl refl (λ v. refl) (λ v. refl) (go (walk q (j .window) .places) (walk q (j .window) .visits))
     where
@@ -252,7 +259,7 @@ module _ (j : Job) (window : isWindow (j .window) ≡ true) (tolerance : leb (j 
       isAmong (chainRefusal chain) (0 ∷ 1 ∷ 5 ∷ []) ≡ true → isAmong (entryRefusal e) (0 ∷ 1 ∷ 2 ∷ 3 ∷ 4 ∷ []) ≡ true →
       NoneOr recordNumbers (recordRefusal (answerBy j chain before e))
   unfolding answerBy recordRefusal isAmong entryRefusal
-  answer-number chain before (entry.Readings a b) h k = fix-number a b chain h
+  answer-number chain before (entry.Readings a b) h k = fix-number (a ∷ b ∷ []) chain h
   answer-number chain before (entry.Place p) h k = refl
   answer-number chain before entry.Hold h k = hold-number before
   answer-number chain before (entry.Refused number) h k = wider number (0 ∷ 1 ∷ 2 ∷ 3 ∷ 4 ∷ []) (0 ∷ recordNumbers) refl k

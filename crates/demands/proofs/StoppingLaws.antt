@@ -13,7 +13,7 @@ use lib.ListN.{length, length-append}
 use Rattle.chart.specs.declared.Place.{Place}
 use Rattle.search.specs.declared.Window.{Window}
 use Rattle.search.specs.Windows.{east, north, northEast}
-use Rattle.search.specs.Questions.{Question, matches, isKept}
+use Rattle.search.specs.Questions.{Rule, Question, matches, isKept}
 use Rattle.search.specs.Walk.{Standing, either, unchanged, start, visit}
 use Rattle.search.specs.Answers.{Outcome, Accepted, searchFigures, figuresIn}
 use Rattle.search.specs.Cells.{Rises, cells, ifSo, those, matching, matchingIn, visitsIn, Listed, AmpleRoom}
