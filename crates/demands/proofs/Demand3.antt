@@ -3,11 +3,12 @@
 -- chart order, and no other cell. "No fix" comes exactly when there is no such cell. The squares searched are counted by the
 -- written rule, and the stated greatest allowance always suffices.
 use Prim.Native.Nat.{ℕ, suc, _+_, _-_, _/_, _^_, _≤_, _<_}
-use mathlib.Core.Path.{_≡_, refl}
+use mathlib.Core.Path.{_≡_, refl, ap}
 use mathlib.Core.Logic.{_↔_}
 use mathlib.Core.Bool.{true, false}
 use mathlib.Core.List.{List, []}
 use native.Mathlib.Nat.{le-trans}
+use borrow.Author.Tests.{leb-false, lt-leb}
 use lib.IntN.{ℤ}
 use lib.ListN.{length}
 use Rattle.chart.specs.declared.Place.{Place}
@@ -15,15 +16,18 @@ use Rattle.chart.specs.declared.Chain.{Chain}
 use Rattle.chart.specs.Chains.{isSound}
 use Rattle.chart.specs.Readings.{wantedOf}
 use Rattle.search.specs.declared.Window.{Window}
+use Rattle.search.specs.declared.Answer.{Answer}
+use Rattle.search.specs.declared.Answer.the-variants.{Places}
 use Rattle.search.specs.Windows.{east, north, northEast, isWindow, IsCellIn}
-use Rattle.search.specs.Questions.{Rule, Question, ruleOf, questionOf, matches, isKept}
-use Rattle.search.specs.Answers.{Accepted, searchOf, figuresIn}
+use Rattle.search.specs.Questions.{Rule, Question, ruleOf, questionOf, noneTooLarge, matches, isKept}
+use Rattle.search.specs.Answers.{Accepted, searchOf, searchFigures, figuresIn}
 use Rattle.search.specs.Cells.{chartNumber, Rises, Listed, matching, matchingIn, visitsOf, visitsIn, AmpleRoom, AmpleAllowance}
 use Rattle.search.proofs.Whole.{visits-kept, visits-dropped}
 use Rattle.search.proofs.Dropping.{dropped-none}
 use Rattle.search.proofs.Theorems.{listed-iff-matches, numbers-rise, only-list, eight-only-then, eight-when-none, visits-are-counted, places-are-counted, listed-are-counted, always-enough, nine-when-short, nine-only-then, visits-in-allowance}
 use Rattle.demands.specs.Finding.{Enough, EachSmall, EachWithin, EachOnce, IsTheList}
 use Rattle.demands.proofs.AskingLaws.{tests-pass, each-differs}
+use Rattle.demands.proofs.TestLaws.{tests-in-order, found-answered}
 use Rattle.demands.proofs.StoppingLaws.{rising-once, matching-few, ten-when-short, ten-only-then, ten-at-once}
 
 -- The list of a search holds every cell of the window that matches, and no other, each once, in chart order.
@@ -41,6 +45,14 @@ exactly-the-matching-cells q w e =
 pub matching-means : (c : Chain) (readings : List ℤ) (tolerance : ℕ) (o : Place) →
     (matches (ruleOf c readings tolerance) o ≡ true) ↔ EachWithin tolerance c (wantedOf c readings) o
 matching-means c readings tolerance o = each-differs tolerance c (wantedOf c readings) o
+
+-- Where a cell of the window matches, the answer is places, as many as match, and no refusal.
+pub answered-with-places : (q : Question) (w : Window) → Enough q w → (o : Place) → IsCellIn w o → matches (q .rule) o ≡ true →
+    (figuresIn q w .refusal ≡ 0) × (searchOf q w .answer ≡ Places (length (matchingIn (q .rule) w)) (visitsIn (q .rule) w))
+unfolding searchFigures
+answered-with-places q w e o inside m =
+    let places = found-answered q w e o inside m in
+    (ap (λ (a : Answer). searchFigures a .refusal) places, places)
 
 -- Any list of which this may be said is the list of the search.
 pub no-other-list : (q : Question) (w : Window) → Enough q w → (l : List Place) → IsTheList q w l → l ≡ searchOf q w .places
@@ -72,6 +84,27 @@ greatest-allowance q w h = always-enough q w h
 -- Room for 4^k places is always enough too.
 pub greatest-room : (q : Question) (w : Window) → 4 ^ w .k ≤ q .limits .room → length (matchingIn (q .rule) w) ≤ q .limits .room
 greatest-room q w h = le-trans (matching-few (q .rule) (w .k) (w .corner)) h
+
+-- 3, 5, 6 and 7 come before the walk, and in this order: 3 exactly when a reading is too large; else 5 exactly when the chain is
+-- not sound; else 6 exactly when the window is none; else 7 exactly when the tolerance is too large.
+pub refused-before-the-walk : (q : Question) (w : Window) →
+    let number = figuresIn q w .refusal in
+    let small = noneTooLarge (q .rule .wanted) in
+    let sound = isSound (q .rule .chain) in
+    ((number ≡ 3) ↔ (small ≡ false))
+    × ((number ≡ 5) ↔ ((small ≡ true) × (sound ≡ false)))
+    × ((number ≡ 6) ↔ ((small ≡ true) × (sound ≡ true) × (isWindow w ≡ false)))
+    × ((number ≡ 7) ↔ ((small ≡ true) × (sound ≡ true) × (isWindow w ≡ true) × (100_000 < q .rule .tolerance)))
+refused-before-the-walk q w =
+    let tests = tests-in-order q w in (
+      tests .0,
+      tests .1,
+      tests .2,
+      (
+        (λ e. let h = tests .3 .0 e in (h .0, h .1, h .2, leb-false _ _ (h .3))),
+        (λ h. tests .3 .1 (h .0, h .1, h .2, lt-leb _ _ (h .3))),
+      ),
+    )
 
 -- 8, "no fix", is answered exactly when no cell of the window matches.
 pub no-fix : (q : Question) (w : Window) → Accepted (q .rule) w → AmpleAllowance q w →

@@ -112,7 +112,7 @@ module _ (P : Outcome → Type 0) where
   passed : (b : Bool) (a : Answer) (rest : Unit {0} → Outcome) → b ≡ true → P (rest tt) → P (unless b a rest)
   passed b a rest e h = subst⁻¹ (λ (x : Bool). P (unless x a rest)) e h
 
-  at-end : (s : Standing) → P (refused (AllowanceUsed (s .visits))) → P (refused (NoRoom (s .visits))) → P (gone (s .places) (s .visits)) → P (ended s)
+  pub at-end : (s : Standing) → P (refused (AllowanceUsed (s .visits))) → P (refused (NoRoom (s .visits))) → P (gone (s .places) (s .visits)) → P (ended s)
   unfolding ended
   at-end s h k l = either-way (eqb (s .stop) 10) _ _ h (either-way (eqb (s .stop) 9) _ _ k l)
 
