@@ -1,7 +1,8 @@
 -- Demand 1. A log, a station table or a job of any content gets an answer or a numbered refusal, and the work ends. After a
 -- refusal the list of places holds zeros and the count of places is nought.
--- Every public function takes any content, is proved to return, and answers by one definition: so the work ends. Here stands
--- what the definitions answer: `NoneOr numbers` says no refusal, which is 0, or one of these numbers, and no other.
+-- Every public function takes any content and is proved to return: so the work ends. What it answers follows from definitions,
+-- but for what comes from the outside, and here stands what these answer: `NoneOr numbers` says no refusal, which is 0, or one
+-- of these numbers, and no other.
 use Prim.Native.Nat.{ℕ, _-_, _*_, _≤_}
 use mathlib.Core.Path.{_≡_, refl, ap, _∙_, subst}
 use mathlib.Core.Bool.{true}
