@@ -1,14 +1,14 @@
 -- A part's listing has its room, and the listing of what follows goes on from its place.
-use Prim.Native.Nat.{ℕ, _+_, _-_, _/_, _≤_, _<_, min}
-use mathlib.Core.Bool.{true, false, true≢false}
-use mathlib.Core.List.{List, [], _++_}
+use Prim.Native.Nat.{ℕ, _+_, _-_, _/_, _≤_, min}
+use mathlib.Core.Bool.{true, true≢false}
+use mathlib.Core.List.{List, _++_}
 use mathlib.Core.Path.{_≡_, refl, sym, ap, _∙_, subst}
 use native.Mathlib.Decide.{decLe}
 use native.Mathlib.Nat.{lt-of-not-le}
 use native.Mathlib.Omega.{arith}
 use borrow.Author.Tests.{lt-ltb}
-use lib.ListN.{length, take, drop, take-append-drop, length-append, length-take, length-drop, drop-of-length-le}
-use lib.Seq.{take-append-seam, take-all, drop-drop}
+use lib.ListN.{length, take, drop, take-append-drop, length-append, drop-of-length-le}
+use lib.Seq.{length-take-le, take-append-seam, take-all}
 use Rattle.records.specs.declared.Job.{Job}
 use Rattle.records.specs.declared.JobAnswer.{JobAnswer}
 use Rattle.records.specs.declared.JobAnswer.the-variants as job
@@ -17,12 +17,11 @@ use Rattle.records.specs.declared.ChainCount.the-variants as count
 use Rattle.records.specs.LogRecords.{logBytes}
 use Rattle.records.specs.ChainTables.{chainCountOf}
 use Rattle.records.specs.Jobs.{jobOf}
+use Rattle.records.proofs.Pieces.{piece-is, behind-is}
 use Rattle.listing.specs.declared.Carried.{Carried}
-use Rattle.listing.specs.declared.Listed.{Listed}
 use Rattle.listing.specs.declared.Listed.the-variants as listed
 use Rattle.listing.specs.Listings.{Part, linesFrom, listingBy, listingFrom, hasRoom, listedIn, bufferWith}
 use Rattle.listing.proofs.Theorems.{in-parts}
-use Rattle.laylist.specs.declared.Listing.{Listing}
 use Rattle.laylist.specs.declared.Next.{Next}
 use Rattle.laylist.specs.declared.Next.the-variants as follows
 use Rattle.laylist.specs.Walks.{isJob, isTable, Accepted, partBytes, outBytes, Holds, GoesOn}
@@ -72,42 +71,37 @@ unfolding linesFrom listingBy listingFrom
 nothing-left job table ok log done place all =
     rw (drop-of-length-le log {i = done} all, job-of (jobOf job) (ok .by-job) .1, count-of (chainCountOf table) (ok .by-table) .1)
 
--- The next part of a log, and what is behind it.
-module _ (log : List ℕ) (done next : ℕ) (e : next ≡ min (done + partBytes) (length log)) (inside : done ≤ length log) where
-  abbrev part : List ℕ
-  part = take (next - done) (drop done log)
+module _ (job table : List ℕ) (ok : Accepted job table) where
+  -- The place behind a log is that behind the rest of it, from the place that its first part carries on.
+  rest-carries : (log : List ℕ) (place : Carried) →
+      listingFrom job table log place .carried
+      ≡ listingFrom job table (drop partBytes log) (listingFrom job table (take partBytes log) place .carried) .carried
+  rest-carries log place = go (decLe partBytes (length log))
+    where
+      part : List ℕ
+      part = take partBytes log
 
-  rest : part ++ drop next log ≡ drop done log
-  rest =
-      let there : done + (next - done) ≡ next = omega (arith, e) in
-      ap (λ (l : List ℕ). part ++ l) (sym (drop-drop (next - done) done log ∙ ap (λ (n : ℕ). drop n log) there))
-      ∙ take-append-drop (next - done) (drop done log)
+      after : Carried
+      after = listingFrom job table part place .carried
 
-  part-long : length part ≡ next - done
-  part-long = omega (arith, length-take (next - done) (drop done log), length-drop done log, e)
+      go : Dec (partBytes ≤ length log) → listingFrom job table log place .carried ≡ listingFrom job table (drop partBytes log) after .carried
+      go (yes h) =
+          let j = job-of (jobOf job) (ok .by-job) in
+          let n = count-of (chainCountOf table) (ok .by-table) in
+          ap (λ (l : List ℕ). listingFrom job table l place .carried) (sym (take-append-drop partBytes log))
+          ∙ ap (λ (p : Part). p .carried)
+          (in-parts job table (j .0) (n .0) (j .1) (n .1) place part (drop partBytes log) (omega (arith, length-take-le partBytes log h)))
+      go (no h) =
+          let all = lt-of-not-le h in
+          ap (λ (l : List ℕ). listingFrom job table l place .carried) (sym (take-all partBytes log (omega arith)))
+          ∙ sym (nothing-left job table ok log partBytes after (omega arith))
 
-  module _ (job table : List ℕ) (ok : Accepted job table) (place : Carried) where
-    abbrev after : Carried
-    after = listingFrom job table part place .carried
-
-    -- The place behind a log is that behind the rest of it, from the place that the part carries on.
-    rest-carries : listingFrom job table (drop done log) place .carried ≡ listingFrom job table (drop next log) after .carried
-    rest-carries = go (decLe (done + partBytes) (length log))
-      where
-        go : Dec (done + partBytes ≤ length log) → listingFrom job table (drop done log) place .carried ≡ listingFrom job table (drop next log) after .carried
-        go (yes h) =
-            let j = job-of (jobOf job) (ok .by-job) in
-            let n = count-of (chainCountOf table) (ok .by-table) in
-            ap (λ (l : List ℕ). listingFrom job table l place .carried) (sym rest)
-            ∙ ap (λ (p : Part). p .carried) (in-parts job table (j .0) (n .0) (j .1) (n .1) place part (drop next log) (omega (arith, part-long, e)))
-        go (no h) =
-            let all : part ≡ drop done log = take-all (next - done) (drop done log) (omega (arith, length-drop done log, e, lt-of-not-le h)) in
-            ap (λ (l : List ℕ). listingFrom job table l place .carried) (sym all)
-            ∙ sym (nothing-left job table ok log next after (omega (arith, e, lt-of-not-le h)))
-
-    -- So it is where what follows the part goes on.
-    pub goes-on : {n : Next} {place′ : Carried} → GoesOn (listingFrom job table part place) n → n ≡ follows.From place′ →
-        listingFrom job table (drop done log) place .carried ≡ listingFrom job table (drop next log) place′ .carried
-    goes-on told e′ =
-        rest-carries
-        ∙ sym (ap (λ (k : Carried). listingFrom job table (drop next log) k .carried) (subst (GoesOn (listingFrom job table part place)) e′ told))
+  -- So what follows a part of a log goes on from the place that is carried on to the rest.
+  pub goes-on : (log : List ℕ) (done next : ℕ) → next ≡ min (done + partBytes) (length log) → (place : Carried) {n : Next} {after : Carried} →
+      GoesOn (listingFrom job table (take (next - done) (drop done log)) place) n → n ≡ follows.From after →
+      listingFrom job table (drop done log) place .carried ≡ listingFrom job table (drop next log) after .carried
+  goes-on log done next e place {n} {after} told is =
+      let handed : after ≡ listingFrom job table (take (next - done) (drop done log)) place .carried =
+      subst (GoesOn (listingFrom job table (take (next - done) (drop done log)) place)) is told in
+      rest-carries (drop done log) place
+      ∙ sym (rw (handed, piece-is partBytes log done next e, behind-is partBytes log done next e))

@@ -62,7 +62,7 @@ loop-again c =
       (
         search needs,
         (loop .loop .inv .1 .1
-            ∙ goes-on (a .log .now) (loop .loop .done) (end .part-end .result) (end .part-end .ensures) (loop .loop .inv .0) (a .job .now) (a .table .now) (start .pre .1) (loop .loop .carried) (call .print-part .ensures) (told .place .given .1)),
+            ∙ goes-on (a .job .now) (a .table .now) (start .pre .1) (a .log .now) (loop .loop .done) (end .part-end .result) (end .part-end .ensures) (loop .loop .carried) (call .print-part .ensures) (told .place .given .1)),
       ),
     )
 
