@@ -23,58 +23,61 @@ record-width = record { one-more = λ s some. omega (arith, length-drop logBytes
 pub chain-width : Width chainBytes
 chain-width = record { one-more = λ s some. omega (arith, length-drop chainBytes s); none = refl }
 
-module _ (line : ℕ → List ℕ → List ℕ) (width : ℕ) (w : Width width) where
-  -- The first line, and the lines of the rest.
-  lines-step : (number : ℕ) (s : List ℕ) → 0 < length s → linesOf line width number s ≡ line number (take width s) ++ linesOf line width (number + 1) (drop width s)
-  unfolding linesFrom
-  lines-step number s some = ap (λ (n : ℕ). linesFrom line width n number s) (w .one-more s some)
+-- The pieces of some bytes up to `done` have their lines in a buffer; the next has a number, and all the rest have room.
+pub record Reached (line : ℕ → List ℕ → List ℕ) (width at : ℕ) (s o : List ℕ) (done number : ℕ) (o′ : List ℕ) (end : ℕ) : Type 0 where
+  pub text : List ℕ
+  pub put : Put o at text o′ end
+  pub rest : linesOf line width 1 s ≡ text ++ linesOf line width number (drop done s)
+  pub room : end + lineRoom width * piecesIn width (drop done s) ≤ length o
 
-  lines-none : (number : ℕ) → linesOf line width number [] ≡ []
-  unfolding linesFrom
-  lines-none number = ap (λ (n : ℕ). linesFrom line width n number []) (w .none)
+pub reached-none : {line : ℕ → List ℕ → List ℕ} {width at : ℕ} {s o : List ℕ} → at + lineRoom width * piecesIn width s ≤ length o →
+    Reached line width at s o 0 1 o at
+reached-none {line} {width} {at} {s} {o} room = record { text = []; put = put-none o at (omega arith); rest = refl; room = room }
 
-  -- The pieces of some bytes up to `done` have their lines in a buffer; the next has a number, and all the rest have room.
-  pub record Reached (at : ℕ) (s o : List ℕ) (done number : ℕ) (o′ : List ℕ) (end : ℕ) : Type 0 where
-    pub text : List ℕ
-    pub put : Put o at text o′ end
-    pub rest : linesOf line width 1 s ≡ text ++ linesOf line width number (drop done s)
-    pub room : end + lineRoom width * piecesIn width (drop done s) ≤ length o
-
-  pub reached-none : (at : ℕ) (s o : List ℕ) → at + lineRoom width * piecesIn width s ≤ length o → Reached at s o 0 1 o at
-  reached-none at s o room = record { text = []; put = put-none o at (omega arith); rest = refl; room = room }
-
-  module _ (at : ℕ) (s o : List ℕ) (done number : ℕ) (o′ : List ℕ) (end : ℕ) (r : Reached at s o done number o′ end) where
+module _ {line : ℕ → List ℕ → List ℕ} {width : ℕ} (w : Width width) where
+  module _ {at : ℕ} {s o : List ℕ} {done number : ℕ} {o′ : List ℕ} {end : ℕ} (r : Reached line width at s o done number o′ end) where
     size : length (drop done s) ≡ length s - done
     size = length-drop done s
 
-    -- There is room for a piece more.
     left : done < length s → end + (lineRoom width * piecesIn width (drop width (drop done s)) + lineRoom width) ≤ length o
     left some =
         let more = w .one-more (drop done s) (omega (arith, size)) in
         rw (more, mul-suc) at (r .room)
 
-    pub next-room : done < length s → (next : ℕ) → next ≡ min (done + width) (length s) →
-        end + lineRoom (length (take (next - done) (drop done s))) ≤ length o′
-    next-room some next e =
-        omega (arith, left some, put-length (r .put), length-take (next - done) (drop done s), e)
+    -- The next piece, and that there is room for its line.
+    module _ (some : done < length s) {next : ℕ} (e : next ≡ min (done + width) (length s)) where
+      abbrev piece : List ℕ
+      piece = take (next - done) (drop done s)
 
-    -- One piece more.
-    pub reached-more : done < length s → (next : ℕ) → next ≡ min (done + width) (length s) → let piece = take (next - done) (drop done s) in
-        (o″ : List ℕ) (end′ : ℕ) → PutLine o′ end (line number piece) (length piece) o″ end′ → Reached at s o next (number + 1) o″ end′
-    reached-more some next e o″ end′ p =
-        let behind = behind-is width s done next e in
-        let first = take width (drop done s) in
-        record {
-          text = r .text ++ line number first;
-          put = put-then (r .put) (put-as (ap (line number) (piece-is width s done next e)) (p .put));
-          rest =
-              r .rest
-              ∙ ap (λ (l : List ℕ). r .text ++ l) (lines-step number (drop done s) (omega (arith, size)) ∙ ap (λ (l : List ℕ). line number first ++ linesOf line width (number + 1) l) (sym behind))
-              ∙ sym (append-assoc (r .text) (line number first) (linesOf line width (number + 1) (drop next s)));
-          room = rw behind (omega (arith, left some, p .short, length-take (next - done) (drop done s), e));
-        }
+      piece-long : length piece ≡ next - done
+      piece-long = omega (arith, length-take (next - done) (drop done s), size, e)
 
-    -- All of them.
+      pub next-room : end + lineRoom (length piece) ≤ length o′
+      next-room = omega (arith, left some, put-length (r .put), piece-long, e)
+
+      -- The lines of what is left are its line and the lines of the rest.
+      lines-step : linesOf line width number (drop done s) ≡ line number (take width (drop done s)) ++ linesOf line width (number + 1) (drop next s)
+      unfolding linesFrom
+      lines-step = rw (w .one-more (drop done s) (omega (arith, size)), behind-is width s done next e)
+
+      -- With its line, the buffer has one more.
+      pub reached-more : {o″ : List ℕ} {end′ : ℕ} → PutLine o′ end (line number piece) (length piece) o″ end′ →
+          Reached line width at s o next (number + 1) o″ end′
+      reached-more p =
+          let first = line number (take width (drop done s)) in
+          let others = linesOf line width (number + 1) (drop next s) in
+          record {
+            text = r .text ++ first;
+            put = put-then (r .put) (put-as (ap (line number) (piece-is width s done next e)) (p .put));
+            rest =
+                r .rest
+                ∙ ap (λ (l : List ℕ). r .text ++ l) lines-step
+                ∙ sym (append-assoc (r .text) first others);
+            room = rw (behind-is width s done next e) (omega (arith, left some, p .short, piece-long, e));
+          }
+
+    -- Where no piece is left, it has the lines of all.
     pub reached-all : length s ≤ done → Put o at (linesOf line width 1 s) o′ end
+    unfolding linesFrom
     reached-all all =
-        put-as (sym (r .rest ∙ ap (λ (l : List ℕ). r .text ++ linesOf line width number l) (drop-of-length-le s all) ∙ ap (λ (l : List ℕ). r .text ++ l) (lines-none number) ∙ append-nil (r .text))) (r .put)
+        put-as (sym (r .rest ∙ rw (drop-of-length-le s all, w .none) (append-nil (r .text)))) (r .put)

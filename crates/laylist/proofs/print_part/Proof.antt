@@ -1,5 +1,6 @@
 -- `laylist::print_part` prints the listing of a part, no more and no less, and goes on from its place.
 use mathlib.Core.Path.{sym}
+use native.Mathlib.Omega.{arith}
 use borrow.Author.Needs.{needs}
 use lib.Seq.{length-take-le}
 use Rattle.laylist.proofs.print_part.Statement.{statement}
@@ -12,7 +13,7 @@ slice-reshare-prefix-printed : tie.Need-slice-reshare-prefix-printed
 slice-reshare-prefix-printed c = search needs
 
 slice-aggregate-printed : tie.Need-slice-aggregate-printed
-slice-aggregate-printed c = sym (length-take-le _ _ (c .before .before .before .list-part .ensures .fits))
+slice-aggregate-printed c = sym (length-take-le _ _ (omega (arith, c .before .before .before .list-part .ensures .fits)))
 
 printed-requires : tie.Need-printed-requires
 printed-requires c κs = search needs

@@ -13,7 +13,7 @@ use Rattle.layshow.proofs.put_chains.Tie as tie
 
 abbrev Inv-loop : tie.InvT-loop
 Inv-loop out₀ at table end₀ done₀ number₀ out end done number =
-    (done ≤ length table) × ((number ≤ done + 1) × Reached chainLine chainBytes chain-width at table out₀ done number out end)
+    (done ≤ length table) × ((number ≤ done + 1) × Reached chainLine chainBytes at table out₀ done number out end)
 
 abbrev μ-loop : tie.MeasureT-loop
 μ-loop out₀ at table end₀ done₀ number₀ out end done number = length table - done
@@ -21,8 +21,7 @@ abbrev μ-loop : tie.MeasureT-loop
 loop-holds : tie.Need-loop-holds Inv-loop μ-loop
 loop-holds c =
     let start = c .before .before in
-    let a = start .args in
-    (search needs, (search needs, reached-none chainLine chainBytes chain-width (a .at) (a .table .now) (a .out .now) (omega (arith, start .pre .0, start .pre .1))))
+    (search needs, (search needs, reached-none (omega (arith, start .pre .0, start .pre .1))))
 
 piece-end-requires : tie.Need-piece-end-requires Inv-loop μ-loop
 piece-end-requires c κs = search needs
@@ -40,8 +39,7 @@ put-chain-requires : tie.Need-put-chain-requires Inv-loop μ-loop
 put-chain-requires c κs =
     let end = c .before .before in
     let loop = end .before .before in
-    let a = loop .before .before .before .args in
-    next-room chainLine chainBytes chain-width (a .at) (a .table .now) (a .out .now) (loop .loop .done) (loop .loop .number) _ (loop .loop .end) (loop .loop .inv .1 .1) (search needs) (end .piece-end .result) (end .piece-end .ensures)
+    omega (arith, next-room chain-width (loop .loop .inv .1 .1) (search needs) (end .piece-end .ensures))
 
 add-number : tie.Need-add-number Inv-loop μ-loop
 add-number c = search needs
@@ -53,12 +51,11 @@ loop-again : tie.Need-loop-again Inv-loop μ-loop
 loop-again c =
     let call = c .before .before in
     let end = call .before .before .before in
-    let loop = end .before .before in
-    let a = loop .before .before .before .args in (
+    let loop = end .before .before in (
       search needs,
       (
         search needs,
-        reached-more chainLine chainBytes chain-width (a .at) (a .table .now) (a .out .now) (loop .loop .done) (loop .loop .number) _ (loop .loop .end) (loop .loop .inv .1 .1) (search needs) (end .piece-end .result) (end .piece-end .ensures) _ _ (call .put-chain .ensures),
+        reached-more chain-width (loop .loop .inv .1 .1) (search needs) (end .piece-end .ensures) (call .put-chain .ensures),
       ),
     )
 
@@ -68,8 +65,7 @@ same-length c = put-length (c .before .loop .inv .1 .1 .put)
 returns : tie.Need-returns Inv-loop μ-loop
 returns c =
     let loop = c .before in
-    let a = loop .before .before .before .args in
-    reached-all chainLine chainBytes chain-width (a .at) (a .table .now) (a .out .now) (loop .loop .done) (loop .loop .number) _ (loop .loop .end) (loop .loop .inv .1 .1) (search needs)
+    reached-all chain-width (loop .loop .inv .1 .1) (search needs)
 
 pub put-chains-spec : {M : Type 1} → statement M
 put-chains-spec =

@@ -13,15 +13,14 @@ use Rattle.layshow.proofs.put_records.Tie as tie
 
 abbrev Inv-loop : tie.InvT-loop
 Inv-loop out₀ log end₀ done₀ out end done =
-    (done ≤ length log) × ((number : ℕ) × Reached recordLineAt logBytes record-width 0 log out₀ done number out end)
+    (done ≤ length log) × ((number : ℕ) × Reached recordLineAt logBytes 0 log out₀ done number out end)
 
 abbrev μ-loop : tie.MeasureT-loop
 μ-loop out₀ log end₀ done₀ out end done = length log - done
 
 loop-holds : tie.Need-loop-holds Inv-loop μ-loop
 loop-holds c =
-    let a = c .before .before .args in
-    (search needs, (1, reached-none recordLineAt logBytes record-width 0 (a .log .now) (a .out .now) (omega (arith, c .before .before .pre))))
+    (search needs, (1, reached-none (omega (arith, c .before .before .pre))))
 
 piece-end-requires : tie.Need-piece-end-requires Inv-loop μ-loop
 piece-end-requires c κs = search needs
@@ -39,8 +38,7 @@ put-record-requires : tie.Need-put-record-requires Inv-loop μ-loop
 put-record-requires c κs =
     let end = c .before .before in
     let loop = end .before .before in
-    let a = loop .before .before .before .args in
-    next-room recordLineAt logBytes record-width 0 (a .log .now) (a .out .now) (loop .loop .done) (loop .loop .inv .1 .0) (loop .loop .out) (loop .loop .end) (loop .loop .inv .1 .1) (search needs) (end .piece-end .result) (end .piece-end .ensures)
+    omega (arith, next-room record-width (loop .loop .inv .1 .1) (search needs) (end .piece-end .ensures))
 
 loop-less : tie.Need-loop-less Inv-loop μ-loop
 loop-less c = search needs
@@ -49,12 +47,11 @@ loop-again : tie.Need-loop-again Inv-loop μ-loop
 loop-again c =
     let call = c .before .before in
     let end = call .before .before .before in
-    let loop = end .before .before in
-    let a = loop .before .before .before .args in (
+    let loop = end .before .before in (
       search needs,
       (
         loop .loop .inv .1 .0 + 1,
-        reached-more recordLineAt logBytes record-width 0 (a .log .now) (a .out .now) (loop .loop .done) (loop .loop .inv .1 .0) _ (loop .loop .end) (loop .loop .inv .1 .1) (search needs) (end .piece-end .result) (end .piece-end .ensures) _ _ (call .put-record .ensures),
+        reached-more record-width (loop .loop .inv .1 .1) (search needs) (end .piece-end .ensures) (call .put-record .ensures),
       ),
     )
 
@@ -64,8 +61,7 @@ same-length c = put-length (c .before .loop .inv .1 .1 .put)
 returns : tie.Need-returns Inv-loop μ-loop
 returns c =
     let loop = c .before in
-    let a = loop .before .before .before .args in
-    reached-all recordLineAt logBytes record-width 0 (a .log .now) (a .out .now) (loop .loop .done) (loop .loop .inv .1 .0) _ (loop .loop .end) (loop .loop .inv .1 .1) (search needs)
+    reached-all record-width (loop .loop .inv .1 .1) (search needs)
 
 pub put-records-spec : {M : Type 1} → statement M
 put-records-spec =

@@ -1,5 +1,6 @@
 -- `layshow::show_files` prints the lines of job and table, no more and no less.
 use mathlib.Core.Path.{sym}
+use native.Mathlib.Omega.{arith}
 use borrow.Author.Needs.{needs}
 use lib.Seq.{length-take-le}
 use Rattle.layshow.proofs.LineLaws.{begins, ends-within}
@@ -13,7 +14,7 @@ slice-reshare-prefix-files-printed : tie.Need-slice-reshare-prefix-files-printed
 slice-reshare-prefix-files-printed c = search needs
 
 slice-aggregate-files-printed : tie.Need-slice-aggregate-files-printed
-slice-aggregate-files-printed c = sym (length-take-le _ _ (ends-within (c .before .before .before .put-files .ensures)))
+slice-aggregate-files-printed c = sym (length-take-le _ _ (omega (arith, ends-within (c .before .before .before .put-files .ensures))))
 
 files-printed-requires : tie.Need-files-printed-requires
 files-printed-requires c κs = begins (c .before .before .before .put-files .ensures)

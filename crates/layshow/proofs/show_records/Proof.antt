@@ -1,5 +1,6 @@
 -- `layshow::show_records` prints the lines of the records, no more and no less.
 use mathlib.Core.Path.{sym}
+use native.Mathlib.Omega.{arith}
 use borrow.Author.Needs.{needs}
 use lib.Seq.{length-take-le}
 use Rattle.layshow.proofs.LineLaws.{begins, ends-within}
@@ -13,7 +14,7 @@ slice-reshare-prefix-records-printed : tie.Need-slice-reshare-prefix-records-pri
 slice-reshare-prefix-records-printed c = search needs
 
 slice-aggregate-records-printed : tie.Need-slice-aggregate-records-printed
-slice-aggregate-records-printed c = sym (length-take-le _ _ (ends-within (c .before .before .before .put-records .ensures)))
+slice-aggregate-records-printed c = sym (length-take-le _ _ (omega (arith, ends-within (c .before .before .before .put-records .ensures))))
 
 records-printed-requires : tie.Need-records-printed-requires
 records-printed-requires c κs = begins (c .before .before .before .put-records .ensures)
