@@ -78,7 +78,9 @@ fn list_files() {
 }
 
 // The buffer for the text. Its many bytes are made in a function of their own, so that only their number is known elsewhere.
-fn out_buffer() -> [u8; OUT_BYTES] {
+fn out_buffer() -> [u8; OUT_BYTES]
+    ensures { λ r. ⌜ outBytes ≡ length r ⌝ }
+{
     [0u8; OUT_BYTES]
 }
 
@@ -144,10 +146,10 @@ fn list_log(out: &mut [u8], job: &[u8], table: &[u8])
     let mut carried = Carried::Nothing;
     let mut turns = u64::MAX;
     while turns > 0 {
-        let Next::From(place) = list_stretch(out, job, table, log, carried) else {
+        let Next::From(last) = list_stretch(out, job, table, log, carried) else {
             return;
         };
-        carried = place;
+        carried = last;
         turns -= 1;
     }
 }
