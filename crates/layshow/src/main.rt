@@ -64,9 +64,7 @@ fn show() {
 }
 
 // The buffer for the text. Its many bytes are made in a function of their own, so that only their number is known elsewhere.
-fn out_buffer() -> [u8; OUT_BYTES]
-    ensures { λ r. ⌜ outBytes ≡ length r ⌝ }
-{
+fn out_buffer() -> [u8; OUT_BYTES] {
     [0u8; OUT_BYTES]
 }
 

@@ -40,7 +40,9 @@ part-by-job-end : tie.Need-part-by-job-end
 part-by-job-end c = omega (arith, ap bytesOf (c .before .before .before .n .given .1))
 
 by-job-requires : tie.Need-by-job-requires
-by-job-requires c κs = search needs
+by-job-requires c κs =
+    let made = c .before .before .before .before .before .before .before .before .before .before .out-buffer in
+    omega (arith, made .ok)
 
 returns-2 : tie.Need-returns-2
 returns-2 c = search needs

@@ -68,7 +68,9 @@ part-show-files-end-2 : tie.Need-part-show-files-end-2
 part-show-files-end-2 c = omega (arith, ap bytesOf (c .before .before .before .before .before .t .given .1))
 
 show-files-requires : tie.Need-show-files-requires
-show-files-requires c κs = (search needs, simp length-take (omega arith), simp length-take (omega arith))
+show-files-requires c κs =
+    let made = c .before .before .before .before .before .before .before .before .before .before .before .before .before .before .before .before .before .before .before .out-buffer in
+    (omega (arith, made .ok), simp length-take (omega arith), simp length-take (omega arith))
 
 returns-3 : tie.Need-returns-3
 returns-3 c = search needs
