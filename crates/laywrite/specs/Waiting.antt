@@ -1,6 +1,6 @@
 -- The bytes of records that wait in a buffer, by the lines that were read.
 use Prim.Native.Nat.{ℕ, _+_, _≤_}
-use mathlib.Core.Bool.{Bool, true, false, _&&_}
+use mathlib.Core.Bool.{Bool, true, false}
 use mathlib.Core.List.{List, [], _∷_, _++_}
 use mathlib.Core.Path.{_≡_}
 use lib.Dec.{eqb, leb}
@@ -14,6 +14,14 @@ use Rattle.lines.specs.declared.Input.{Input}
 use Rattle.lines.specs.declared.Input.the-variants as input
 use Rattle.laywrite.specs.declared.Records.{Records}
 use Rattle.laywrite.specs.declared.Records.the-variants as records
+
+-- How many bytes wait, and that none do.
+abbrev pub waitingOf : Records → ℕ
+waitingOf (records.Waiting n) = n
+waitingOf records.Dropped = 0
+
+abbrev pub allDropped : Records
+allDropped = records.Dropped
 
 -- These bytes wait at the start of a buffer.
 abbrev pub Wait : List ℕ → List ℕ → Records → Type 0
@@ -61,16 +69,12 @@ unfoldable pub recordsOf : List Draft → List ℕ
 recordsOf [] = []
 recordsOf (d ∷ ds) = bufferOf logBytes d ++ recordsOf ds
 
-unfoldable pub allAccepted : List Draft → Bool
-allAccepted [] = true
-allAccepted (d ∷ ds) = eqb (refusalOf logBytes d) 0 && allAccepted ds
+unfoldable pub AllAccepted : List Draft → Type 0
+AllAccepted [] = Unit {0}
+AllAccepted (d ∷ ds) = (refusalOf logBytes d ≡ 0) × AllAccepted ds
 
 -- What waits are the records of some drafts, in their order, each of them accepted, unless all were dropped. Which lines were
 -- read is the outside's.
-pub record AreRecords (drafts : List Draft) (bytes : List ℕ) : Type 0 where
-  pub accepted : allAccepted drafts ≡ true
-  pub made : bytes ≡ recordsOf drafts
-
 abbrev pub HoldRecords : List ℕ → Records → Type 0
-HoldRecords out (records.Waiting n) = (n ≤ length out) × ((drafts : List Draft) × AreRecords drafts (take n out))
+HoldRecords out (records.Waiting n) = (n ≤ length out) × ((drafts : List Draft) × (AllAccepted drafts × (take n out ≡ recordsOf drafts)))
 HoldRecords out records.Dropped = Unit {0}
