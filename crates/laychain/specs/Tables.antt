@@ -14,9 +14,9 @@ use Rattle.typed.specs.declared.TypedChain.{TypedChain}
 use Rattle.typed.specs.declared.TypedChain.the-variants as typed
 
 -- Why what a line stands for is not put behind so many others, 0 where it is: 1 where there are as many as a table has.
-abbrev pub refusalOf : ℕ → TypedChain → ℕ
-refusalOf before (typed.Chain c) = unless (ltb before mostChains) 1 (chainRefusalOf chainBytes c)
-refusalOf before (typed.Refused number) = number
+abbrev pub lineRefusal : ℕ → TypedChain → ℕ
+lineRefusal before (typed.Chain c) = unless (ltb before mostChains) 1 (chainRefusalOf chainBytes c)
+lineRefusal before (typed.Refused number) = number
 
 -- The table then: the chain's bytes behind those of the others, where there is room. Nothing else of it changes.
 abbrev pub tableWith : List ℕ → ℕ → TypedChain → List ℕ

@@ -9,7 +9,7 @@ ghost use Rattle.records.specs.ChainTables.{chainBytes, mostChains};
 ghost use Rattle.typed.specs.Typed.{chainIn};
 ghost use Rattle.typed.specs.declared.TypedChain.the-variants as typed;
 ghost use Rattle.lines.specs.Input.{atEnd};
-ghost use Rattle.laychain.specs.Tables.{refusalOf, tableWith, HoldsChains};
+ghost use Rattle.laychain.specs.Tables.{lineRefusal, tableWith, HoldsChains};
 use chart::Chain;
 use files::Words;
 use lines::Input;
@@ -137,7 +137,7 @@ fn told(line: usize, number: u32) -> usize
 // Puts the chain of a line into the table, behind so many others, and answers with the number of its refusal, 0 for none.
 fn put_line(table: &mut [u8], before: usize, line: &[u8]) -> u32
     requires { ⌜ length (now table) ≡ chainBytes * mostChains ⌝ }
-    ensures answer { λ r. ⌜ r ≡ refusalOf before (chainIn (now (line .entry))) ⌝ }
+    ensures answer { λ r. ⌜ r ≡ lineRefusal before (chainIn (now (line .entry))) ⌝ }
     ensures table { λ r. ⌜ now (table .exit) ≡ tableWith (now (table .entry)) before (chainIn (now (line .entry))) ⌝ }
 {
     match typed::chain(line) {
@@ -148,7 +148,7 @@ fn put_line(table: &mut [u8], before: usize, line: &[u8]) -> u32
 
 fn put_chain(table: &mut [u8], before: usize, c: Chain) -> u32
     requires { ⌜ length (now table) ≡ chainBytes * mostChains ⌝ }
-    ensures answer { λ r. ⌜ r ≡ refusalOf before (typed.Chain c) ⌝ }
+    ensures answer { λ r. ⌜ r ≡ lineRefusal before (typed.Chain c) ⌝ }
     ensures table { λ r. ⌜ now (table .exit) ≡ tableWith (now (table .entry)) before (typed.Chain c) ⌝ }
 {
     if before >= MOST_CHAINS {
