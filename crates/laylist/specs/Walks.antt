@@ -17,18 +17,18 @@ use Rattle.laylist.specs.declared.Next.{Next}
 use Rattle.laylist.specs.declared.Next.the-variants as next
 
 -- Whether a job is accepted, and whether a table is.
-unfoldable pub jobGood : JobAnswer → Bool
-jobGood (job.Job j) = true
-jobGood (job.Refused number) = false
+unfoldable pub acceptsJob : JobAnswer → Bool
+acceptsJob (job.Job j) = true
+acceptsJob (job.Refused number) = false
 
-unfoldable pub tableGood : ChainCount → Bool
-tableGood (count.Chains n) = true
-tableGood (count.Refused number) = false
+unfoldable pub acceptsTable : ChainCount → Bool
+acceptsTable (count.Chains n) = true
+acceptsTable (count.Refused number) = false
 
 -- Job and table are accepted: so the log is listed.
-pub record BothGood (job table : List ℕ) : Type 0 where
-  pub by-job : jobGood (jobOf job) ≡ true
-  pub by-table : tableGood (chainCountOf table) ≡ true
+pub record Accepted (job table : List ℕ) : Type 0 where
+  pub by-job : acceptsJob (jobOf job) ≡ true
+  pub by-table : acceptsTable (chainCountOf table) ≡ true
 
 -- The most bytes of a log that are listed at once, and those of the buffer: room for their lines and for one more.
 abbrev pub partBytes : ℕ
@@ -38,7 +38,7 @@ abbrev pub outBytes : ℕ
 outBytes = 129 * longestLine
 
 -- A buffer begins with the text of a listing, so many bytes, and its place is carried on.
-pub record BeginsWith (out : List ℕ) (p : Part) (l : Listing) : Type 0 where
+pub record Holds (out : List ℕ) (p : Part) (l : Listing) : Type 0 where
   pub fits : l .length ≤ length out
   pub text-is : take (l .length) out ≡ p .text
   pub carried-is : l .carried ≡ p .carried

@@ -11,28 +11,28 @@ use Rattle.text.specs.Puts.{Put}
 use Rattle.shown.specs.Lines.{jobLine, chainLine, recordLine}
 
 -- The lines of the first n pieces of some bytes, each of so many bytes, the pieces numbered from a number on.
-unfoldable pub pieceLines : (ℕ → List ℕ → List ℕ) → ℕ → ℕ → ℕ → List ℕ → List ℕ
-pieceLines line width zero number s = []
-pieceLines line width (suc n) number s = line number (take width s) ++ pieceLines line width n (number + 1) (drop width s)
+unfoldable pub linesFrom : (ℕ → List ℕ → List ℕ) → ℕ → ℕ → ℕ → List ℕ → List ℕ
+linesFrom line width zero number s = []
+linesFrom line width (suc n) number s = line number (take width s) ++ linesFrom line width n (number + 1) (drop width s)
 
 -- How many pieces there are, a short last one among them.
 abbrev pub piecesIn : ℕ → List ℕ → ℕ
 piecesIn width s = (length s + (width - 1)) / width
 
 -- The lines of all of them.
-abbrev pub allLines : (ℕ → List ℕ → List ℕ) → ℕ → ℕ → List ℕ → List ℕ
-allLines line width number s = pieceLines line width (piecesIn width s) number s
+abbrev pub linesOf : (ℕ → List ℕ → List ℕ) → ℕ → ℕ → List ℕ → List ℕ
+linesOf line width number s = linesFrom line width (piecesIn width s) number s
 
 -- The lines of a log: one for each record, which tells no number.
 abbrev pub recordLineAt : ℕ → List ℕ → List ℕ
 recordLineAt number s = recordLine s
 
 abbrev pub recordLines : List ℕ → List ℕ
-recordLines log = allLines recordLineAt logBytes 1 log
+recordLines log = linesOf recordLineAt logBytes 1 log
 
 -- The lines of a table: one for each chain, with its number. A table that is refused has one line alone, with no number.
 abbrev pub chainLines : List ℕ → List ℕ
-chainLines table = allLines chainLine chainBytes 1 table
+chainLines table = linesOf chainLine chainBytes 1 table
 
 unfoldable pub tableLinesBy : ChainCount → List ℕ → List ℕ
 tableLinesBy (count.Chains n) table = chainLines table
