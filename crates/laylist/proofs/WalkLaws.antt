@@ -24,7 +24,7 @@ use Rattle.listing.specs.Listings.{Part, linesFrom, listingBy, listingFrom, has
 use Rattle.listing.proofs.Theorems.{in-parts}
 use Rattle.laylist.specs.declared.Next.{Next}
 use Rattle.laylist.specs.declared.Next.the-variants as follows
-use Rattle.laylist.specs.Walks.{isJob, isTable, Accepted, partBytes, outBytes, Holds, GoesOn}
+use Rattle.laylist.specs.Walks.{acceptsJob, acceptsTable, Accepted, partBytes, outBytes, Holds, GoesOn}
 
 -- A part in its buffer.
 module _ (out part : List ℕ) (size : length out ≡ outBytes) (few : length part ≤ partBytes) (p : Part) where
@@ -54,13 +54,13 @@ module _ (out part : List ℕ) (size : length out ≡ outBytes) (few : length pa
       omega arith
 
 -- The job that is accepted, and the count of the chains.
-job-of : (a : JobAnswer) → isJob a ≡ true → (j : Job) × (a ≡ job.Job j)
-unfolding isJob
+job-of : (a : JobAnswer) → acceptsJob a ≡ true → (j : Job) × (a ≡ job.Job j)
+unfolding acceptsJob
 job-of (job.Job j) h = (j, refl)
 job-of (job.Refused number) h = absurd (true≢false (sym h))
 
-count-of : (a : ChainCount) → isTable a ≡ true → (n : ℕ) × (a ≡ count.Chains n)
-unfolding isTable
+count-of : (a : ChainCount) → acceptsTable a ≡ true → (n : ℕ) × (a ≡ count.Chains n)
+unfolding acceptsTable
 count-of (count.Chains n) h = (n, refl)
 count-of (count.Refused number) h = absurd (true≢false (sym h))
 

@@ -17,18 +17,18 @@ use Rattle.laylist.specs.declared.Next.{Next}
 use Rattle.laylist.specs.declared.Next.the-variants as next
 
 -- Whether a job is accepted, and whether a table is.
-unfoldable pub isJob : JobAnswer → Bool
-isJob (job.Job j) = true
-isJob (job.Refused number) = false
+unfoldable pub acceptsJob : JobAnswer → Bool
+acceptsJob (job.Job j) = true
+acceptsJob (job.Refused number) = false
 
-unfoldable pub isTable : ChainCount → Bool
-isTable (count.Chains n) = true
-isTable (count.Refused number) = false
+unfoldable pub acceptsTable : ChainCount → Bool
+acceptsTable (count.Chains n) = true
+acceptsTable (count.Refused number) = false
 
 -- Job and table are accepted: so the log is listed.
 pub record Accepted (job table : List ℕ) : Type 0 where
-  pub by-job : isJob (jobOf job) ≡ true
-  pub by-table : isTable (chainCountOf table) ≡ true
+  pub by-job : acceptsJob (jobOf job) ≡ true
+  pub by-table : acceptsTable (chainCountOf table) ≡ true
 
 -- The most bytes of a log that are listed at once, and those of the buffer: room for their lines and for one more.
 abbrev pub partBytes : ℕ

@@ -7,7 +7,7 @@ ghost use lib.ListN.{length};
 ghost use Rattle.records.specs.ChainTables.{chainCountOf};
 ghost use Rattle.records.specs.Jobs.{jobOf};
 ghost use Rattle.listing.specs.Listings.{listingFrom};
-ghost use Rattle.laylist.specs.Walks.{isJob, isTable, Accepted, partBytes, outBytes, Holds, GoesOn};
+ghost use Rattle.laylist.specs.Walks.{acceptsJob, acceptsTable, Accepted, partBytes, outBytes, Holds, GoesOn};
 use files::Filled;
 use files::Opened;
 use files::Words;
@@ -100,7 +100,7 @@ fn by_job(out: &mut [u8], job: &[u8])
 // Whether the job is accepted. If not, its refusal is all that is printed, whatever the table and the log.
 fn job_accepted(out: &mut [u8], job: &[u8]) -> bool
     requires { ⌜ length (now out) ≡ outBytes ⌝ }
-    ensures { λ r. ⌜ r ≡ isJob (jobOf (now (job .entry))) ⌝ }
+    ensures { λ r. ⌜ r ≡ acceptsJob (jobOf (now (job .entry))) ⌝ }
 {
     match records::job_of(job) {
         JobAnswer::Job(_) => true,
@@ -112,7 +112,7 @@ fn job_accepted(out: &mut [u8], job: &[u8]) -> bool
 }
 
 fn by_table(out: &mut [u8], job: &[u8], table: &[u8])
-    requires { ⌜ (length (now out) ≡ outBytes) × (isJob (jobOf (now job)) ≡ true) ⌝ }
+    requires { ⌜ (length (now out) ≡ outBytes) × (acceptsJob (jobOf (now job)) ≡ true) ⌝ }
 {
     if table_accepted(out, job, table) {
         list_log(out, job, table);
@@ -122,7 +122,7 @@ fn by_table(out: &mut [u8], job: &[u8], table: &[u8])
 // Whether the table is accepted. If not, its refusal is all that is printed, whatever the log.
 fn table_accepted(out: &mut [u8], job: &[u8], table: &[u8]) -> bool
     requires { ⌜ length (now out) ≡ outBytes ⌝ }
-    ensures { λ r. ⌜ r ≡ isTable (chainCountOf (now (table .entry))) ⌝ }
+    ensures { λ r. ⌜ r ≡ acceptsTable (chainCountOf (now (table .entry))) ⌝ }
 {
     match records::chain_count(table) {
         ChainCount::Chains(_) => true,

@@ -5,12 +5,14 @@ use mathlib.Core.Path.{_≡_, refl, sym, ap, ap₂, _∙_}
 use native.Mathlib.Nat.{mul-suc}
 use native.Mathlib.Omega.{arith}
 use lib.ListN.{length, take, drop, length-take, length-drop, drop-of-length-le}
+use Rattle.records.specs.Bytes.{piecesIn}
 use Rattle.records.specs.LogRecords.{logBytes}
 use Rattle.records.specs.ChainTables.{chainBytes}
 use Rattle.records.proofs.Pieces.{piece-is, behind-is}
 use Rattle.text.specs.Puts.{Put}
 use Rattle.text.proofs.PutLaws.{put-then, put-none, put-as, put-length}
-use Rattle.layshow.specs.Walks.{linesFrom, piecesIn, linesOf, lineRoom, PutLine}
+use Rattle.shown.specs.Rooms.{lineRoom}
+use Rattle.layshow.specs.Walks.{linesFrom, linesOf, PutLine}
 
 -- Any bytes have one piece more than what is behind the first; none have none.
 pub record Width (width : ℕ) : Type 0 where

@@ -1,7 +1,7 @@
 -- `laylist::job_accepted` meets its contract.
 use mathlib.Core.Path.{sym, ap, _∙_}
 use borrow.Author.Needs.{needs}
-use Rattle.laylist.specs.Walks.{isJob}
+use Rattle.laylist.specs.Walks.{acceptsJob}
 use Rattle.laylist.proofs.job_accepted.Statement.{statement}
 use Rattle.laylist.proofs.job_accepted.Tie as tie
 
@@ -24,17 +24,17 @@ print-part-requires : tie.Need-print-part-requires
 print-part-requires c κs = search needs
 
 returns : tie.Need-returns
-unfolding isJob
-returns c = ap isJob (sym (c .enum-told .given .1) ∙ c .before .before .job-of .ensures)
+unfolding acceptsJob
+returns c = ap acceptsJob (sym (c .enum-told .given .1) ∙ c .before .before .job-of .ensures)
 
 same-length : tie.Need-same-length
 same-length c = search needs
 
 returns-2 : tie.Need-returns-2
-unfolding isJob
+unfolding acceptsJob
 returns-2 c =
     let told = c .before .before .before .before .before .before in
-    ap isJob (sym (told .enum-told2 .given .1) ∙ told .before .before .job-of .ensures)
+    ap acceptsJob (sym (told .enum-told2 .given .1) ∙ told .before .before .job-of .ensures)
 
 pub job-accepted-spec : {M : Type 1} → statement M
 job-accepted-spec =

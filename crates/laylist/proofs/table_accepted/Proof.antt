@@ -1,7 +1,7 @@
 -- `laylist::table_accepted` meets its contract.
 use mathlib.Core.Path.{sym, ap, _∙_}
 use borrow.Author.Needs.{needs}
-use Rattle.laylist.specs.Walks.{isTable}
+use Rattle.laylist.specs.Walks.{acceptsTable}
 use Rattle.laylist.proofs.table_accepted.Statement.{statement}
 use Rattle.laylist.proofs.table_accepted.Tie as tie
 
@@ -21,17 +21,17 @@ print-part-requires : tie.Need-print-part-requires
 print-part-requires c κs = search needs
 
 returns : tie.Need-returns
-unfolding isTable
-returns c = ap isTable (sym (c .enum-told .given .1) ∙ c .before .before .chain-count .ensures)
+unfolding acceptsTable
+returns c = ap acceptsTable (sym (c .enum-told .given .1) ∙ c .before .before .chain-count .ensures)
 
 same-length : tie.Need-same-length
 same-length c = search needs
 
 returns-2 : tie.Need-returns-2
-unfolding isTable
+unfolding acceptsTable
 returns-2 c =
     let told = c .before .before .before .before .before in
-    ap isTable (sym (told .enum-told2 .given .1) ∙ told .before .before .chain-count .ensures)
+    ap acceptsTable (sym (told .enum-told2 .given .1) ∙ told .before .before .chain-count .ensures)
 
 pub table-accepted-spec : {M : Type 1} → statement M
 table-accepted-spec =
