@@ -3,7 +3,6 @@
 ghost use mathlib.Core.Path.{_≡_};
 ghost use Prim.Native.Nat.{_+_, _^_, _≤_, _<_, min};
 ghost use lib.ListN.{length};
-ghost use Rattle.records.specs.ChainTables.{chainCountOf};
 ghost use Rattle.text.specs.Puts.{Put};
 ghost use Rattle.shown.specs.Lines.{jobLine, chainLine, recordLine};
 ghost use Rattle.shown.specs.Rooms.{textOf, lineRoom};

@@ -1,6 +1,6 @@
 -- `layshow::put_chains` puts the lines of all chains, numbered from 1: those so far are put, and those of the rest are behind them. It ends:
 -- what is left of the table falls.
-use Prim.Native.Nat.{ℕ, _+_, _-_, _≤_}
+use Prim.Native.Nat.{_+_, _-_, _≤_}
 use native.Mathlib.Omega.{arith}
 use borrow.Author.Needs.{needs}
 use lib.ListN.{length}
