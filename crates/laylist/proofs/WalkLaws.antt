@@ -24,7 +24,7 @@ use Rattle.listing.specs.Listings.{Part, linesFrom, listingBy, listingFrom, has
 use Rattle.listing.proofs.Theorems.{in-parts}
 use Rattle.laylist.specs.declared.Next.{Next}
 use Rattle.laylist.specs.declared.Next.the-variants as follows
-use Rattle.laylist.specs.Walks.{acceptsJob, acceptsTable, Accepted, partBytes, outBytes, Holds, GoesOn}
+use Rattle.laylist.specs.Walks.{acceptsJob, acceptsTable, BothGood, partBytes, outBytes, BeginsWith, GoesOn}
 
 -- A part in its buffer.
 module _ (out part : List ℕ) (size : length out ≡ outBytes) (few : length part ≤ partBytes) (p : Part) where
@@ -33,7 +33,7 @@ module _ (out part : List ℕ) (size : length out ≡ outBytes) (few : length pa
 
   -- It is listed: the buffer then begins with the text.
   pub held : {n : ℕ} {k : Carried} {after : List ℕ} → listed.Text n k ≡ listedIn (length out) part p → after ≡ bufferWith out part p →
-      Holds after p (record { length = n; carried = k })
+      BeginsWith after p (record { length = n; carried = k })
   unfolding listedIn bufferWith
   held {n} {k} {after} answer buffer =
       let told : listed.Text n k ≡ listed.Text (length (p .text)) (p .carried) = rw roomy at answer in
@@ -65,13 +65,13 @@ count-of (count.Chains n) h = (n, refl)
 count-of (count.Refused number) h = absurd (true≢false (sym h))
 
 -- Nothing is left of a log: the place carried is that behind it.
-pub nothing-left : (job table : List ℕ) → Accepted job table → (log : List ℕ) (done : ℕ) (place : Carried) → length log ≤ done →
+pub nothing-left : (job table : List ℕ) → BothGood job table → (log : List ℕ) (done : ℕ) (place : Carried) → length log ≤ done →
     listingFrom job table (drop done log) place .carried ≡ place
 unfolding linesFrom listingBy listingFrom
 nothing-left job table ok log done place all =
     rw (drop-of-length-le log {i = done} all, job-of (jobOf job) (ok .by-job) .1, count-of (chainCountOf table) (ok .by-table) .1)
 
-module _ (job table : List ℕ) (ok : Accepted job table) where
+module _ (job table : List ℕ) (ok : BothGood job table) where
   -- The place behind a log is that behind the rest of it, from the place that its first part carries on.
   rest-carries : (log : List ℕ) (place : Carried) →
       listingFrom job table log place .carried

@@ -26,7 +26,7 @@ acceptsTable (count.Chains n) = true
 acceptsTable (count.Refused number) = false
 
 -- Job and table are accepted: so the log is listed.
-pub record Accepted (job table : List ℕ) : Type 0 where
+pub record BothGood (job table : List ℕ) : Type 0 where
   pub by-job : acceptsJob (jobOf job) ≡ true
   pub by-table : acceptsTable (chainCountOf table) ≡ true
 
@@ -38,7 +38,7 @@ abbrev pub outBytes : ℕ
 outBytes = 129 * longestLine
 
 -- A buffer begins with the text of a listing, so many bytes, and its place is carried on.
-pub record Holds (out : List ℕ) (p : Part) (l : Listing) : Type 0 where
+pub record BeginsWith (out : List ℕ) (p : Part) (l : Listing) : Type 0 where
   pub fits : l .length ≤ length out
   pub text-is : take (l .length) out ≡ p .text
   pub carried-is : l .carried ≡ p .carried

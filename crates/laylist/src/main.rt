@@ -7,7 +7,7 @@ ghost use lib.ListN.{length};
 ghost use Rattle.records.specs.ChainTables.{chainCountOf};
 ghost use Rattle.records.specs.Jobs.{jobOf};
 ghost use Rattle.listing.specs.Listings.{listingFrom};
-ghost use Rattle.laylist.specs.Walks.{acceptsJob, acceptsTable, Accepted, partBytes, outBytes, Holds, GoesOn};
+ghost use Rattle.laylist.specs.Walks.{acceptsJob, acceptsTable, BothGood, partBytes, outBytes, BeginsWith, GoesOn};
 use files::Filled;
 use files::Opened;
 use files::Words;
@@ -136,7 +136,7 @@ fn table_accepted(out: &mut [u8], job: &[u8], table: &[u8]) -> bool
 // The lines of the log, stretch by stretch. Every turn but the last takes 65,536 bytes of it, and no log has 2^64 times as
 // many: it ends before the turns do.
 fn list_log(out: &mut [u8], job: &[u8], table: &[u8])
-    requires { ⌜ (length (now out) ≡ outBytes) × Accepted (now job) (now table) ⌝ }
+    requires { ⌜ (length (now out) ≡ outBytes) × BothGood (now job) (now table) ⌝ }
 {
     let Opened::File(log) = files::open(b"lay.dat") else {
         return;
@@ -154,7 +154,7 @@ fn list_log(out: &mut [u8], job: &[u8], table: &[u8])
 
 // Reads a stretch of the log and lists it, before the next is read, which may fail.
 fn list_stretch(out: &mut [u8], job: &[u8], table: &[u8], log: i32, before: Carried) -> Next
-    requires { ⌜ (length (now out) ≡ outBytes) × Accepted (now job) (now table) ⌝ }
+    requires { ⌜ (length (now out) ≡ outBytes) × BothGood (now job) (now table) ⌝ }
 {
     let mut stretch = io::large_buffer();
     let Filled::Bytes(n) = files::fill(b"lay.dat", log, &mut stretch) else {
@@ -169,7 +169,7 @@ fn list_stretch(out: &mut [u8], job: &[u8], table: &[u8], log: i32, before: Carr
 
 // Lists a stretch of the log, part by part, each with the place carried from the one before.
 fn list_parts(out: &mut [u8], job: &[u8], table: &[u8], log: &[u8], before: Carried) -> Next
-    requires { ⌜ (length (now out) ≡ outBytes) × Accepted (now job) (now table) ⌝ }
+    requires { ⌜ (length (now out) ≡ outBytes) × BothGood (now job) (now table) ⌝ }
     ensures { λ r. ⌜ GoesOn (listingFrom (now (job .entry)) (now (table .entry)) (now (log .entry)) before) r ⌝ }
 {
     let mut carried = before;
@@ -213,7 +213,7 @@ fn print_part(out: &mut [u8], job: &[u8], table: &[u8], part: &[u8], before: Car
 // Puts the listing of a part of the log at the start of a buffer.
 fn list_part(out: &mut [u8], job: &[u8], table: &[u8], part: &[u8], before: Carried) -> Listing
     requires { ⌜ (length (now out) ≡ outBytes) × (length (now part) ≤ partBytes) ⌝ }
-    ensures { λ r. ⌜ Holds (now (out .exit)) (listingFrom (now (job .entry)) (now (table .entry)) (now (part .entry)) before) r ⌝ }
+    ensures { λ r. ⌜ BeginsWith (now (out .exit)) (listingFrom (now (job .entry)) (now (table .entry)) (now (part .entry)) before) r ⌝ }
 {
     match listing::list(out, job, table, part, before) {
         Listed::Text { length, carried } => Listing { length, carried },

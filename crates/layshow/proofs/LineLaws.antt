@@ -11,8 +11,8 @@ use Rattle.text.specs.Puts.{Put}
 use Rattle.text.proofs.PutLaws.{put-length}
 use Rattle.shown.specs.declared.Line.{Line}
 use Rattle.shown.specs.declared.Line.the-variants.{Text}
-use Rattle.shown.specs.Rooms.{Says, lineFor, bufferFor, hasRoom, inRoom, textOf}
-use Rattle.layshow.specs.Walks.{lineRoom, PutLine}
+use Rattle.shown.specs.Rooms.{Says, lineFor, bufferFor, textOf, lineRoom, hasRoom, inRoom}
+use Rattle.layshow.specs.Walks.{PutLine}
 
 module _ (o : List ℕ) (at bytes : ℕ) (fits : at + lineRoom bytes ≤ length o) where
   -- The room that is lent, and what is behind it.

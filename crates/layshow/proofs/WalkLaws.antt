@@ -5,12 +5,14 @@ use mathlib.Core.Path.{_≡_, refl, sym, ap, _∙_}
 use native.Mathlib.Nat.{mul-suc}
 use native.Mathlib.Omega.{arith}
 use lib.ListN.{length, take, drop, length-take, length-drop, drop-of-length-le}
+use Rattle.records.specs.Bytes.{piecesIn}
 use Rattle.records.specs.LogRecords.{logBytes}
 use Rattle.records.specs.ChainTables.{chainBytes}
 use Rattle.records.proofs.Pieces.{piece-is, behind-is}
 use Rattle.text.specs.Puts.{Put}
 use Rattle.text.proofs.PutLaws.{put-then, put-none, put-as, put-length}
-use Rattle.layshow.specs.Walks.{linesFrom, piecesIn, linesOf, lineRoom, PutLine}
+use Rattle.shown.specs.Rooms.{lineRoom}
+use Rattle.layshow.specs.Walks.{pieceLines, allLines, PutLine}
 
 -- Any bytes have one piece more than what is behind the first; none have none.
 pub record Width (width : ℕ) : Type 0 where
@@ -27,7 +29,7 @@ chain-width = record { one-more = λ s some. omega (arith, length-drop chainByte
 pub record Reached (line : ℕ → List ℕ → List ℕ) (width at : ℕ) (s o : List ℕ) (done number : ℕ) (o′ : List ℕ) (end : ℕ) : Type 0 where
   pub text : List ℕ
   pub put : Put o at text o′ end
-  pub rest : linesOf line width 1 s ≡ text ++ linesOf line width number (drop done s)
+  pub rest : allLines line width 1 s ≡ text ++ allLines line width number (drop done s)
   pub room : end + lineRoom width * piecesIn width (drop done s) ≤ length o
 
 pub reached-none : {line : ℕ → List ℕ → List ℕ} {width at : ℕ} {s o : List ℕ} → at + lineRoom width * piecesIn width s ≤ length o →
@@ -56,8 +58,8 @@ module _ {line : ℕ → List ℕ → List ℕ} {width : ℕ} (w : Width width) 
       next-room = omega (arith, left some, put-length (r .put), piece-long, e)
 
       -- The lines of what is left are its line and the lines of the rest.
-      lines-step : linesOf line width number (drop done s) ≡ line number (take width (drop done s)) ++ linesOf line width (number + 1) (drop next s)
-      unfolding linesFrom
+      lines-step : allLines line width number (drop done s) ≡ line number (take width (drop done s)) ++ allLines line width (number + 1) (drop next s)
+      unfolding pieceLines
       lines-step = rw (w .one-more (drop done s) (omega (arith, size)), behind-is width s done next e)
 
       -- With its line, the buffer has one more.
@@ -65,7 +67,7 @@ module _ {line : ℕ → List ℕ → List ℕ} {width : ℕ} (w : Width width) 
           Reached line width at s o next (number + 1) o″ end′
       reached-more p =
           let first = line number (take width (drop done s)) in
-          let others = linesOf line width (number + 1) (drop next s) in
+          let others = allLines line width (number + 1) (drop next s) in
           record {
             text = r .text ++ first;
             put = put-then (r .put) (put-as (ap (line number) (piece-is width s done next e)) (p .put));
@@ -77,7 +79,7 @@ module _ {line : ℕ → List ℕ → List ℕ} {width : ℕ} (w : Width width) 
           }
 
     -- Where no piece is left, it has the lines of all.
-    pub reached-all : length s ≤ done → Put o at (linesOf line width 1 s) o′ end
-    unfolding linesFrom
+    pub reached-all : length s ≤ done → Put o at (allLines line width 1 s) o′ end
+    unfolding pieceLines
     reached-all all =
         put-as (sym (r .rest ∙ rw (drop-of-length-le s all, w .none) (append-nil (r .text)))) (r .put)

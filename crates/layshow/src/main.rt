@@ -5,16 +5,20 @@ ghost use Prim.Native.Nat.{_+_, _^_, _≤_, _<_, min};
 ghost use lib.ListN.{length};
 ghost use Rattle.text.specs.Puts.{Put};
 ghost use Rattle.shown.specs.Lines.{jobLine, chainLine, recordLine};
-ghost use Rattle.shown.specs.Rooms.{textOf};
-ghost use Rattle.layshow.specs.Walks.{recordLines, chainLines, tableLines, fileLines, lineRoom, PutLine, longestJob, longestTable, wholeTable, tableRoom, stretchBytes, outBytes};
+ghost use Rattle.shown.specs.Rooms.{textOf, lineRoom};
+ghost use Rattle.layshow.specs.Walks.{recordLines, chainLines, tableLines, fileLines, PutLine, longestJob, longestTable, wholeTable, tableRoom, stretchBytes, outBytes};
 use files::Filled;
 use files::Opened;
 use files::Words;
 use records::ChainCount;
 use shown::Line;
 
-// Room for a line of each record of a stretch: there are 2,048 in 65,536 bytes. Job and table take less.
-const OUT_BYTES: usize = 2_048 * (shown::LINE_ROOM + 2 * records::LOG_BYTES);
+// So much of the log is read at a time.
+const STRETCH_BYTES: usize = 65_536;
+
+// Room for a line of each record in it. Job and table take less.
+const OUT_BYTES: usize = STRETCH_BYTES / records::LOG_BYTES
+    * (shown::LINE_ROOM + 2 * records::LOG_BYTES);
 
 fn main() {
     // Any argument is one too many.

@@ -29,9 +29,12 @@ abbrev pub textOf : Line → ℕ
 textOf (line.Text n) = n
 textOf (line.Refused number) = 0
 
--- Room for any line of so many bytes, with those in hexadecimal; without it, 9.
+-- The room for any line of so many bytes, with those in hexadecimal; in a buffer that has less, 9.
+abbrev pub lineRoom : ℕ → ℕ
+lineRoom count = 192 + 2 * count
+
 abbrev pub hasRoom : ℕ → ℕ → Bool
-hasRoom bytes count = leb (192 + 2 * count) bytes
+hasRoom bytes count = leb (lineRoom count) bytes
 
 abbrev pub inRoom : ℕ → ℕ → Reply → Reply
 inRoom bytes count reply = cond (hasRoom bytes count) reply (Refuses 9)
