@@ -9,7 +9,7 @@ use Rattle.laychain.proofs.put_chain.Statement.{statement}
 use Rattle.laychain.proofs.put_chain.Tie as tie
 
 returns : tie.Need-returns
-returns c = no-place (c .before .before .args .table .now) (c .before .before .args .before) (c .before .before .args .c) (c .before .before .pre) (c .if1 .taken)
+returns c = no-place (c .before .before .args .table .now) (c .before .before .args .before) (c .before .before .args .c) (c .before .before .pre) (omega arith)
 
 mul-at : tie.Need-mul-at
 mul-at c = search needs

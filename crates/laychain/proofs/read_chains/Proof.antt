@@ -83,9 +83,15 @@ loop-again c =
     let l = c .before .before .before .before .before .before .before .before .before .before .before .before .before .before .before .loop in
     let call = c .before .before .before .put-line in (
       search needs,
-      (search needs, (search needs, λ e.
-      let good = both (l .well) (eqb (call .result) 0) (sym (c .accepted .ensures) ∙ e) in
-      one-more-line (l .table) (call .last .0) _ (l .count) (l .inv .1 .0) (l .inv .1 .1 .1 (good .0)) (sym (call .ensures .0) ∙ eqb-true (call .result) 0 (good .1)) (call .ensures .1))),
+      (
+        search needs,
+        (
+          search needs,
+          λ e.
+              let good = both (l .well) (eqb (call .result) 0) (sym (c .accepted .ensures) ∙ e) in
+              one-more-line (l .table) (call .last .0) _ (l .count) (l .inv .1 .0) (l .inv .1 .1 .1 (good .0)) (sym (call .ensures .0) ∙ eqb-true (call .result) 0 (good .1)) (call .ensures .1),
+        ),
+      ),
     )
 
 same-length-3 : tie.Need-same-length-3 Inv-loop μ-loop
