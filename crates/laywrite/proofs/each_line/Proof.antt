@@ -64,7 +64,7 @@ part-take-line-end c = omega (arith, found (c .before .before .before) .inside, 
 take-line-requires : tie.Need-take-line-requires Inv-loop μ-loop
 take-line-requires c κs =
     let l = c .before .before .before .before .before .before .before .before .before .before .before .loop in
-    (hold-inside (l .out) (l .records) (l .inv .0), omega arith)
+    (omega (arith, hold-inside (l .out) (l .records) (l .inv .0)), omega arith)
 
 add-from : tie.Need-add-from Inv-loop μ-loop
 add-from c = omega (arith, found (c .before .before .before .before .before .before .before) .inside, found (c .before .before .before .before .before .before .before) .stands)
