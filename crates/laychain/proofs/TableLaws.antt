@@ -1,16 +1,13 @@
 -- A chain put behind those that are there makes one more; and what is counted at the end.
 use Prim.Native.Nat.{ℕ, _+_, _-_, _*_, _≤_, _<_}
-use mathlib.Core.Bool.{Bool, true, false, cond, _&&_}
+use mathlib.Core.Bool.{Bool, true, false, cond}
 use mathlib.Core.List.{List, [], _∷_, _++_, append-nil, append-assoc}
 use mathlib.Core.Path.{_≡_, refl, sym, ap, ap₂, _∙_}
-use mathlib.Core.Logic.{inl, inr}
 use native.Mathlib.Omega.{arith}
 use borrow.Author.Tests.{ltb-true, lt-ltb, le-ltb}
 use borrow.Rule.Slice.PartMut.{putMid, post-is}
-use denote.Enum.Declared.{tagOf}
 use lib.Dec.{ltb}
 use lib.ListN.{length, take, drop, length-append}
-use types.Run.{OneOf}
 use Rattle.chart.specs.declared.Chain.{Chain}
 use Rattle.chart.specs.Chains.{isSound}
 use Rattle.chart.proofs.PlaceLaws.{both, and-both}
@@ -18,16 +15,12 @@ use Rattle.records.specs.Bytes.{unless}
 use Rattle.records.specs.ChainTables.{chainBytes, mostChains}
 use Rattle.writing.specs.ChainWriting.{chainRefusalOf, chainBufferOf, allSound, tableOf}
 use Rattle.writing.proofs.ChainWriteLaws.{chain-same-length}
-use Rattle.text.specs.Puts.{Put, endAfter, withText}
+use Rattle.text.specs.Puts.{Put, endAfter}
 use Rattle.text.proofs.PutLaws.{put-front, put-from, put-promised, nothing-promised}
 use Rattle.typed.specs.Numbers.{isLine}
 use Rattle.typed.specs.Typed.{chainIn}
-use Rattle.typed.specs.declared.TypedChain.{TypedChain}
 use Rattle.typed.specs.declared.TypedChain.the-variants as typed
-use Rattle.lines.proofs.Input.{the-type}
-use Rattle.lines.specs.declared.Input.{Input}
-use Rattle.lines.specs.declared.Input.the-variants as input
-use Rattle.laychain.specs.Tables.{refusalOf, tableWith, chainsAt, HoldsChains}
+use Rattle.laychain.specs.Tables.{refusalOf, tableWith, HoldsChains}
 
 -- The table and its soundness with one chain more.
 table-behind : (cs : List Chain) (c : Chain) → tableOf (cs ++ (c ∷ [])) ≡ tableOf cs ++ chainBufferOf chainBytes c
@@ -113,18 +106,7 @@ one-more-line table now line before size held accepted same = go (isLine 6 line)
     go true c e s = one-more table now before c size held e s
     go false c e s = absurd (omega arith)
 
--- Where the text does not end, none are counted.
-pub not-ended : (i : Input) (lines : ℕ) (well : Bool) → OneOf (0 ∷ 3 ∷ []) (tagOf the-type i) → 0 ≡ chainsAt i lines well
-not-ended (input.Line start end stop) lines well key = refl
-not-ended input.Cut lines well key = refl
-not-ended input.End lines well (inl e) = absurd (omega arith)
-not-ended input.End lines well (inr e) = absurd (omega arith)
-not-ended input.Failed lines well key = refl
-
 -- What is counted is held.
-pub held-at : (table : List ℕ) (i : Input) (lines : ℕ) (well : Bool) → (well ≡ true → HoldsChains table lines) → HoldsChains table (chainsAt i lines well)
-held-at table (input.Line start end stop) lines well held = no-chains table
-held-at table input.Cut lines well held = no-chains table
-held-at table input.End lines true held = held refl
-held-at table input.End lines false held = no-chains table
-held-at table input.Failed lines well held = no-chains table
+pub held-if : (table : List ℕ) (lines : ℕ) (well : Bool) → (well ≡ true → HoldsChains table lines) → HoldsChains table (cond well lines 0)
+held-if table lines true held = held refl
+held-if table lines false held = no-chains table

@@ -8,7 +8,8 @@ ghost use lib.ListN.{length};
 ghost use Rattle.records.specs.ChainTables.{chainBytes, mostChains};
 ghost use Rattle.typed.specs.Typed.{chainIn};
 ghost use Rattle.typed.specs.declared.TypedChain.the-variants as typed;
-ghost use Rattle.laychain.specs.Tables.{refusalOf, tableWith, chainsAt, HoldsChains};
+ghost use Rattle.lines.specs.Input.{atEnd};
+ghost use Rattle.laychain.specs.Tables.{refusalOf, tableWith, HoldsChains};
 use chart::Chain;
 use files::Words;
 use lines::Input;
@@ -104,7 +105,7 @@ fn accepted(well: bool, line: usize, refusal: u32) -> bool
 // How many chains there are, where no line comes next.
 fn ended(input: Input, lines: usize, well: bool) -> usize
     requires { ⌜ lines ≤ mostChains ⌝ }
-    ensures { λ r. ⌜ r ≡ chainsAt input lines well ⌝ }
+    ensures { λ r. ⌜ r ≡ atEnd input (cond well lines 0) 0 ⌝ }
 {
     match input {
         Input::Cut => told(lines + 1, 12),

@@ -2,23 +2,17 @@
 use Prim.Native.Nat.{ℕ, _+_, _≤_, _<_}
 use mathlib.Core.Bool.{Bool, true, false}
 use mathlib.Core.List.{List, [], _∷_, _++_, append-nil, append-assoc}
-use mathlib.Core.Logic.{inl, inr}
 use mathlib.Core.Path.{_≡_, refl, sym, ap, _∙_, subst, subst⁻¹}
 use native.Mathlib.Omega.{arith}
 use borrow.Author.Tests.{le-leb, lt-leb, eqb-true, eq-eqb, ne-eqb}
-use denote.Enum.Declared.{tagOf}
 use lib.Dec.{leb, eqb}
 use lib.ListN.{length, take}
-use types.Run.{OneOf}
 use Rattle.records.specs.LogRecords.{logBytes}
 use Rattle.writing.specs.declared.Draft.{Draft}
 use Rattle.writing.specs.Writing.{refusalOf, bufferOf}
 use Rattle.typed.specs.declared.TypedDraft.{TypedDraft}
 use Rattle.typed.specs.declared.TypedDraft.the-variants as typed
-use Rattle.lines.proofs.Input.{the-type}
-use Rattle.lines.specs.declared.Input.{Input}
-use Rattle.lines.specs.declared.Input.the-variants as input
-use Rattle.laywrite.specs.Waiting.{waitingOf, Wait, MayWait, KeptBy, IsKept, KeptAfter, TakenBy, IsTaken, waitingAt, recordsOf, AllAccepted, HoldRecords}
+use Rattle.laywrite.specs.Waiting.{waitingOf, Wait, MayWait, KeptBy, IsKept, KeptAfter, TakenBy, IsTaken, recordsOf, AllAccepted, HoldRecords}
 use Rattle.laywrite.specs.declared.Records.{Records}
 use Rattle.laywrite.specs.declared.Records.the-variants as records
 
@@ -96,17 +90,3 @@ hold-taken waiting before out (typed.Draft d) r held taken = go (eqb (refusalOf 
     go true e kept = hold-kept waiting before out d r (eqb-true (refusalOf logBytes d) 0 e) held kept
     go false e dropped = hold-dropped out dropped
 hold-taken waiting before out (typed.Refused number) r held taken = hold-dropped out taken
-
--- Where the text does not end, nothing waits; so what waits at the end are records if what waited were.
-pub not-ended : (i : Input) (r : Records) → OneOf (0 ∷ 3 ∷ []) (tagOf the-type i) → records.Dropped ≡ waitingAt i r
-not-ended (input.Line start end stop) r key = refl
-not-ended input.Cut r key = refl
-not-ended input.End r (inl e) = absurd (omega arith)
-not-ended input.End r (inr e) = absurd (omega arith)
-not-ended input.Failed r key = refl
-
-pub hold-at : (out : List ℕ) (i : Input) (r : Records) → HoldRecords out r → HoldRecords out (waitingAt i r)
-hold-at out (input.Line start end stop) r held = tt
-hold-at out input.Cut r held = tt
-hold-at out input.End r held = held
-hold-at out input.Failed r held = tt

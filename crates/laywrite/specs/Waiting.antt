@@ -10,8 +10,6 @@ use Rattle.writing.specs.declared.Draft.{Draft}
 use Rattle.writing.specs.Writing.{refusalOf, bufferOf}
 use Rattle.typed.specs.declared.TypedDraft.{TypedDraft}
 use Rattle.typed.specs.declared.TypedDraft.the-variants as typed
-use Rattle.lines.specs.declared.Input.{Input}
-use Rattle.lines.specs.declared.Input.the-variants as input
 use Rattle.laywrite.specs.declared.Records.{Records}
 use Rattle.laywrite.specs.declared.Records.the-variants as records
 
@@ -56,13 +54,6 @@ TakenBy false waiting before d out r = r ≡ records.Dropped
 abbrev pub IsTaken : Records → List ℕ → TypedDraft → List ℕ → Records → Type 0
 IsTaken waiting before (typed.Draft d) out r = TakenBy (eqb (refusalOf logBytes d) 0) waiting before d out r
 IsTaken waiting before (typed.Refused number) out r = r ≡ records.Dropped
-
--- What waits where no line comes next: nothing unless the text ends there.
-abbrev pub waitingAt : Input → Records → Records
-waitingAt (input.Line start end stop) r = records.Dropped
-waitingAt input.Cut r = records.Dropped
-waitingAt input.End r = r
-waitingAt input.Failed r = records.Dropped
 
 -- The bytes of records one behind the other, and that each of their drafts is accepted.
 unfoldable pub recordsOf : List Draft → List ℕ

@@ -7,7 +7,8 @@ ghost use lib.ListN.{length, take};
 ghost use Rattle.records.specs.LogRecords.{logBytes};
 ghost use Rattle.typed.specs.Typed.{draftIn};
 ghost use Rattle.typed.specs.declared.TypedDraft.the-variants as typed;
-ghost use Rattle.laywrite.specs.Waiting.{waitingOf, allDropped, Wait, IsKept, IsTaken, waitingAt, HoldRecords};
+ghost use Rattle.lines.specs.Input.{atEnd};
+ghost use Rattle.laywrite.specs.Waiting.{waitingOf, allDropped, Wait, IsKept, IsTaken, HoldRecords};
 use files::Filled;
 use files::Words;
 use libc::SEEK_END;
@@ -174,7 +175,7 @@ fn each_line(buffer: &mut [u8], out: &mut [u8], scratch: i32) -> Records
 
 // The records, where no line comes next.
 fn ended(input: Input, line: u64, records: Records) -> Records
-    ensures { λ r. ⌜ r ≡ waitingAt input records ⌝ }
+    ensures { λ r. ⌜ r ≡ atEnd input records allDropped ⌝ }
 {
     match input {
         Input::Cut => dropped(line, 12),

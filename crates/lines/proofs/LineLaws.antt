@@ -1,17 +1,21 @@
 -- What comes next in a text, by whether it has bytes and a newline; and a line that comes next stands in the buffer.
 use Prim.Native.Nat.{ℕ, _+_, _-_, _≤_, _<_, min}
 use mathlib.Core.Bool.{Bool, true, false, cond, _||_}
-use mathlib.Core.List.{List, _++_}
+use mathlib.Core.List.{List, [], _∷_, _++_}
+use mathlib.Core.Logic.{inl, inr}
 use mathlib.Core.Path.{_≡_, refl, sym, ap, _∙_, subst, subst⁻¹}
 use native.Mathlib.Omega.{arith}
 use borrow.Author.Tests.{ltb-true, lt-ltb, le-ltb}
+use denote.Enum.Declared.{tagOf}
 use lib.Dec.{ltb}
 use lib.ListN.{length, take, drop, length-take, length-drop}
 use lib.Seq.{take-at}
+use types.Run.{OneOf}
 use Rattle.typed.specs.Words.{run, isInLine}
-use Rattle.lines.specs.Input.{between, hasNewline, nextIn, Comes, failed, read, IsRead, isThere, NextBy, IsNext}
+use Rattle.lines.specs.Input.{between, hasNewline, nextIn, atEnd, Comes, failed, read, IsRead, isThere, NextBy, IsNext}
 use Rattle.lines.specs.declared.Input.{Input}
 use Rattle.lines.specs.declared.Input.the-variants as input
+use Rattle.lines.proofs.Input.{the-type}
 
 pub text-size : (b : List ℕ) (from to : ℕ) → to ≤ length b → length (between from to b) ≡ to - from
 text-size b from to h = length-take (to - from) _ ∙ omega (arith, length-drop from b)
@@ -97,6 +101,20 @@ is-read b from to kept moved rest {r} size now same comes =
       front = ap (λ (l : List ℕ). take (length text) (l ++ rest)) here ∙ take-at text rest (length text) refl;
       comes = subst (λ (n : ℕ). Comes n (take kept moved ++ rest) r) size comes;
     }
+
+-- Where a line comes next or reading failed, the text does not end; and what holds of both things holds of the one.
+pub not-at-end : {A : Type 0} (i : Input) (there other : A) → OneOf (0 ∷ 3 ∷ []) (tagOf the-type i) → other ≡ atEnd i there other
+not-at-end (input.Line start end stop) there other key = refl
+not-at-end input.Cut there other key = refl
+not-at-end input.End there other (inl e) = absurd (omega arith)
+not-at-end input.End there other (inr e) = absurd (omega arith)
+not-at-end input.Failed there other key = refl
+
+pub holds-at-end : {A : Type 0} (P : A → Type 0) (i : Input) (there other : A) → P there → P other → P (atEnd i there other)
+holds-at-end P (input.Line start end stop) there other p q = q
+holds-at-end P input.Cut there other p q = q
+holds-at-end P input.End there other p q = p
+holds-at-end P input.Failed there other p q = q
 
 -- A line lies before the place where its text stops, which is in the buffer.
 pub record IsLine (buffer : List ℕ) (start end stop : ℕ) : Type 0 where

@@ -23,6 +23,13 @@ nextIn buffer from to =
     cond (hasNewline (between from to buffer)) (input.Line from (from + run isInLine (between from to buffer)) to)
     (cond (ltb from to) input.Cut input.End)
 
+-- One thing where the text ends, and another where anything else comes next, for those who read lines to the end.
+abbrev pub atEnd : {A : Type 0} → Input → A → A → A
+atEnd (input.Line start end stop) there other = other
+atEnd input.Cut there other = other
+atEnd input.End there other = there
+atEnd input.Failed there other = other
+
 -- What may come next after more was read behind some bytes that were kept: that reading failed, or what stands in the buffer
 -- from its front up to where the text now stops. Where that is, and what was read, is the outside's.
 pub data Comes (kept : ℕ) (now : List ℕ) (r : Input) : Type 0 where

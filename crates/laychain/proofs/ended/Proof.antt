@@ -1,9 +1,10 @@
 -- `laychain::ended` goes by what comes next.
 use borrow.Author.Needs.{needs}
+use mathlib.Core.Bool.{cond}
 use mathlib.Core.Path.{sym, ap, _∙_}
 use Rattle.lines.specs.declared.Input.{Input}
-use Rattle.laychain.specs.Tables.{chainsAt}
-use Rattle.laychain.proofs.TableLaws.{not-ended}
+use Rattle.lines.specs.Input.{atEnd}
+use Rattle.lines.proofs.LineLaws.{not-at-end}
 use Rattle.laychain.proofs.ended.Statement.{statement}
 use Rattle.laychain.proofs.ended.Tie as tie
 
@@ -28,10 +29,10 @@ returns c = search needs
 returns-2 : tie.Need-returns-2
 returns-2 c =
     let a = c .before .before .before .args in
-    c .chains .ensures ∙ ap (λ (i : Input). chainsAt i (a .lines) (a .well)) (sym (c .before .enum-told2 .given .1))
+    c .chains .ensures ∙ ap (λ (i : Input). atEnd i (cond (a .well) (a .lines) 0) 0) (sym (c .before .enum-told2 .given .1))
 
 returns-3 : tie.Need-returns-3
-returns-3 c = not-ended (c .before .args .input) (c .before .args .lines) (c .before .args .well) (c .match .keys3)
+returns-3 c = not-at-end (c .before .args .input) (cond (c .before .args .well) (c .before .args .lines) 0) 0 (c .match .keys3)
 
 pub ended-spec : {M : Type 1} → statement M
 ended-spec =

@@ -1,7 +1,7 @@
 -- `laychain::read_chains` ends: the lines that a table may have, and one more, are counted. Each line that is accepted puts one
 -- chain behind the others.
 use Prim.Native.Nat.{_-_, _*_, _≤_}
-use mathlib.Core.Bool.{true}
+use mathlib.Core.Bool.{true, cond}
 use mathlib.Core.Path.{_≡_, sym, _∙_, subst, subst⁻¹}
 use native.Mathlib.Omega.{arith}
 use borrow.Author.Needs.{needs}
@@ -11,9 +11,9 @@ use lib.ListN.{length}
 use Rattle.chart.proofs.PlaceLaws.{both}
 use Rattle.records.specs.ChainTables.{chainBytes, mostChains}
 use Rattle.lines.specs.Input.{IsNext}
-use Rattle.lines.proofs.LineLaws.{IsLine, line-next}
+use Rattle.lines.proofs.LineLaws.{IsLine, line-next, holds-at-end}
 use Rattle.laychain.specs.Tables.{HoldsChains}
-use Rattle.laychain.proofs.TableLaws.{no-chains, one-more-line, held-at}
+use Rattle.laychain.proofs.TableLaws.{no-chains, one-more-line, held-if}
 use Rattle.laychain.proofs.read_chains.Statement.{statement}
 use Rattle.laychain.proofs.read_chains.Tie as tie
 
@@ -45,7 +45,9 @@ same-length-2 c = search needs
 returns : tie.Need-returns Inv-loop μ-loop
 returns c =
     let l = c .before .before .before .before .before .before .before .loop in
-    subst⁻¹ (HoldsChains (l .table)) (c .ended .ensures) (held-at (l .table) (c .before .before .before .before .next .result) (l .count) (l .well) (l .inv .1 .1 .1))
+    subst⁻¹ (HoldsChains (l .table)) (c .ended .ensures)
+    (holds-at-end (HoldsChains (l .table)) (c .before .before .before .before .next .result) (cond (l .well) (l .count) 0) 0
+    (held-if (l .table) (l .count) (l .well) (l .inv .1 .1 .1)) (no-chains (l .table)))
 
 -- The line that comes next.
 found : (c : tie.After-input Inv-loop μ-loop) → IsLine (c .before .before .before .before .next .last .0) (c .input .given .0 .0) (c .input .given .0 .1 .0) (c .input .given .0 .1 .1 .0)

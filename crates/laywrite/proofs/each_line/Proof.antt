@@ -6,9 +6,9 @@ use borrow.Author.Needs.{needs}
 use lib.ListN.{length, take, drop}
 use Rattle.typed.specs.Typed.{draftIn}
 use Rattle.lines.specs.Input.{IsNext}
-use Rattle.lines.proofs.LineLaws.{IsLine, line-next}
-use Rattle.laywrite.specs.Waiting.{HoldRecords}
-use Rattle.laywrite.proofs.WaitLaws.{hold-none, hold-inside, hold-taken, hold-at}
+use Rattle.lines.proofs.LineLaws.{IsLine, line-next, holds-at-end}
+use Rattle.laywrite.specs.Waiting.{allDropped, HoldRecords}
+use Rattle.laywrite.proofs.WaitLaws.{hold-none, hold-inside, hold-taken}
 use Rattle.laywrite.proofs.each_line.Statement.{statement}
 use Rattle.laywrite.proofs.each_line.Tie as tie
 
@@ -43,7 +43,7 @@ same-length-2 c = search needs
 returns : tie.Need-returns Inv-loop μ-loop
 returns c =
     let l = c .before .before .before .before .before .before .before .loop in
-    subst⁻¹ (HoldRecords (l .out)) (c .ended .ensures) (hold-at (l .out) (c .before .before .before .before .next .result) (l .records) (l .inv .0))
+    subst⁻¹ (HoldRecords (l .out)) (c .ended .ensures) (holds-at-end (HoldRecords (l .out)) (c .before .before .before .before .next .result) (l .records) allDropped (l .inv .0) tt)
 
 -- The line that comes next.
 found : (c : tie.After-input Inv-loop μ-loop) → IsLine (c .before .before .before .before .next .last .0) (c .input .given .0 .0) (c .input .given .0 .1 .0) (c .input .given .0 .1 .1 .0)

@@ -1,6 +1,7 @@
 -- `laywrite::ended` goes by what comes next.
 use borrow.Author.Needs.{needs}
-use Rattle.laywrite.proofs.WaitLaws.{not-ended}
+use Rattle.lines.proofs.LineLaws.{not-at-end}
+use Rattle.laywrite.specs.Waiting.{allDropped}
 use Rattle.laywrite.proofs.ended.Statement.{statement}
 use Rattle.laywrite.proofs.ended.Tie as tie
 
@@ -20,7 +21,7 @@ returns-2 : tie.Need-returns-2
 returns-2 c = search needs
 
 returns-3 : tie.Need-returns-3
-returns-3 c = not-ended (c .before .args .input) (c .before .args .records) (c .match .keys3)
+returns-3 c = not-at-end (c .before .args .input) (c .before .args .records) allDropped (c .match .keys3)
 
 pub ended-spec : {M : Type 1} → statement M
 ended-spec =
