@@ -13,11 +13,12 @@ use Rattle.typed.specs.declared.TypedDraft.the-variants as typed
 use Rattle.laywrite.specs.declared.Records.{Records}
 use Rattle.laywrite.specs.declared.Records.the-variants as records
 
--- How many bytes wait, and that none do.
+-- How many bytes wait.
 abbrev pub waitingOf : Records → ℕ
 waitingOf (records.Waiting n) = n
 waitingOf records.Dropped = 0
 
+-- All were dropped, and any that come are.
 abbrev pub allDropped : Records
 allDropped = records.Dropped
 
