@@ -94,8 +94,8 @@ fn open_log() -> Log {
         os::fail(b"lay.dat");
         return Log::Unfit;
     }
-    // The lowest five bits of a number that 32 divides are zero.
-    if length & 31 != 0 {
+    // The size of a record is a power of two: the bits below it are zero in a number that it divides.
+    if length & (LOG_BYTES as i64 - 1) != 0 {
         tell(0, 1);
         return Log::Unfit;
     }
