@@ -359,18 +359,27 @@ def part_log(count):
     return b"".join(islice(part_ends(), count))
 
 
+def over_edges():
+    """A hold as the first record of every part but the first, and of the second buffer, behind a place of its own."""
+    log = [REFUSED] * (2048 + 128 + 1)
+    for first in range(128, len(log), 128):
+        log[first - 1 : first + 1] = place_record((first, 3 * first), first), records.hold(line=first)
+    return b"".join(log)
+
+
 # P4 has two places for one of the readings above, and one for the other.
 PARTS = asking(P4)
 
 
 def edges():
-    """Logs that end at a part of 16 records or a buffer of 2,048, and a byte or a record to either side."""
+    """Logs that end at a part of 128 records or a buffer of 2,048, and a byte or a record to either side; holds behind them."""
     log = part_log(3 * 2048)
-    ends = (1, 2, 127, 128, 129, 255, 256)
-    for end in (512 * n for n in ends):
+    ends = (1, 2, 15, 16, 17, 31, 32)
+    for end in (4096 * n for n in ends):
         for length in end - 32, end - 1, end, end + 1, end + 32:
             yield f"bytes_{length}", PARTS._replace(log=log[:length])
     yield "five_buffers", PARTS._replace(log=part_log(5 * 2048 + 2))
+    yield "holds_over_edges", PARTS._replace(log=over_edges())
 
 
 def long():

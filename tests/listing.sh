@@ -176,7 +176,7 @@ pass_if '256 places are all printed' [ "$(wc -w <"$printed")" -eq 516 ]
 pass_if '256 places differ' [ "$(cut -d ' ' -f 5- "$printed" | tr ' ' '\n' | paste - - | sort -u | wc -l)" -eq 256 ]
 
 # Folders that have a reason, and folders whose logs end about the edges of the buffers: the program reads 65,536 bytes of
-# the log at a time and lists them in parts of 512.
+# the log at a time and lists them in parts of 4,096.
 all_agree cases
 all_agree edges
 
@@ -220,6 +220,19 @@ for file in job.dat chain.dat lay.dat; do
         run "$folder"
         pass_if "$unreadable $file is told: $(cat "$said")" tells "$file"
         pass_if "$unreadable $file: nothing is printed" [ ! -s "$printed" ]
+    done
+done
+
+# A job that is refused is told though the table or the log cannot be read, and a table though the log cannot.
+for bad in chain.dat:"${job/ 01 / 19 }":"$table":'JOB REFUSED 6' lay.dat:"${job/ 01 / 19 }":"$table":'JOB REFUSED 6' \
+    lay.dat:"$job":"$table 00":'CHAIN REFUSED 1'; do
+    IFS=: read -r file its_job its_table answer <<<"$bad"
+    for unreadable in mkdir 'ln -s /proc/self/mem'; do
+        put "$its_job" "$its_table" "$fix"
+        rm "$folder/$file"
+        $unreadable "$folder/$file"
+        run "$folder"
+        pass_if "$unreadable $file: $(cat "$printed" "$said"), not $answer" prints "$answer"
     done
 done
 

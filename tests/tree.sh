@@ -1,6 +1,6 @@
 #!/usr/bin/env bash
 # What a reader relies on: the layout, no proof among the definitions, and a full contract, with its row and its edits, for
-# every public function.
+# every public function; and that the faults of every crate are those that its rows name.
 cd "$(dirname "$0")/.." && . tests/common.bash
 
 pass_if 'every file is in the layout of rt fmt' rt fmt --check
@@ -40,19 +40,23 @@ one_answer() {
     grep -q "^  -- $1, by " crates/demands/proofs/OnlyAnswers.antt || grep -q "^No one answer: .*\`$1\`" docs/CONTRACTS.md
 }
 
+# rows CRATE: the functions that have a row, those of a program's too, which has no public one.
+rows() { sed -n "s/^| \`$1::\([a-z_0-9]*\)\` |.*/\1/p" docs/CONTRACTS.md; }
+
 for crate in crates/*/; do
     name=$(basename "$crate")
-    [ -f "$crate/src/lib.rt" ] || continue
     there=$(faults "$name")
     while read -r function kind; do
         pass_if "$name::$function fixes what it returns and requires nothing" [ "$kind" = full ]
         pass_if "$name::$function is proved to have one answer" one_answer "$name::$function"
-        named=$(shown "$name::$function")
-        pass_if "docs/CONTRACTS.md names two faults for $name::$function" [ "$(wc -w <<<"$named")" -ge 2 ]
-        for fault in $named; do
+        pass_if "docs/CONTRACTS.md names two faults for $name::$function" [ "$(shown "$name::$function" | wc -w)" -ge 2 ]
+    done < <(cat "$crate"/src/*.rt | public -)
+    for function in $(rows "$name"); do
+        pass_if "$name::$function is there" grep -qE "fn $function[(<]" "$crate"/src/*.rt
+        for fault in $(shown "$name::$function"); do
             pass_if "$name::$function: the fault $fault is there" grep -qx "$fault" <<<"$there"
         done
-    done < <(cat "$crate"/src/*.rt | public -)
+    done
     pass_if "no two faults of $name have one name" [ -z "$(sort <<<"$there" | uniq -d)" ]
     for fault in $there; do
         pass_if "docs/CONTRACTS.md names the fault $fault of $name" grep -q "^| \`$name::.*\`$fault\`" docs/CONTRACTS.md

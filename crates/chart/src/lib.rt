@@ -5,7 +5,7 @@ ghost use Prim.Native.Nat.{_<_, _^_};
 ghost use lib.IntN.{subℕ};
 ghost use Rattle.chart.specs.Places.{inRange, samePlace, apart};
 ghost use Rattle.chart.specs.Chains.{stationsOf, allInRange, noTwoEqual, isSound};
-ghost use Rattle.chart.specs.Readings.{rangeOf, expectedAt, figuresOf};
+ghost use Rattle.chart.specs.Readings.{rangeOf, expectedAt, saidBy, figuresOf};
 
 // A cell of the grid, by its easting and northing.
 pub struct Place {
@@ -20,11 +20,10 @@ pub struct Chain {
     pub b: Place,
 }
 
-// The readings expected at a place, or why there are none.
+// The readings expected at a place, or the number of the refusal in 01's table.
 pub enum Expected {
     Readings { a: i64, b: i64 },
-    OutOfRange,
-    Unsound,
+    Refused(u32),
 }
 
 // The readings as figures: the number of the refusal, 0 for none, and both readings.
@@ -60,30 +59,29 @@ pub fn sound(c: Chain) -> bool
 
 // The readings expected at a place: what a log would say there.
 pub fn readings(c: Chain, p: Place) -> Expected
-    ensures { λ r. ⌜ r ≡ expectedAt c p ⌝ }
+    ensures { λ r. ⌜ saidBy r ≡ expectedAt c p ⌝ }
 {
     let place = in_range(p);
     let chain = sound(c);
     if !place {
-        return Expected::OutOfRange;
+        return Expected::Refused(4); // the place is out of range
     }
     if !chain {
-        return Expected::Unsound;
+        return Expected::Refused(5); // the chain is not sound
     }
-    let m = range(p, c.master);
-    let a = less(range(p, c.a), m);
-    let b = less(range(p, c.b), m);
+    let m = range(c, p, c.master);
+    let a = less(range(c, p, c.a), m);
+    let b = less(range(c, p, c.b), m);
     Expected::Readings { a, b }
 }
 
 // An answer as figures.
 pub fn as_figures(e: Expected) -> Figures
-    ensures { λ r. ⌜ r ≡ figuresOf e ⌝ }
+    ensures { λ r. ⌜ r ≡ figuresOf (saidBy e) ⌝ }
 {
     match e {
         Expected::Readings { a, b } => told(0, a, b),
-        Expected::OutOfRange => told(4, 0, 0),
-        Expected::Unsound => told(5, 0, 0),
+        Expected::Refused(number) => told(number, 0, 0),
     }
 }
 
@@ -126,10 +124,10 @@ fn same(p: Place, q: Place) -> bool
     p.northing == q.northing
 }
 
-// How far a station counts as being from a place. Both squares fit, since both places are in range.
-fn range(p: Place, station: Place) -> u64
+// How far a station of a chain counts as being from a place. Both squares fit, since both places are in range.
+fn range(c: Chain, p: Place, station: Place) -> u64
     requires { ⌜ (inRange p ≡ true) × (inRange station ≡ true) ⌝ }
-    ensures { λ r. ⌜ (r ≡ rangeOf p station) × (r < 2 ^ 30) ⌝ }
+    ensures { λ r. ⌜ (r ≡ rangeOf c p station) × (r < 2 ^ 30) ⌝ }
 {
     let e = gap(p.easting, station.easting);
     let n = gap(p.northing, station.northing);

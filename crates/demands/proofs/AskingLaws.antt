@@ -1,76 +1,77 @@
--- What a search with two readings asks, and that the readings of a place pass its tests and find the place.
+-- What a search with readings asks, and that the readings of a place pass its tests and find the place.
 use Prim.Native.Nat.{ℕ, _≤_}
-use mathlib.Core.Path.{_≡_, refl, sym, subst₂}
+use mathlib.Core.Path.{_≡_, refl, sym, subst}
 use mathlib.Core.Logic.{_↔_}
 use mathlib.Core.Bool.{Bool, true, false, cond}
+use mathlib.Core.List.{List, [], _∷_}
 use borrow.Author.Tests.{leb-true, le-leb, eqb-false}
 use lib.Dec.{leb, eqb}
 use lib.IntN.{ℤ, natAbs}
 use Rattle.chart.specs.declared.Place.{Place}
 use Rattle.chart.specs.declared.Chain.{Chain}
-use Rattle.chart.specs.declared.Expected.the-variants.{Readings, OutOfRange, Unsound}
 use Rattle.chart.specs.Places.{inRange}
-use Rattle.chart.specs.Chains.{isSound}
-use Rattle.chart.specs.Readings.{readingOf, differ, wantedOf, within, expectedAt}
+use Rattle.chart.specs.Chains.{slavesOf, isSound}
+use Rattle.chart.specs.Readings.{readingOf, readingsOf, differ, Wanted, wantedFor, within, Expects, NoneFor, expectedAt}
 use Rattle.chart.proofs.PlaceLaws.{both, and-both}
 use Rattle.search.specs.declared.Window.{Window}
 use Rattle.search.specs.Windows.{isWindow, IsCellIn}
-use Rattle.search.specs.Questions.{Question, questionOf, noneTooLarge}
+use Rattle.search.specs.Questions.{Question, ruleOf, questionOf, noneTooLarge}
 use Rattle.search.specs.Answers.{Accepted, searchOf, searchFigures}
 use Rattle.search.specs.Cells.{Listed, AmpleRoom, AmpleAllowance}
 use Rattle.search.proofs.Outcomes.{ending}
 use Rattle.search.proofs.Theorems.{own-readings-found}
 use Rattle.listing.specs.Answers.{searched, placesOf}
+use Rattle.demands.specs.Finding.{EachSmall, EachWithin}
 use Rattle.demands.proofs.NumberLaws.{refused-lists}
 
 -- A place that has readings has these, by a sound chain.
-pub own-readings : (c : Chain) (p : Place) (a b : ℤ) → expectedAt c p ≡ Readings a b →
-    (readingOf c (c .a) p ≡ a) × (readingOf c (c .b) p ≡ b) × (isSound c ≡ true)
+pub own-readings : (c : Chain) (p : Place) (readings : List ℤ) → expectedAt c p ≡ Expects readings →
+    (readingsOf c p ≡ readings) × (isSound c ≡ true)
 unfolding expectedAt
-own-readings c p a b e = go (inRange p) (isSound c) refl e
+own-readings c p readings e = go (inRange p) (isSound c) refl e
   where
     go : (s t : Bool) → isSound c ≡ t →
-        cond s (cond t (Readings (readingOf c (c .a) p) (readingOf c (c .b) p)) Unsound) OutOfRange ≡ Readings a b →
-        (readingOf c (c .a) p ≡ a) × (readingOf c (c .b) p ≡ b) × (isSound c ≡ true)
-    go true true sound e = (cc, cc, sound)
-    go true false sound e = (cc, cc, cc)
-    go false t sound e = (cc, cc, cc)
+        cond s (cond t (Expects (readingsOf c p)) (NoneFor 5)) (NoneFor 4) ≡ Expects readings →
+        (readingsOf c p ≡ readings) × (isSound c ≡ true)
+    go true true sound e = (cc, sound)
+    go true false sound e = (cc, cc)
+    go false t sound e = (cc, cc)
 
 -- A search with them finds the place.
-pub found-by : (c : Chain) (p : Place) (a b : ℤ) (w : Window) (tolerance allowance entries : ℕ) →
-    let q = questionOf c a b tolerance allowance entries in
-    expectedAt c p ≡ Readings a b → IsCellIn w p → Accepted q w → AmpleRoom q w → AmpleAllowance q w → Listed p (searchOf q w .places)
-found-by c p a b w tolerance allowance entries e inside =
-    let own = own-readings c p a b e in
-    let asked : ℤ → ℤ → Question = λ x y. questionOf c x y tolerance allowance entries in
-    subst₂ (λ (x y : ℤ). Accepted (asked x y) w → AmpleRoom (asked x y) w → AmpleAllowance (asked x y) w → Listed p (searchOf (asked x y) w .places))
-    (own .0) (own .1)
+pub found-by : (c : Chain) (p : Place) (readings : List ℤ) (w : Window) (tolerance allowance entries : ℕ) →
+    let q = questionOf c readings tolerance allowance entries in
+    expectedAt c p ≡ Expects readings → IsCellIn w p → Accepted (q .rule) w → AmpleRoom q w → AmpleAllowance q w → Listed p (searchOf q w .places)
+found-by c p readings w tolerance allowance entries e inside =
+    let asked : List ℤ → Question = λ rs. questionOf c rs tolerance allowance entries in
+    subst (λ (rs : List ℤ). Accepted (asked rs .rule) w → AmpleRoom (asked rs) w → AmpleAllowance (asked rs) w → Listed p (searchOf (asked rs) w .places))
+    (own-readings c p readings e .0)
     (λ accepted room enough. own-readings-found c p w tolerance allowance entries accepted room enough inside)
 
--- Two readings that are not too large, a sound chain, a window and a tolerance pass the tests of a search.
-pub tests-pass : (c : Chain) (a b : ℤ) (w : Window) (tolerance allowance entries : ℕ) →
-    natAbs a ≤ 1_000_000_000 → natAbs b ≤ 1_000_000_000 → isSound c ≡ true → isWindow w ≡ true → tolerance ≤ 100_000 →
-    Accepted (questionOf c a b tolerance allowance entries) w
-unfolding noneTooLarge
-tests-pass c a b w tolerance allowance entries ha hb sound window few =
-    record {
-      readings = and-both (le-leb (natAbs a) 1_000_000_000 ha) (and-both (le-leb (natAbs b) 1_000_000_000 hb) refl);
-      chain = sound;
-      window = window;
-      tolerance = few;
-    }
+-- Readings none of which is too large pass the test of a search.
+small-pass : (slaves : List Place) (readings : List ℤ) → EachSmall readings → noneTooLarge (wantedFor slaves readings) ≡ true
+unfolding noneTooLarge EachSmall
+small-pass [] readings h = refl
+small-pass (slave ∷ slaves) [] h = refl
+small-pass (slave ∷ slaves) (r ∷ rs) h = and-both (le-leb (natAbs r) 1_000_000_000 (h .0)) (small-pass slaves rs (h .1))
 
--- Matching two readings, reading by reading.
-pub both-differ : (t : ℕ) (c : Chain) (a b : ℤ) (o : Place) →
-    within t c (wantedOf c a b) o ≡ true ↔ ((differ (readingOf c (c .a) o) a ≤ t) × (differ (readingOf c (c .b) o) b ≤ t))
-unfolding within
-both-differ t c a b o = (
-  (λ e.
-      let first = both (leb (differ (readingOf c (c .a) o) a) t) _ e in
-      let second = both (leb (differ (readingOf c (c .b) o) b) t) true (first .1) in
-      (leb-true _ _ (first .0), leb-true _ _ (second .0))),
-  (λ h. and-both (le-leb _ _ (h .0)) (and-both (le-leb _ _ (h .1)) refl)),
-)
+-- With a sound chain, a window and a tolerance they pass them all.
+pub tests-pass : (c : Chain) (readings : List ℤ) (w : Window) (tolerance : ℕ) →
+    EachSmall readings → isSound c ≡ true → isWindow w ≡ true → tolerance ≤ 100_000 →
+    Accepted (ruleOf c readings tolerance) w
+tests-pass c readings w tolerance small sound window few =
+    record { readings = small-pass (slavesOf c) readings small; chain = sound; window = window; tolerance = few }
+
+-- Matching, reading by reading.
+pub each-differs : (t : ℕ) (c : Chain) (ws : List Wanted) (o : Place) → within t c ws o ≡ true ↔ EachWithin t c ws o
+unfolding within EachWithin
+each-differs t c [] o = ((λ e. tt), (λ h. refl))
+each-differs t c (w ∷ ws) o =
+    let rest = each-differs t c ws o in (
+      (λ e.
+          let two = both (leb (differ (readingOf c (w .slave) o) (w .reading)) t) (within t c ws o) e in
+          (leb-true _ _ (two .0), rest .0 (two .1))),
+      (λ h. and-both (le-leb _ _ (h .0)) (rest .1 (h .1))),
+    )
 
 -- What a record answers lists what its search lists.
 pub fix-places : (q : Question) (w : Window) → placesOf (searched (searchOf q w)) ≡ searchOf q w .places

@@ -1,7 +1,8 @@
 -- Demand 1. A log, a station table or a job of any content gets an answer or a numbered refusal, and the work ends. After a
 -- refusal the list of places holds zeros and the count of places is nought.
--- Every public function takes any content, is proved to return, and answers by one definition: so the work ends. Here stands
--- what the definitions answer: `NoneOr numbers` says no refusal, which is 0, or one of these numbers, and no other.
+-- Every public function takes any content and is proved to return: so the work ends. What it answers follows from definitions,
+-- but for what comes from the outside, and here stands what these answer: `NoneOr numbers` says no refusal, which is 0, or one
+-- of these numbers, and no other.
 use Prim.Native.Nat.{ℕ, _-_, _*_, _≤_}
 use mathlib.Core.Path.{_≡_, refl, ap, _∙_, subst}
 use mathlib.Core.Bool.{true}
@@ -13,7 +14,7 @@ use lib.ListN.{length, drop, replicate}
 use Rattle.metres.specs.Metres.{centimetresOf, metresOf, wholeFigures, lengthFigures, plusZero}
 use Rattle.chart.specs.declared.Place.{Place}
 use Rattle.chart.specs.declared.Chain.{Chain}
-use Rattle.chart.specs.Readings.{expectedAt, figuresOf}
+use Rattle.chart.specs.Readings.{expectedAt, noFigures, figuresOf}
 use Rattle.search.specs.declared.Window.{Window}
 use Rattle.search.specs.Questions.{Question, questionOf}
 use Rattle.search.specs.Answers.{searchOf, entriesOf, listOf, figuresIn}
@@ -63,11 +64,11 @@ pub metres-written : (z : ℤ) →
     NoneOr (3 ∷ []) (f .refusal) × (Refuses (f .refusal) → f .metres ≡ plusZero)
 metres-written z = length-number (metresOf z)
 
--- A place gets the readings expected there, or 4 or 5 and then 0 for both.
+-- A place gets the readings expected there, or 4 or 5 and then 0 for each.
 pub readings-told : (c : Chain) (p : Place) →
     let f = figuresOf (expectedAt c p) in
-    NoneOr (4 ∷ 5 ∷ []) (f .refusal) × (Refuses (f .refusal) → (f .a ≡ pos 0) × (f .b ≡ pos 0))
-readings-told c p = readings-number (expectedAt c p)
+    NoneOr (4 ∷ 5 ∷ []) (f .refusal) × (Refuses (f .refusal) → f ≡ noFigures (f .refusal))
+readings-told c p = readings-number c p
 
 -- A log record of any bytes gets its fields, or 1; its kind and metres, or 1 or 2; its centimetres, or 1 to 4.
 pub log-record-read : (s : List ℕ) →
@@ -121,8 +122,8 @@ search-answered q w entries =
 
 -- A search that is not refused has a place or more. They are the first entries of the list, easting and northing in turn;
 -- all others, a left-over half place too, are zero; and the list is as long as it was.
-pub places-listed : (c : Chain) (a b : ℤ) (w : Window) (tolerance allowance entries : ℕ) →
-    let q = questionOf c a b tolerance allowance entries in
+pub places-listed : (c : Chain) (readings : List ℤ) (w : Window) (tolerance allowance entries : ℕ) →
+    let q = questionOf c readings tolerance allowance entries in
     let places = searchOf q w .places in
     figuresIn q w .refusal ≡ 0 →
     (1 ≤ figuresIn q w .count)
@@ -130,8 +131,8 @@ pub places-listed : (c : Chain) (a b : ℤ) (w : Window) (tolerance allowance en
     × (listOf entries places ≡ entriesOf places ++ replicate (entries - 2 * length places) 0)
     × (length (listOf entries places) ≡ entries)
 unfolding listOf
-places-listed c a b w tolerance allowance entries e =
-    let q = questionOf c a b tolerance allowance entries in (
+places-listed c readings w tolerance allowance entries e =
+    let q = questionOf c readings tolerance allowance entries in (
       answered-lists q w e,
       listed-are-counted q w,
       refl,

@@ -2,10 +2,10 @@
 -- the places that the rule allows. Metres in the log are read by IEEE 754 and rounded as 01 says; centimetres written out read
 -- back the same.
 use Prim.Native.Nat.{ℕ, _+_, _-_, _*_, _/_, _^_, _≤_, _<_}
-use mathlib.Core.Path.{_≡_, ap, subst⁻¹}
+use mathlib.Core.Path.{_≡_, ap, _∙_, subst⁻¹}
 use mathlib.Core.Logic.{_↔_}
 use mathlib.Core.Bool.{true, false}
-use mathlib.Core.List.{List, _++_}
+use mathlib.Core.List.{List, [], _∷_, _++_, map}
 use native.Mathlib.Omega.{arith}
 use borrow.Author.Tests.{leb-true}
 use lib.Dec.{T}
@@ -24,14 +24,14 @@ use Rattle.metres.proofs.Back.{written, not-written, hundredth-back}
 use Rattle.metres.proofs.PatternLaws.{number-back}
 use Rattle.chart.specs.declared.Place.{Place}
 use Rattle.chart.specs.declared.Chain.{Chain}
-use Rattle.chart.specs.declared.Expected.the-variants.{Readings}
 use Rattle.chart.specs.Places.{inRange, squaredDistance, distanceOf}
-use Rattle.chart.specs.Chains.{isSound}
-use Rattle.chart.specs.Readings.{rangeOf, readingOf, expectedAt, figuresOf}
+use Rattle.chart.specs.Chains.{slavesOf, isSound}
+use Rattle.chart.specs.Readings.{Expects, NoneFor, expectedAt}
+use Rattle.chart.proofs.RangeLaws.{readings-are}
 use Rattle.chart.proofs.ReadingLaws.{expected-out, expected-unsound, expected-readings}
 use Rattle.search.specs.declared.Window.{Window}
 use Rattle.search.specs.Windows.{isWindow, IsCellIn}
-use Rattle.search.specs.Questions.{questionOf}
+use Rattle.search.specs.Questions.{ruleOf, questionOf}
 use Rattle.search.specs.Answers.{searchOf}
 use Rattle.search.specs.Cells.{matchingIn, Listed, AmpleRoom, AmpleAllowance}
 use Rattle.search.proofs.Theorems.{always-enough}
@@ -60,6 +60,7 @@ use Rattle.shown.specs.Lines.{jobText, jobLine, stationFigures, chainLine, reco
 use Rattle.shown.specs.Expected.{expectedIn}
 use Rattle.listing.specs.declared.Carried.{Carried}
 use Rattle.listing.specs.Answers.{fixBy, answerBy, answerOf, placesOf}
+use Rattle.demands.specs.Finding.{EachSmall}
 use Rattle.demands.proofs.NumberLaws.{job-good}
 use Rattle.demands.proofs.WritingLaws.{hyperbolic-accepted, grid-accepted, hold-accepted, chain-byte}
 use Rattle.demands.proofs.TextLaws.{job-line-shown, job-typed-again, chain-line-shown, chain-typed-again, record-line-shown, record-typed-again}
@@ -79,20 +80,18 @@ distance-is-root p q = (
   λ d low high. root-unique (squaredDistance p q) d (record { low = low; high = high }),
 )
 
--- The readings of a place in range, by a sound chain, are its distance to the slave minus its distance to the master, for A
--- and for B, each distance cut to a whole number first. A place out of range gets 4, whatever the chain; then an unsound
+-- The readings of a place in range, by a sound chain, are its distance to the slave minus its distance to the master, for
+-- each slave, each distance cut to a whole number first. A place out of range gets 4, whatever the chain; then an unsound
 -- chain gets 5.
 pub readings-are-differences : (c : Chain) (p : Place) →
-    let f = figuresOf (expectedAt c p) in
-    let m = distanceOf p (c .master) in
-    (inRange p ≡ true → isSound c ≡ true → f ≡ record { refusal = 0; a = subℕ (distanceOf p (c .a)) m; b = subℕ (distanceOf p (c .b)) m })
-    × (inRange p ≡ false → f ≡ record { refusal = 4; a = pos 0; b = pos 0 })
-    × (inRange p ≡ true → isSound c ≡ false → f ≡ record { refusal = 5; a = pos 0; b = pos 0 })
-unfolding figuresOf readingOf rangeOf
+    (inRange p ≡ true → isSound c ≡ true →
+    expectedAt c p ≡ Expects (map (λ slave. subℕ (distanceOf p slave) (distanceOf p (c .master))) (slavesOf c)))
+    × (inRange p ≡ false → expectedAt c p ≡ NoneFor 4)
+    × (inRange p ≡ true → isSound c ≡ false → expectedAt c p ≡ NoneFor 5)
 readings-are-differences c p = (
-  (λ in-range sound. ap figuresOf (expected-readings c p in-range sound)),
-  (λ out. ap figuresOf (expected-out c p out)),
-  (λ in-range unsound. ap figuresOf (expected-unsound c p in-range unsound)),
+  (λ in-range sound. expected-readings c p in-range sound ∙ ap Expects (readings-are c p)),
+  expected-out c p,
+  expected-unsound c p,
 )
 
 -- A number of metres is answered by the whole number of centimetres nearest to exactly 100 times the number, a tie going to
@@ -174,13 +173,13 @@ question-as-typed table s number p e = expected-as-typed table s number p e
 
 -- The writer accepts any two readings up to 1,000,000,000 in size for a chain from 1 to 16, any place in range, and any hold;
 -- and these are read back.
-pub readings-there-and-back : (chain line : ℕ) (a b : ℤ) →
-    1 ≤ chain → chain ≤ 16 → line < 2 ^ 32 → natAbs a ≤ 1_000_000_000 → natAbs b ≤ 1_000_000_000 →
-    let d : Draft = record { kind = 1; chain = chain; line = line; x = a; y = b } in
-    (refusalOf 32 d ≡ 0) × (logEntryOf (bufferOf 32 d) ≡ entry.Readings a b)
+pub readings-there-and-back : (chain line : ℕ) (x y : ℤ) →
+    1 ≤ chain → chain ≤ 16 → line < 2 ^ 32 → natAbs x ≤ 1_000_000_000 → natAbs y ≤ 1_000_000_000 →
+    let d : Draft = record { kind = 1; chain = chain; line = line; x = x; y = y } in
+    (refusalOf 32 d ≡ 0) × (logEntryOf (bufferOf 32 d) ≡ entry.Readings x y)
 unfolding usedOf entryFor
-readings-there-and-back chain line a b some few small ha hb =
-    let accepted = hyperbolic-accepted chain line a b some few ha hb in
+readings-there-and-back chain line x y some few small hx hy =
+    let accepted = hyperbolic-accepted chain line x y some few hx hy in
     (accepted, reads-back _ small accepted .entry)
 
 pub place-there-and-back : (chain line : ℕ) (p : Place) → line < 2 ^ 32 → inRange p ≡ true →
@@ -201,30 +200,30 @@ hold-there-and-back chain line x y small =
 
 -- The readings of a place give back the place: a search with them, in any window about the place, at any tolerance, with room
 -- and allowance ample, lists it.
-pub readings-give-place : (c : Chain) (p : Place) (a b : ℤ) (w : Window) (tolerance allowance entries : ℕ) →
-    let q = questionOf c a b tolerance allowance entries in
-    expectedAt c p ≡ Readings a b → natAbs a ≤ 1_000_000_000 → natAbs b ≤ 1_000_000_000 →
+pub readings-give-place : (c : Chain) (p : Place) (readings : List ℤ) (w : Window) (tolerance allowance entries : ℕ) →
+    let q = questionOf c readings tolerance allowance entries in
+    expectedAt c p ≡ Expects readings → EachSmall readings →
     isWindow w ≡ true → IsCellIn w p → tolerance ≤ 100_000 → AmpleRoom q w → AmpleAllowance q w →
     Listed p (searchOf q w .places)
-readings-give-place c p a b w tolerance allowance entries e ha hb window inside few room enough =
-    found-by c p a b w tolerance allowance entries e inside
-    (tests-pass c a b w tolerance allowance entries ha hb (own-readings c p a b e .2) window few)
+readings-give-place c p readings w tolerance allowance entries e small window inside few room enough =
+    found-by c p readings w tolerance allowance entries e inside
+    (tests-pass c readings w tolerance small (own-readings c p readings e .1) window few)
     room enough
 
 -- The whole way, from a place to a record and from the record to the place. The readings expected at a place are written as a
 -- record of a chain of the table; the record is read back; and what it answers, by an accepted job whose window has the
 -- place, whose allowance is the greatest that may be needed and whose matching cells are at most 256, lists the place.
-pub place-to-place : (c : Chain) (p : Place) (a b : ℤ) (chain line : ℕ) (job table : List ℕ) (j : Job) (before : Carried) →
-    let s = bufferOf 32 (record { kind = 1; chain = chain; line = line; x = a; y = b }) in
-    expectedAt c p ≡ Readings a b → natAbs a ≤ 1_000_000_000 → natAbs b ≤ 1_000_000_000 →
+pub place-to-place : (c : Chain) (p : Place) (x y : ℤ) (chain line : ℕ) (job table : List ℕ) (j : Job) (before : Carried) →
+    let s = bufferOf 32 (record { kind = 1; chain = chain; line = line; x = x; y = y }) in
+    expectedAt c p ≡ Expects (x ∷ y ∷ []) → natAbs x ≤ 1_000_000_000 → natAbs y ≤ 1_000_000_000 →
     1 ≤ chain → chain ≤ 16 → line < 2 ^ 32 → chainOf table chain ≡ named.Chain c →
     jobOf job ≡ answer.Job j → IsCellIn (j .window) p → (4 ^ (j .window .k + 1) - 1) / 3 ≤ j .allowance →
-    length (matchingIn (questionOf c a b (j .tolerance) (j .allowance) 512) (j .window)) ≤ 256 →
-    (logEntryOf s ≡ entry.Readings a b) × Listed p (placesOf (answerOf j table before s))
-unfolding answerOf answerBy fixBy
-place-to-place c p a b chain line job table j before e ha hb some few small known good inside enough room =
-    let there = readings-there-and-back chain line a b some few small ha hb in
-    let q = questionOf c a b (j .tolerance) (j .allowance) 512 in
+    length (matchingIn (ruleOf c (x ∷ y ∷ []) (j .tolerance)) (j .window)) ≤ 256 →
+    (logEntryOf s ≡ entry.Readings x y) × Listed p (placesOf (answerOf j table before s))
+unfolding answerOf answerBy fixBy EachSmall
+place-to-place c p x y chain line job table j before e hx hy some few small known good inside enough room =
+    let there = readings-there-and-back chain line x y some few small hx hy in
+    let q = questionOf c (x ∷ y ∷ []) (j .tolerance) (j .allowance) 512 in
     let accepted = job-good job j good in
-    let found = readings-give-place c p a b (j .window) (j .tolerance) (j .allowance) 512 e ha hb (accepted .0) inside (leb-true _ _ (accepted .1)) room (always-enough q (j .window) enough) in
-    (there .1, rw (there .1, chain-byte chain line a b (there .0), known) (subst⁻¹ (Listed p) (fix-places q (j .window)) found))
+    let found = readings-give-place c p (x ∷ y ∷ []) (j .window) (j .tolerance) (j .allowance) 512 e (hx, (hy, tt)) (accepted .0) inside (leb-true _ _ (accepted .1)) room (always-enough q (j .window) enough) in
+    (there .1, rw (there .1, chain-byte chain line x y (there .0), known) (subst⁻¹ (Listed p) (fix-places q (j .window)) found))

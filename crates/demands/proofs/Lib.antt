@@ -5,6 +5,7 @@ mod LibraryLaws
 mod WritingLaws
 mod AskingLaws
 mod StoppingLaws
+mod TestLaws
 mod TextLaws
 mod QuestionLaws
 pub mod Demand1

@@ -2,7 +2,7 @@
 use Prim.Native.Nat.{ℕ, _-_, _*_}
 use mathlib.Core.Path.{_≡_, refl}
 use mathlib.Core.Bool.{Bool, true, false, cond, _&&_}
-use mathlib.Core.List.{List}
+use mathlib.Core.List.{List, [], _∷_}
 use native.Mathlib.Omega.{arith}
 use borrow.Author.Tests.{eqb-false}
 use lib.Dec.{leb, eqb}
@@ -114,14 +114,14 @@ module _ (visits : ℕ) where
   hold-never (carried.Place p) e = absurd-equal cc
   hold-never carried.Nothing e = absurd-equal cc
 
-  fix-never : (j : Job) (a b : ℤ) (chain : NamedChain) → (chain ≡ named.Refused 0 → ⊥) → fixBy j a b chain ≡ Refused 0 visits → ⊥
+  fix-never : (j : Job) (readings : List ℤ) (chain : NamedChain) → (chain ≡ named.Refused 0 → ⊥) → fixBy j readings chain ≡ Refused 0 visits → ⊥
   unfolding fixBy
-  fix-never j a b (named.Chain c) h e = searched-never _ e
-  fix-never j a b (named.Refused number) h e = h cc
+  fix-never j readings (named.Chain c) h e = searched-never _ e
+  fix-never j readings (named.Refused number) h e = h cc
 
   pub answer-never : (j : Job) (chain : NamedChain) (before : Carried) (said : LogEntry) → (chain ≡ named.Refused 0 → ⊥) → (said ≡ entry.Refused 0 → ⊥) → answerBy j chain before said ≡ Refused 0 visits → ⊥
   unfolding answerBy
-  answer-never j chain before (entry.Readings a b) h k e = fix-never j a b chain h e
+  answer-never j chain before (entry.Readings a b) h k e = fix-never j (a ∷ b ∷ []) chain h e
   answer-never j chain before (entry.Place p) h k e = absurd-equal cc
   answer-never j chain before entry.Hold h k e = hold-never before e
   answer-never j chain before (entry.Refused number) h k e = k cc

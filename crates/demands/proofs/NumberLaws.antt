@@ -14,10 +14,10 @@ use Rattle.metres.specs.declared.Length.{Length}
 use Rattle.metres.specs.declared.Length.the-variants as metres
 use Rattle.metres.specs.Metres.{wholeFigures, lengthFigures, plusZero}
 use Rattle.chart.specs.declared.Place.{Place}
-use Rattle.chart.specs.declared.Expected.{Expected}
-use Rattle.chart.specs.declared.Expected.the-variants as expected
+use Rattle.chart.specs.declared.Chain.{Chain}
+use Rattle.chart.specs.Places.{inRange}
 use Rattle.chart.specs.Chains.{isSound}
-use Rattle.chart.specs.Readings.{figuresOf}
+use Rattle.chart.specs.Readings.{readingsOf, Expects, NoneFor, expectedAt, noFigures, figuresOf}
 use Rattle.chart.proofs.PlaceLaws.{both}
 use Rattle.search.specs.declared.Window.{Window}
 use Rattle.search.specs.declared.Answer.{Answer}
@@ -78,11 +78,18 @@ unfolding lengthFigures isAmong
 length-number (metres.Metres x) = (refl, λ r. absurd (r refl))
 length-number metres.Refused = (refl, λ r. refl)
 
-pub readings-number : (a : Expected) → NoneOr (4 ∷ 5 ∷ []) (figuresOf a .refusal) × (Refuses (figuresOf a .refusal) → (figuresOf a .a ≡ pos 0) × (figuresOf a .b ≡ pos 0))
-unfolding figuresOf isAmong
-readings-number (expected.Readings a b) = (refl, λ r. absurd (r refl))
-readings-number expected.OutOfRange = (refl, λ r. (refl, refl))
-readings-number expected.Unsound = (refl, λ r. (refl, refl))
+pub readings-number : (c : Chain) (p : Place) →
+    let f = figuresOf (expectedAt c p) in
+    NoneOr (4 ∷ 5 ∷ []) (f .refusal) × (Refuses (f .refusal) → f ≡ noFigures (f .refusal))
+unfolding expectedAt figuresOf isAmong
+readings-number c p = go (inRange p) (isSound c)
+  where
+    go : (s t : Bool) →
+        let f = figuresOf (cond s (cond t (Expects (readingsOf c p)) (NoneFor 5)) (NoneFor 4)) in
+        NoneOr (4 ∷ 5 ∷ []) (f .refusal) × (Refuses (f .refusal) → f ≡ noFigures (f .refusal))
+    go true true = (refl, λ r. absurd (r refl))
+    go true false = (refl, λ r. refl)
+    go false t = (refl, λ r. refl)
 
 -- A listing that has room, and one that has not.
 pub listed-number : (b : Bool) (p : Part) (held text : List ℕ) →
@@ -105,7 +112,7 @@ module _ (P : Outcome → Type 0) where
   passed : (b : Bool) (a : Answer) (rest : Unit {0} → Outcome) → b ≡ true → P (rest tt) → P (unless b a rest)
   passed b a rest e h = subst⁻¹ (λ (x : Bool). P (unless x a rest)) e h
 
-  at-end : (s : Standing) → P (refused (AllowanceUsed (s .visits))) → P (refused (NoRoom (s .visits))) → P (gone (s .places) (s .visits)) → P (ended s)
+  pub at-end : (s : Standing) → P (refused (AllowanceUsed (s .visits))) → P (refused (NoRoom (s .visits))) → P (gone (s .places) (s .visits)) → P (ended s)
   unfolding ended
   at-end s h k l = either-way (eqb (s .stop) 10) _ _ h (either-way (eqb (s .stop) 9) _ _ k l)
 
@@ -116,21 +123,21 @@ module _ (P : Outcome → Type 0) where
         P (searchOf q w)
     unfolding searchOf
     any-search three five six seven ten nine on =
-        tested (noneTooLarge (q .wanted)) ReadingTooLarge _ three
-        (tested (isSound (q .chain)) Unsound _ five
+        tested (noneTooLarge (q .rule .wanted)) ReadingTooLarge _ three
+        (tested (isSound (q .rule .chain)) Unsound _ five
         (tested (isWindow w) BadWindow _ six
-        (tested (leb (q .tolerance) mostTolerance) BadTolerance _ seven (at-end (walk q w) (ten _) (nine _) on))))
+        (tested (leb (q .rule .tolerance) mostTolerance) BadTolerance _ seven (at-end (walk q w) (ten _) (nine _) on))))
 
-    pub good-search : isWindow w ≡ true → leb (q .tolerance) mostTolerance ≡ true →
+    pub good-search : isWindow w ≡ true → leb (q .rule .tolerance) mostTolerance ≡ true →
         P (refused ReadingTooLarge) → P (refused Unsound) →
         ((v : ℕ) → P (refused (AllowanceUsed v))) → ((v : ℕ) → P (refused (NoRoom v))) → P (gone (walk q w .places) (walk q w .visits)) →
         P (searchOf q w)
     unfolding searchOf
     good-search window tolerance three five ten nine on =
-        tested (noneTooLarge (q .wanted)) ReadingTooLarge _ three
-        (tested (isSound (q .chain)) Unsound _ five
+        tested (noneTooLarge (q .rule .wanted)) ReadingTooLarge _ three
+        (tested (isSound (q .rule .chain)) Unsound _ five
         (passed (isWindow w) BadWindow _ window
-        (passed (leb (q .tolerance) mostTolerance) BadTolerance _ tolerance (at-end (walk q w) (ten _) (nine _) on))))
+        (passed (leb (q .rule .tolerance) mostTolerance) BadTolerance _ tolerance (at-end (walk q w) (ten _) (nine _) on))))
 
 -- Every answer of a search has one of its numbers.
 pub search-number : (a : Answer) → NoneOr (3 ∷ 5 ∷ 6 ∷ 7 ∷ 8 ∷ 9 ∷ 10 ∷ []) (searchFigures a .refusal)
@@ -148,9 +155,9 @@ search-number (AllowanceUsed visits) = refl
 pub refused-lists : (q : Question) (w : Window) (o : Outcome) → Ending q w o → Refuses (searchFigures (o .answer) .refusal) → o .places ≡ []
 unfolding searchFigures
 refused-lists q w _ (early a f v) r = refl
-refused-lists q w _ (done most) r = go (matchingIn q w) r
+refused-lists q w _ (done most) r = go (matchingIn (q .rule) w) r
   where
-    go : (ps : List Place) → Refuses (searchFigures (gone ps (visitsIn q w) .answer) .refusal) → gone ps (visitsIn q w) .places ≡ []
+    go : (ps : List Place) → Refuses (searchFigures (gone ps (visitsIn (q .rule) w) .answer) .refusal) → gone ps (visitsIn (q .rule) w) .places ≡ []
     go [] r = refl
     go (p ∷ ps) r = absurd (r refl)
 refused-lists q w _ (full v most) r = refl
@@ -160,9 +167,9 @@ refused-lists q w _ out r = refl
 pub refused-early : (q : Question) (w : Window) (o : Outcome) → Ending q w o → isAmong (searchFigures (o .answer) .refusal) (3 ∷ 5 ∷ 6 ∷ 7 ∷ []) ≡ true → searchFigures (o .answer) .visits ≡ 0
 unfolding searchFigures isAmong
 refused-early q w _ (early a f v) r = v
-refused-early q w _ (done most) r = go (matchingIn q w) r
+refused-early q w _ (done most) r = go (matchingIn (q .rule) w) r
   where
-    go : (ps : List Place) → isAmong (searchFigures (gone ps (visitsIn q w) .answer) .refusal) (3 ∷ 5 ∷ 6 ∷ 7 ∷ []) ≡ true → searchFigures (gone ps (visitsIn q w) .answer) .visits ≡ 0
+    go : (ps : List Place) → isAmong (searchFigures (gone ps (visitsIn (q .rule) w) .answer) .refusal) (3 ∷ 5 ∷ 6 ∷ 7 ∷ []) ≡ true → searchFigures (gone ps (visitsIn (q .rule) w) .answer) .visits ≡ 0
     go [] r = absurd (false≢true r)
     go (p ∷ ps) r = absurd (false≢true r)
 refused-early q w _ (full v most) r = absurd (false≢true r)
@@ -182,15 +189,15 @@ answered-lists q w =
     go (p ∷ ps) v e = omega arith
 
 -- No list has more places than there is room for.
-pub room-kept : (q : Question) (w : Window) → length (searchOf q w .places) ≤ q .room
+pub room-kept : (q : Question) (w : Window) → length (searchOf q w .places) ≤ q .limits .room
 room-kept q w =
-    any-search (λ (o : Outcome). length (o .places) ≤ q .room) q w
+    any-search (λ (o : Outcome). length (o .places) ≤ q .limits .room) q w
     (omega arith) (omega arith) (omega arith) (omega arith) (λ v. omega arith) (λ v. omega arith)
     (go (walk q w .places) (walk q w .visits) walked)
   where
-    walked : length (walk q w .places) ≤ q .room
+    walked : length (walk q w .places) ≤ q .limits .room
     walked =
-        visit-keeps q (λ (s : Standing). length (s .places) ≤ q .room)
+        visit-keeps q (λ (s : Standing). length (s .places) ≤ q .limits .room)
         (record {
           out = λ s h o. h;
           count = λ s h z l. h;
@@ -199,7 +206,7 @@ room-kept q w =
         })
         (w .k) (w .corner) start (omega arith)
 
-    go : (ps : List Place) (v : ℕ) → length ps ≤ q .room → length (gone ps v .places) ≤ q .room
+    go : (ps : List Place) (v : ℕ) → length ps ≤ q .limits .room → length (gone ps v .places) ≤ q .limits .room
     go [] v h = h
     go (p ∷ ps) v h = h
 
@@ -231,11 +238,11 @@ abbrev pub recordNumbers : List ℕ
 recordNumbers = 1 ∷ 2 ∷ 3 ∷ 4 ∷ 5 ∷ 8 ∷ 9 ∷ 10 ∷ 11 ∷ []
 
 module _ (j : Job) (window : isWindow (j .window) ≡ true) (tolerance : leb (j .tolerance) mostTolerance ≡ true) where
-  fix-number : (a b : ℤ) (chain : NamedChain) → isAmong (chainRefusal chain) (0 ∷ 1 ∷ 5 ∷ []) ≡ true → NoneOr recordNumbers (recordRefusal (fixBy j a b chain))
+  fix-number : (readings : List ℤ) (chain : NamedChain) → isAmong (chainRefusal chain) (0 ∷ 1 ∷ 5 ∷ []) ≡ true → NoneOr recordNumbers (recordRefusal (fixBy j readings chain))
   unfolding fixBy searched recordRefusal searchFigures isAmong chainRefusal
-  fix-number a b (named.Refused number) h = wider number (0 ∷ 1 ∷ 5 ∷ []) (0 ∷ recordNumbers) refl h
-  fix-number a b (named.Chain c) h =
-      let q : Question = questionOf c a b (j .tolerance) (j .allowance) (2 * programRoom) in
+  fix-number readings (named.Refused number) h = wider number (0 ∷ 1 ∷ 5 ∷ []) (0 ∷ recordNumbers) refl h
+  fix-number readings (named.Chain c) h =
+      let q : Question = questionOf c readings (j .tolerance) (j .allowance) (2 * programRoom) in
       good-search (λ (o : Outcome). NoneOr recordNumbers (recordRefusal (searched o))) q (j .window) window tolerance
       refl refl (λ v. refl) (λ v. refl) (go (walk q (j .window) .places) (walk q (j .window) .visits))
     where
@@ -252,7 +259,7 @@ module _ (j : Job) (window : isWindow (j .window) ≡ true) (tolerance : leb (j 
       isAmong (chainRefusal chain) (0 ∷ 1 ∷ 5 ∷ []) ≡ true → isAmong (entryRefusal e) (0 ∷ 1 ∷ 2 ∷ 3 ∷ 4 ∷ []) ≡ true →
       NoneOr recordNumbers (recordRefusal (answerBy j chain before e))
   unfolding answerBy recordRefusal isAmong entryRefusal
-  answer-number chain before (entry.Readings a b) h k = fix-number a b chain h
+  answer-number chain before (entry.Readings a b) h k = fix-number (a ∷ b ∷ []) chain h
   answer-number chain before (entry.Place p) h k = refl
   answer-number chain before entry.Hold h k = hold-number before
   answer-number chain before (entry.Refused number) h k = wider number (0 ∷ 1 ∷ 2 ∷ 3 ∷ 4 ∷ []) (0 ∷ recordNumbers) refl k

@@ -33,12 +33,14 @@ use Rattle.chart.proofs.sound as sound
 use Rattle.chart.proofs.readings as readings
 use Rattle.chart.proofs.as_figures as chart-as-figures
 use Rattle.chart.proofs.gap as gap
+use Rattle.chart.proofs.ReadingLaws.{said-once}
 use Rattle.search.proofs.is_window as is-window
 use Rattle.search.proofs.search as search
 use Rattle.search.proofs.as_figures as search-as-figures
 use Rattle.records.proofs.raw_record as raw-record
 use Rattle.records.proofs.log_record as log-record
 use Rattle.records.proofs.log_entry as log-entry
+use Rattle.records.proofs.is_place as is-place
 use Rattle.records.proofs.chain_count as chain-count
 use Rattle.records.proofs.chain_of as chain-of
 use Rattle.records.proofs.raw_chain as raw-chain
@@ -148,9 +150,9 @@ module _ {M : Type 1} (𝓤 : URA M) (H : Heap 𝓤) (A : Atoms 𝓤) (mem : Mem
   pub sound-only : OneAnswer 𝓤 sound.ended (sound.clauses 𝓤 H A mem run)
   sound-only κs a g x y = only 𝓤 same (λ answer. answer & refl)
 
-  -- chart::readings, by `ensures-1`.
+  -- chart::readings, by `ensures-1`: it fixes what the answer says, and no two say the same.
   pub readings-only : OneAnswer 𝓤 readings.ended (readings.clauses 𝓤 H A mem run)
-  readings-only κs a g x y = only 𝓤 same (λ answer. answer & refl)
+  readings-only κs a g x y = only 𝓤 same (λ says. said-once (x .0) (y .0) says & refl)
 
   -- chart::as_figures, by `ensures-1`.
   pub chart-as-figures-only : OneAnswer 𝓤 chart-as-figures.ended (chart-as-figures.clauses 𝓤 H A mem run)
@@ -183,6 +185,10 @@ module _ {M : Type 1} (𝓤 : URA M) (H : Heap 𝓤) (A : Atoms 𝓤) (mem : Mem
   -- records::log_entry, by `ensures-1`.
   pub log-entry-only : OneAnswer 𝓤 log-entry.ended (log-entry.clauses 𝓤 H A mem run)
   log-entry-only κs a g x y = only 𝓤 same (λ answer. answer & refl)
+
+  -- records::is_place, by `ensures-1`.
+  pub is-place-only : OneAnswer 𝓤 is-place.ended (is-place.clauses 𝓤 H A mem run)
+  is-place-only κs a g x y = only 𝓤 same (λ answer. answer & refl)
 
   -- records::chain_count, by `ensures-1`.
   pub chain-count-only : OneAnswer 𝓤 chain-count.ended (chain-count.clauses 𝓤 H A mem run)

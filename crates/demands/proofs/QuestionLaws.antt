@@ -4,8 +4,7 @@ use mathlib.Core.Path.{_≡_, refl, ap, ap₂, _∙_}
 use mathlib.Core.Bool.{Bool}
 use mathlib.Core.List.{List}
 use Rattle.chart.specs.declared.Place.{Place}
-use Rattle.chart.specs.declared.Figures.{Figures}
-use Rattle.chart.specs.Readings.{figuresOf}
+use Rattle.chart.specs.Readings.{Expectation, NoneFor}
 use Rattle.records.specs.declared.ChainCount.{ChainCount}
 use Rattle.records.specs.declared.ChainCount.the-variants as count
 use Rattle.records.specs.declared.NamedChain.{NamedChain}
@@ -16,12 +15,12 @@ use Rattle.typed.specs.declared.TypedQuestion.the-variants.{Question}
 use Rattle.typed.specs.Numbers.{numberAt}
 use Rattle.typed.specs.Typed.{questionIn}
 use Rattle.typed.proofs.Fields.{placeTyped, question-as-typed}
-use Rattle.shown.specs.Expected.{noReadings, byChain, byTable, expectedIn}
+use Rattle.shown.specs.Expected.{byChain, byTable, expectedIn}
 
 module _ (table s : List ℕ) (number : ℕ) (p : Place) (asked : questionIn s ≡ Question number p) where
   chain-as-typed : (n : NamedChain) → byChain n p ≡ byChain n (placeTyped s 1)
   unfolding byChain
-  chain-as-typed (named.Chain c) = ap figuresOf (question-as-typed table s number p asked .2 c)
+  chain-as-typed (named.Chain c) = question-as-typed table s number p asked .2 c
   chain-as-typed (named.Refused refusal) = refl
 
   table-as-typed : (n : ChainCount) → byTable n table number p ≡ byTable n table (numberAt s 0) (placeTyped s 1)
@@ -29,7 +28,7 @@ module _ (table s : List ℕ) (number : ℕ) (p : Place) (asked : questionIn s �
   table-as-typed (count.Refused refusal) = refl
   table-as-typed (count.Chains n) =
       let same = question-as-typed table s number p asked in
-      ap₂ (λ (t : Bool) (f : Figures). unless t (noReadings 4) f) (same .1)
+      ap₂ (λ (t : Bool) (x : Expectation). unless t (NoneFor 4) x) (same .1)
       (chain-as-typed (chainOf table number) ∙ ap (λ (n : NamedChain). byChain n (placeTyped s 1)) (same .0))
 
   pub expected-as-typed : expectedIn table number p ≡ expectedIn table (numberAt s 0) (placeTyped s 1)

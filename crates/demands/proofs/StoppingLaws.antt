@@ -13,7 +13,7 @@ use lib.ListN.{length, length-append}
 use Rattle.chart.specs.declared.Place.{Place}
 use Rattle.search.specs.declared.Window.{Window}
 use Rattle.search.specs.Windows.{east, north, northEast}
-use Rattle.search.specs.Questions.{Question, matches, isKept}
+use Rattle.search.specs.Questions.{Rule, Question, matches, isKept}
 use Rattle.search.specs.Walk.{Standing, either, unchanged, start, visit}
 use Rattle.search.specs.Answers.{Outcome, Accepted, searchFigures, figuresIn}
 use Rattle.search.specs.Cells.{Rises, cells, ifSo, those, matching, matchingIn, visitsIn, Listed, AmpleRoom}
@@ -54,31 +54,31 @@ module _ (q : Question) where
   -- A part of a walk, of f matching cells: a stop before it stays, and where it stops with 9 the cells are more than the room.
   record Fills (part : Standing → Standing) (f : ℕ) : Type 0 where
     stays : (s : Standing) → (s .stop ≡ 0 → ⊥) → part s .stop ≡ s .stop
-    over : (ps : List Place) (v : ℕ) → part (going ps v) .stop ≡ 9 → q .room < length ps + f
+    over : (ps : List Place) (v : ℕ) → part (going ps v) .stop ≡ 9 → q .limits .room < length ps + f
 
   -- A square, and then another part.
-  then : (k : ℕ) (o : Place) (part : Standing → Standing) (f : ℕ) → Fills (visit q k o) (length (matching q k o)) → Fills part f → Fills (λ s. part (visit q k o s)) (length (matching q k o) + f)
+  then : (k : ℕ) (o : Place) (part : Standing → Standing) (f : ℕ) → Fills (visit q k o) (length (matching (q .rule) k o)) → Fills part f → Fills (λ s. part (visit q k o s)) (length (matching (q .rule) k o) + f)
   then k o part f a b =
       record {
         stays = λ s n. b .stays (visit q k o s) (λ z. n (sym (a .stays s n) ∙ z)) ∙ a .stays s n;
         over = λ ps v e. go ps v e (ℕ-discrete (visit q k o (going ps v) .stop) 0);
       }
     where
-      go : (ps : List Place) (v : ℕ) → part (visit q k o (going ps v)) .stop ≡ 9 → Dec (visit q k o (going ps v) .stop ≡ 0) → q .room < length ps + (length (matching q k o) + f)
+      go : (ps : List Place) (v : ℕ) → part (visit q k o (going ps v)) .stop ≡ 9 → Dec (visit q k o (going ps v) .stop ≡ 0) → q .limits .room < length ps + (length (matching (q .rule) k o) + f)
       go ps v e (yes z) =
-          let on = b .over (ps ++ matching q k o) _ (sym (ap (λ (s : Standing). part s .stop) (finished q k o ps v z)) ∙ e) in
-          omega (arith, on, length-append ps (matching q k o))
+          let on = b .over (ps ++ matching (q .rule) k o) _ (sym (ap (λ (s : Standing). part s .stop) (finished q k o ps v z)) ∙ e) in
+          omega (arith, on, length-append ps (matching (q .rule) k o))
       go ps v e (no n) =
           let full = a .over ps v (sym (b .stays (visit q k o (going ps v)) n) ∙ e) in
           omega (arith, full)
 
   -- The stop of a visit that the allowance does not cover is 10.
-  not-out : (k : ℕ) (p : Place) (ps : List Place) (v : ℕ) → visit q k p (going ps v) .stop ≡ 9 → q .allowance ≤ v → ⊥
+  not-out : (k : ℕ) (p : Place) (ps : List Place) (v : ℕ) → visit q k p (going ps v) .stop ≡ 9 → q .limits .allowance ≤ v → ⊥
   not-out k p ps v e h = eqb-false 10 9 refl (sym (ap (λ (s : Standing). s .stop) (visit-out q k p (going ps v) refl h)) ∙ e)
 
-  cell-over : (p : Place) (ps : List Place) (v : ℕ) (b : Bool) → matches q p ≡ b → Dec (q .allowance ≤ v) → Dec (q .room ≤ length ps) → visit q 0 p (going ps v) .stop ≡ 9 → q .room < length ps + length (matching q 0 p)
+  cell-over : (p : Place) (ps : List Place) (v : ℕ) (b : Bool) → matches (q .rule) p ≡ b → Dec (q .limits .allowance ≤ v) → Dec (q .limits .room ≤ length ps) → visit q 0 p (going ps v) .stop ≡ 9 → q .limits .room < length ps + length (matching (q .rule) 0 p)
   cell-over p ps v b m (yes h) r e = absurd (not-out 0 p ps v e h)
-  cell-over p ps v true m (no h) (yes r) e = omega (arith, ap length (matching-cell q p true m))
+  cell-over p ps v true m (no h) (yes r) e = omega (arith, ap length (matching-cell (q .rule) p true m))
   cell-over p ps v true m (no h) (no r) e =
       let listed = ap (λ (s : Standing). s .stop) (visit-cell q p (going ps v) refl (lt-of-not-le h) ∙ cell-listed q p (going ps (v + 1)) m (lt-of-not-le r)) in
       absurd (eqb-false 0 9 refl (sym listed ∙ e))
@@ -86,40 +86,40 @@ module _ (q : Question) where
       let missed = ap (λ (s : Standing). s .stop) (visit-cell q p (going ps v) refl (lt-of-not-le h) ∙ cell-missed q p (going ps (v + 1)) m) in
       absurd (eqb-false 0 9 refl (sym missed ∙ e))
 
-  square-over : (k : ℕ) (p : Place) → ((o : Place) → Fills (visit q k o) (length (matching q k o))) → (ps : List Place) (v : ℕ) (b : Bool) → isKept q k p ≡ b → Dec (q .allowance ≤ v) → visit q (suc k) p (going ps v) .stop ≡ 9 → q .room < length ps + length (matching q (suc k) p)
+  square-over : (k : ℕ) (p : Place) → ((o : Place) → Fills (visit q k o) (length (matching (q .rule) k o))) → (ps : List Place) (v : ℕ) (b : Bool) → isKept (q .rule) k p ≡ b → Dec (q .limits .allowance ≤ v) → visit q (suc k) p (going ps v) .stop ≡ 9 → q .limits .room < length ps + length (matching (q .rule) (suc k) p)
   square-over k p ih ps v b t (yes h) e = absurd (not-out (suc k) p ps v e h)
   square-over k p ih ps v b t (no h) e = go b (sym (ap (λ (s : Standing). s .stop) step) ∙ e)
     where
       step : visit q (suc k) p (going ps v) ≡ either b (quarters q k p) unchanged (going ps (v + 1))
       step = visit-square q k p (going ps v) refl (lt-of-not-le h) ∙ ap (λ (x : Bool). either x (quarters q k p) unchanged (going ps (v + 1))) t
 
-      go : (b : Bool) → either b (quarters q k p) unchanged (going ps (v + 1)) .stop ≡ 9 → q .room < length ps + length (matching q (suc k) p)
+      go : (b : Bool) → either b (quarters q k p) unchanged (going ps (v + 1)) .stop ≡ 9 → q .limits .room < length ps + length (matching (q .rule) (suc k) p)
       go false e = absurd (eqb-false 0 9 refl e)
       go true e =
           let se : Place = east (2 ^ k) p in
           let nw : Place = north (2 ^ k) p in
           let ne : Place = northEast (2 ^ k) p in
           let over = then k p _ _ (ih p) (then k se _ _ (ih se) (then k nw _ _ (ih nw) (ih ne))) .over ps (v + 1) e in
-          omega (arith, over, matching-counted q k p)
+          omega (arith, over, matching-counted (q .rule) k p)
 
   visit-stays : (k : ℕ) (p : Place) (s : Standing) → (s .stop ≡ 0 → ⊥) → visit q k p s .stop ≡ s .stop
   visit-stays k p s n = ap (λ (x : Standing). x .stop) (visit-after q k p s n)
 
-  fills : (k : ℕ) (p : Place) → Fills (visit q k p) (length (matching q k p))
+  fills : (k : ℕ) (p : Place) → Fills (visit q k p) (length (matching (q .rule) k p))
   fills zero p =
-      record { stays = visit-stays 0 p; over = λ ps v e. cell-over p ps v (matches q p) refl (decLe (q .allowance) v) (decLe (q .room) (length ps)) e }
+      record { stays = visit-stays 0 p; over = λ ps v e. cell-over p ps v (matches (q .rule) p) refl (decLe (q .limits .allowance) v) (decLe (q .limits .room) (length ps)) e }
   fills (suc k) p =
-      let ih : (o : Place) → Fills (visit q k o) (length (matching q k o)) = λ o. fills k o in
-      record { stays = visit-stays (suc k) p; over = λ ps v e. square-over k p ih ps v (isKept q k p) refl (decLe (q .allowance) v) e }
+      let ih : (o : Place) → Fills (visit q k o) (length (matching (q .rule) k o)) = λ o. fills k o in
+      record { stays = visit-stays (suc k) p; over = λ ps v e. square-over k p ih ps v (isKept (q .rule) k p) refl (decLe (q .limits .allowance) v) e }
 
 -- How an accepted search is told, by the stop of its walk.
-module _ (q : Question) (w : Window) (a : Accepted q w) where
+module _ (q : Question) (w : Window) (a : Accepted (q .rule) w) where
   stop-10 : walk q w .stop ≡ 10 → figuresIn q w .refusal ≡ 10
   unfolding searchFigures
   stop-10 e = ap (λ (o : Outcome). searchFigures (o .answer) .refusal) (search-walks q w a ∙ ended-out (walk q w) e)
 
   -- With ample room, 10 is answered exactly when the window takes more visits than are allowed.
-  pub ten-when-short : AmpleRoom q w → q .allowance < visitsIn q w → figuresIn q w .refusal ≡ 10
+  pub ten-when-short : AmpleRoom q w → q .limits .allowance < visitsIn (q .rule) w → figuresIn q w .refusal ≡ 10
   ten-when-short room short = go (bounded q (w .k) (w .corner) .stop)
     where
       go : (walk q w .stop ≡ 0) ⊎ ((walk q w .stop ≡ 9) ⊎ (walk q w .stop ≡ 10)) → figuresIn q w .refusal ≡ 10
@@ -128,17 +128,17 @@ module _ (q : Question) (w : Window) (a : Accepted q w) where
       go (inr (inl n)) = absurd (omega (arith, fills q (w .k) (w .corner) .over [] 0 n))
       go (inr (inr t)) = stop-10 t
 
-  pub ten-only-then : AmpleRoom q w → figuresIn q w .refusal ≡ 10 → q .allowance < visitsIn q w
-  ten-only-then room e = go (decLe (visitsIn q w) (q .allowance))
+  pub ten-only-then : AmpleRoom q w → figuresIn q w .refusal ≡ 10 → q .limits .allowance < visitsIn (q .rule) w
+  ten-only-then room e = go (decLe (visitsIn (q .rule) w) (q .limits .allowance))
     where
-      go : Dec (visitsIn q w ≤ q .allowance) → q .allowance < visitsIn q w
+      go : Dec (visitsIn (q .rule) w ≤ q .limits .allowance) → q .limits .allowance < visitsIn (q .rule) w
       go (no f) = lt-of-not-le f
       go (yes enough) =
           let done = ap (λ (o : Outcome). searchFigures (o .answer) .refusal) (ample-complete q w a enough room) in
-          absurd (omega (arith, e, done, gone-small (matchingIn q w) (visitsIn q w)))
+          absurd (omega (arith, e, done, gone-small (matchingIn (q .rule) w) (visitsIn (q .rule) w)))
 
   -- With no allowance at all it is answered before anything else.
-  pub ten-at-once : q .allowance ≡ 0 → figuresIn q w .refusal ≡ 10
+  pub ten-at-once : q .limits .allowance ≡ 0 → figuresIn q w .refusal ≡ 10
   ten-at-once none = stop-10 (ap (λ (s : Standing). s .stop) (visit-out q (w .k) (w .corner) start refl (omega arith)))
 
 -- A square of side 2 ^ k has 4 ^ k cells, and no more of them match.
@@ -161,6 +161,6 @@ those-fewer test (p ∷ l) = go (test p) (those-fewer test l)
     go true h = omega arith
     go false h = omega arith
 
-pub matching-few : (q : Question) (k : ℕ) (p : Place) → length (matching q k p) ≤ 4 ^ k
+pub matching-few : (rule : Rule) (k : ℕ) (p : Place) → length (matching rule k p) ≤ 4 ^ k
 unfolding matching
-matching-few q k p = omega (arith, those-fewer (matches q) (cells k p), cells-counted k p)
+matching-few rule k p = omega (arith, those-fewer (matches rule) (cells k p), cells-counted k p)

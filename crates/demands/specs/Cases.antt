@@ -68,7 +68,7 @@ thousandths n = div binary64 (ofInt binary64 n) (ofInt binary64 (pos 1000))
 
 -- The question of a search by chain 1. Room for a place is two entries of a list.
 abbrev pub questionBy : ℕ → ℤ → ℤ → ℕ → ℕ → Question
-questionBy t a b room allowance = questionOf chain1 a b t allowance (2 * room)
+questionBy t a b room allowance = questionOf chain1 (a ∷ b ∷ []) t allowance (2 * room)
 
 abbrev pub windowAt : Place → ℕ → Window
 windowAt o k = record { corner = o; k = k }

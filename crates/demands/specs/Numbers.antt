@@ -40,5 +40,5 @@ pub record Leaves (q : Question) (w : Window) (entries : ℕ) : Type 0 where
   pub nought : Refuses (figuresIn q w .refusal) → figuresIn q w .count ≡ 0
   -- A search refused before its walk makes no visit; none makes more than allowed, and 10 tells of exactly as many.
   pub unvisited : isAmong (figuresIn q w .refusal) (3 ∷ 5 ∷ 6 ∷ 7 ∷ []) ≡ true → figuresIn q w .visits ≡ 0
-  pub allowed : figuresIn q w .visits ≤ q .allowance
-  pub used-up : figuresIn q w .refusal ≡ 10 → figuresIn q w .visits ≡ q .allowance
+  pub allowed : figuresIn q w .visits ≤ q .limits .allowance
+  pub used-up : figuresIn q w .refusal ≡ 10 → figuresIn q w .visits ≡ q .limits .allowance

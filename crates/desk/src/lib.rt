@@ -3,14 +3,8 @@
 ghost use mathlib.Core.Path.{_≡_};
 ghost use lib.ListN.{length};
 ghost use Rattle.metres.specs.Metres.{centimetresOf, metresOf, wholeFigures, lengthFigures};
-ghost use Rattle.chart.specs.Readings.{expectedAt, figuresOf};
-ghost use Rattle.search.specs.Questions.{questionOf};
-ghost use Rattle.search.specs.Answers.{searchOf, listOf, figuresIn};
-ghost use Rattle.records.specs.ChainTables.{chainCountOf, chainOf};
-ghost use Rattle.records.specs.Jobs.{jobOf};
 ghost use Rattle.writing.specs.Writing.{refusalOf, bufferOf};
-ghost use Rattle.listing.specs.Listings.{listingFrom, bufferWith};
-ghost use Rattle.desk.specs.Figures.{placeBy, chainBy, windowBy, draftBy, entryFigures, recordFigures, countFigures, chainFigures, jobFigures, carriedIn, heldFigures, listedFigures, listFigures};
+ghost use Rattle.desk.specs.Figures.{chainBy, draftBy, expectedTold, searchTold, entryFigures, recordFigures, countFigures, countTold, chainFigures, chainTold, jobFigures, jobTold, carriedIn, heldFigures, listedFigures, listTold};
 use chart::Chain;
 use chart::Place;
 use listing::Carried;
@@ -98,9 +92,9 @@ pub extern "C" fn desk_expected(
     a: &mut i64,
     b: &mut i64,
 ) -> u32
-    ensures answer { λ r. ⌜ r ≡ figuresOf (expectedAt (chainBy me mn ae an be bn) (placeBy e n)) .refusal ⌝ }
-    ensures a { λ _. ⌜ now (a .exit) ≡ figuresOf (expectedAt (chainBy me mn ae an be bn) (placeBy e n)) .a ⌝ }
-    ensures b { λ _. ⌜ now (b .exit) ≡ figuresOf (expectedAt (chainBy me mn ae an be bn) (placeBy e n)) .b ⌝ }
+    ensures answer { λ r. ⌜ r ≡ expectedTold me mn ae an be bn e n .refusal ⌝ }
+    ensures a { λ _. ⌜ now (a .exit) ≡ expectedTold me mn ae an be bn e n .a ⌝ }
+    ensures b { λ _. ⌜ now (b .exit) ≡ expectedTold me mn ae an be bn e n .b ⌝ }
 {
     let chain = chain_by(me, mn, ae, an, be, bn);
     let place = Place {
@@ -135,10 +129,10 @@ pub extern "C" fn desk_search(
     count: &mut usize,
     visits: &mut u64,
 ) -> u32
-    ensures answer { λ r. ⌜ r ≡ figuresIn (questionOf (chainBy me mn ae an be bn) ra rb tolerance allowance (length (now (list .entry)))) (windowBy e n k) .refusal ⌝ }
-    ensures list { λ _. ⌜ now (list .exit) ≡ listOf (length (now (list .entry))) (searchOf (questionOf (chainBy me mn ae an be bn) ra rb tolerance allowance (length (now (list .entry)))) (windowBy e n k) .places) ⌝ }
-    ensures count { λ _. ⌜ now (count .exit) ≡ figuresIn (questionOf (chainBy me mn ae an be bn) ra rb tolerance allowance (length (now (list .entry)))) (windowBy e n k) .count ⌝ }
-    ensures visits { λ _. ⌜ now (visits .exit) ≡ figuresIn (questionOf (chainBy me mn ae an be bn) ra rb tolerance allowance (length (now (list .entry)))) (windowBy e n k) .visits ⌝ }
+    ensures answer { λ r. ⌜ r ≡ searchTold me mn ae an be bn ra rb e n k tolerance allowance (length (now (list .entry))) .figures .refusal ⌝ }
+    ensures list { λ _. ⌜ now (list .exit) ≡ searchTold me mn ae an be bn ra rb e n k tolerance allowance (length (now (list .entry))) .list ⌝ }
+    ensures count { λ _. ⌜ now (count .exit) ≡ searchTold me mn ae an be bn ra rb e n k tolerance allowance (length (now (list .entry))) .figures .count ⌝ }
+    ensures visits { λ _. ⌜ now (visits .exit) ≡ searchTold me mn ae an be bn ra rb e n k tolerance allowance (length (now (list .entry))) .figures .visits ⌝ }
 {
     let chain = chain_by(me, mn, ae, an, be, bn);
     let window = Window {
@@ -217,12 +211,12 @@ pub extern "C" fn desk_job(
     tolerance: &mut u32,
     allowance: &mut u64,
 ) -> u32
-    ensures answer { λ r. ⌜ r ≡ jobFigures (jobOf (now (bytes .entry))) .refusal ⌝ }
-    ensures e { λ _. ⌜ now (e .exit) ≡ jobFigures (jobOf (now (bytes .entry))) .job .window .corner .easting ⌝ }
-    ensures n { λ _. ⌜ now (n .exit) ≡ jobFigures (jobOf (now (bytes .entry))) .job .window .corner .northing ⌝ }
-    ensures k { λ _. ⌜ now (k .exit) ≡ jobFigures (jobOf (now (bytes .entry))) .job .window .k ⌝ }
-    ensures tolerance { λ _. ⌜ now (tolerance .exit) ≡ jobFigures (jobOf (now (bytes .entry))) .job .tolerance ⌝ }
-    ensures allowance { λ _. ⌜ now (allowance .exit) ≡ jobFigures (jobOf (now (bytes .entry))) .job .allowance ⌝ }
+    ensures answer { λ r. ⌜ r ≡ jobTold (now (bytes .entry)) .refusal ⌝ }
+    ensures e { λ _. ⌜ now (e .exit) ≡ jobTold (now (bytes .entry)) .job .window .corner .easting ⌝ }
+    ensures n { λ _. ⌜ now (n .exit) ≡ jobTold (now (bytes .entry)) .job .window .corner .northing ⌝ }
+    ensures k { λ _. ⌜ now (k .exit) ≡ jobTold (now (bytes .entry)) .job .window .k ⌝ }
+    ensures tolerance { λ _. ⌜ now (tolerance .exit) ≡ jobTold (now (bytes .entry)) .job .tolerance ⌝ }
+    ensures allowance { λ _. ⌜ now (allowance .exit) ≡ jobTold (now (bytes .entry)) .job .allowance ⌝ }
 {
     let f = job_figures(records::job_of(bytes));
     *e = f.job.window.corner.easting;
@@ -236,8 +230,8 @@ pub extern "C" fn desk_job(
 // How many chains a table has.
 #[no_mangle]
 pub extern "C" fn desk_chain_count(table: &[u8], count: &mut usize) -> u32
-    ensures answer { λ r. ⌜ r ≡ countFigures (chainCountOf (now (table .entry))) .refusal ⌝ }
-    ensures count { λ _. ⌜ now (count .exit) ≡ countFigures (chainCountOf (now (table .entry))) .count ⌝ }
+    ensures answer { λ r. ⌜ r ≡ countTold (now (table .entry)) .refusal ⌝ }
+    ensures count { λ _. ⌜ now (count .exit) ≡ countTold (now (table .entry)) .count ⌝ }
 {
     let f = count_figures(records::chain_count(table));
     *count = f.count;
@@ -256,13 +250,13 @@ pub extern "C" fn desk_chain(
     be: &mut u32,
     bn: &mut u32,
 ) -> u32
-    ensures answer { λ r. ⌜ r ≡ chainFigures (chainOf (now (table .entry)) number) .refusal ⌝ }
-    ensures me { λ _. ⌜ now (me .exit) ≡ chainFigures (chainOf (now (table .entry)) number) .chain .master .easting ⌝ }
-    ensures mn { λ _. ⌜ now (mn .exit) ≡ chainFigures (chainOf (now (table .entry)) number) .chain .master .northing ⌝ }
-    ensures ae { λ _. ⌜ now (ae .exit) ≡ chainFigures (chainOf (now (table .entry)) number) .chain .a .easting ⌝ }
-    ensures an { λ _. ⌜ now (an .exit) ≡ chainFigures (chainOf (now (table .entry)) number) .chain .a .northing ⌝ }
-    ensures be { λ _. ⌜ now (be .exit) ≡ chainFigures (chainOf (now (table .entry)) number) .chain .b .easting ⌝ }
-    ensures bn { λ _. ⌜ now (bn .exit) ≡ chainFigures (chainOf (now (table .entry)) number) .chain .b .northing ⌝ }
+    ensures answer { λ r. ⌜ r ≡ chainTold (now (table .entry)) number .refusal ⌝ }
+    ensures me { λ _. ⌜ now (me .exit) ≡ chainTold (now (table .entry)) number .chain .master .easting ⌝ }
+    ensures mn { λ _. ⌜ now (mn .exit) ≡ chainTold (now (table .entry)) number .chain .master .northing ⌝ }
+    ensures ae { λ _. ⌜ now (ae .exit) ≡ chainTold (now (table .entry)) number .chain .a .easting ⌝ }
+    ensures an { λ _. ⌜ now (an .exit) ≡ chainTold (now (table .entry)) number .chain .a .northing ⌝ }
+    ensures be { λ _. ⌜ now (be .exit) ≡ chainTold (now (table .entry)) number .chain .b .easting ⌝ }
+    ensures bn { λ _. ⌜ now (bn .exit) ≡ chainTold (now (table .entry)) number .chain .b .northing ⌝ }
 {
     let f = chain_figures(records::chain_of(table, number));
     *me = f.chain.master.easting;
@@ -289,12 +283,12 @@ pub extern "C" fn desk_list(
     easting: &mut u32,
     northing: &mut u32,
 ) -> u32
-    ensures answer { λ r. ⌜ r ≡ listFigures (length (now (text .entry))) (now (job .entry)) (now (table .entry)) (now (log .entry)) (carriedIn held e n) .refusal ⌝ }
-    ensures text { λ _. ⌜ now (text .exit) ≡ bufferWith (now (text .entry)) (now (log .entry)) (listingFrom (now (job .entry)) (now (table .entry)) (now (log .entry)) (carriedIn held e n)) ⌝ }
-    ensures size { λ _. ⌜ now (size .exit) ≡ listFigures (length (now (text .entry))) (now (job .entry)) (now (table .entry)) (now (log .entry)) (carriedIn held e n) .length ⌝ }
-    ensures next { λ _. ⌜ now (next .exit) ≡ listFigures (length (now (text .entry))) (now (job .entry)) (now (table .entry)) (now (log .entry)) (carriedIn held e n) .carried .held ⌝ }
-    ensures easting { λ _. ⌜ now (easting .exit) ≡ listFigures (length (now (text .entry))) (now (job .entry)) (now (table .entry)) (now (log .entry)) (carriedIn held e n) .carried .place .easting ⌝ }
-    ensures northing { λ _. ⌜ now (northing .exit) ≡ listFigures (length (now (text .entry))) (now (job .entry)) (now (table .entry)) (now (log .entry)) (carriedIn held e n) .carried .place .northing ⌝ }
+    ensures answer { λ r. ⌜ r ≡ listTold (now (text .entry)) (now (job .entry)) (now (table .entry)) (now (log .entry)) held e n .figures .refusal ⌝ }
+    ensures text { λ _. ⌜ now (text .exit) ≡ listTold (now (text .entry)) (now (job .entry)) (now (table .entry)) (now (log .entry)) held e n .text ⌝ }
+    ensures size { λ _. ⌜ now (size .exit) ≡ listTold (now (text .entry)) (now (job .entry)) (now (table .entry)) (now (log .entry)) held e n .figures .length ⌝ }
+    ensures next { λ _. ⌜ now (next .exit) ≡ listTold (now (text .entry)) (now (job .entry)) (now (table .entry)) (now (log .entry)) held e n .figures .carried .held ⌝ }
+    ensures easting { λ _. ⌜ now (easting .exit) ≡ listTold (now (text .entry)) (now (job .entry)) (now (table .entry)) (now (log .entry)) held e n .figures .carried .place .easting ⌝ }
+    ensures northing { λ _. ⌜ now (northing .exit) ≡ listTold (now (text .entry)) (now (job .entry)) (now (table .entry)) (now (log .entry)) held e n .figures .carried .place .northing ⌝ }
 {
     let before = carried_in(
         held,

@@ -1,7 +1,13 @@
--- What the answers hold: a file that can be read, and how much of a buffer is filled.
-use Prim.Native.Nat.{ℕ}
-use lib.Dec.{T}
+-- What the answers hold: a file that can be read, how much of a buffer is filled, and the line of the arguments.
+use Prim.Native.Nat.{ℕ, suc, _-_, _≤_}
+use mathlib.Core.Bool.{Bool, true, false, cond}
+use mathlib.Core.List.{List, [], _∷_, _++_}
+use mathlib.Core.Path.{_≡_}
+use lib.Dec.{T, eqb}
+use lib.IntN.{ℤ, pos, negsuc}
+use lib.ListN.{length, take, drop}
 use lib.Signed.{nonNeg}
+use Rattle.typed.specs.Words.{isOneWord}
 use Rattle.files.specs.declared.Opened.{Opened}
 use Rattle.files.specs.declared.Opened.the-variants as opened
 use Rattle.files.specs.declared.Filled.{Filled}
@@ -15,13 +21,54 @@ IsOpen (opened.File descriptor) = T (nonNeg descriptor)
 IsOpen opened.Missing = Unit {0}
 IsOpen opened.Failed = Unit {0}
 
+-- What opening a file comes to, by what it answered, and by the error where that is below 0: 2, ENOENT, is that there is none.
+abbrev pub notOpened : ℤ → Opened
+notOpened (pos error) = cond (eqb error 2) opened.Missing opened.Failed
+notOpened (negsuc n) = opened.Failed
+
+abbrev pub openedBy : ℤ → ℤ → Opened
+openedBy (pos n) error = opened.File (pos n)
+openedBy (negsuc n) error = notOpened error
+
 -- How many bytes were read.
 abbrev pub bytesOf : Filled → ℕ
 bytesOf (filled.Bytes n) = n
 bytesOf filled.Failed = 0
 
--- How many bytes the line of the arguments has.
-abbrev pub lineOf : Words → ℕ
-lineOf (words.Line n) = n
-lineOf words.Unfit = 0
-lineOf words.Helped = 0
+abbrev pub noBytes : Filled
+noBytes = filled.Bytes 0
+
+-- The start of a file, by how opening it went, in a buffer of so many bytes.
+abbrev pub IsStarted : Opened → ℕ → Filled → Type 0
+IsStarted (opened.File descriptor) room r = bytesOf r ≤ room
+IsStarted opened.Missing room r = r ≡ noBytes
+IsStarted opened.Failed room r = r ≡ filled.Failed
+
+-- So many words, with single spaces between them.
+pub data AreWords : ℕ → List ℕ → Type 0 where
+  none : AreWords 0 []
+  one : (w : List ℕ) → isOneWord w ≡ true → AreWords 1 w
+  more : (n : ℕ) (s w : List ℕ) → AreWords (suc n) s → isOneWord w ≡ true → AreWords (suc (suc n)) (s ++ (32 ∷ w))
+
+-- The line of so many arguments at the start of a buffer, or that one of them is no word.
+abbrev pub IsLineOf : ℕ → List ℕ → Words → Type 0
+IsLineOf count line (words.Line n) = (n ≤ length line) × AreWords count (take n line)
+IsLineOf count line words.Unfit = Unit {0}
+IsLineOf count line words.Helped = ⊥
+
+-- Where help is asked for there is no line; else there may be one, of however many words.
+abbrev pub IsGiven : Bool → List ℕ → Words → Type 0
+IsGiven true line r = r ≡ words.Helped
+IsGiven false line r = (count : ℕ) × IsLineOf count line r
+
+-- The same of the arguments, whether or not they ask for help.
+abbrev pub IsArguments : List ℕ → Words → Type 0
+IsArguments line (words.Line n) = (n ≤ length line) × ((count : ℕ) × AreWords count (take n line))
+IsArguments line words.Unfit = Unit {0}
+IsArguments line words.Helped = Unit {0}
+
+-- A word was put into a line behind what stood before a place, up to where it ends.
+abbrev pub PutsWord : List ℕ → ℕ → List ℕ → Words → Type 0
+PutsWord before at now (words.Line end) = (end ≤ length now) × ((take at now ≡ take at before) × (isOneWord (take (end - at) (drop at now)) ≡ true))
+PutsWord before at now words.Unfit = Unit {0}
+PutsWord before at now words.Helped = ⊥

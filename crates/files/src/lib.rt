@@ -1,12 +1,16 @@
 // What the programs share of the outside: files by name, the arguments, standard output, and what is told on standard error.
-// No contract can say what is read or written; each says what it can of the answer, as far as a caller goes by it.
+// No contract can say what is read or written. Each says what it can of the answer; where that goes by what a call below answered,
+// a private function takes it as an argument, and its answer follows from it.
 ghost use mathlib.Core.Bool.{true, false};
 ghost use mathlib.Core.Path.{_≡_};
-ghost use Prim.Native.Nat.{_≤_};
-ghost use lib.ListN.{length};
-ghost use Rattle.files.specs.Answers.{IsOpen, bytesOf, lineOf};
+ghost use Prim.Native.Nat.{ℕ, _+_, _-_, _≤_};
+ghost use lib.ListN.{length, take};
+ghost use Rattle.files.specs.Answers.{openedBy, IsOpen, bytesOf, noBytes, IsStarted, AreWords, IsLineOf, IsGiven, IsArguments, PutsWord};
 use libc::STDERR_FILENO;
 use libc::STDOUT_FILENO;
+
+// The longest line, with its newline.
+pub const LINE_BYTES: usize = 65_535;
 
 // A file to read. Why opening it failed has been told.
 pub enum Opened {
@@ -33,10 +37,17 @@ pub fn open(name: &[u8]) -> Opened
     ensures { λ r. ⌜ IsOpen r ⌝ }
 {
     let file = os::open_read(name);
+    opened_by(name, file, os::errno())
+}
+
+// By what opening answered, and by the error where that is no descriptor.
+fn opened_by(name: &[u8], file: i32, error: i32) -> Opened
+    ensures { λ r. ⌜ r ≡ openedBy file error ⌝ }
+{
     if file >= 0 {
         return Opened::File(file);
     }
-    if os::errno() == libc::ENOENT {
+    if error == libc::ENOENT {
         return Opened::Missing;
     }
     os::fail(name);
@@ -45,7 +56,8 @@ pub fn open(name: &[u8]) -> Opened
 
 // Fills a buffer from a file, wholly unless the file ends.
 pub fn fill(name: &[u8], file: i32, buffer: &mut [u8]) -> Filled
-    ensures { λ r. ⌜ bytesOf r ≤ length (now (buffer .exit)) ⌝ }
+    ensures room { λ r. ⌜ bytesOf r ≤ length (now (buffer .exit)) ⌝ }
+    ensures none { λ r. ⌜ (length (now (buffer .entry)) ≡ 0 → r ≡ noBytes) ⌝ }
 {
     let mut done = 0;
     while done < buffer.len() {
@@ -67,7 +79,13 @@ pub fn fill(name: &[u8], file: i32, buffer: &mut [u8]) -> Filled
 pub fn start(name: &[u8], buffer: &mut [u8]) -> Filled
     ensures { λ r. ⌜ bytesOf r ≤ length (now (buffer .exit)) ⌝ }
 {
-    match open(name) {
+    start_of(open(name), name, buffer)
+}
+
+fn start_of(file: Opened, name: &[u8], buffer: &mut [u8]) -> Filled
+    ensures { λ r. ⌜ IsStarted file (length (now (buffer .exit))) r ⌝ }
+{
+    match file {
         Opened::File(file) => fill(name, file, buffer),
         Opened::Missing => Filled::Bytes(0),
         Opened::Failed => Filled::Failed,
@@ -91,10 +109,17 @@ pub fn print(text: &[u8]) -> bool
 // The arguments of the program, with single spaces between them, as one line: none of them may be empty or have a blank in it.
 // Where the first is `--help`, the text of the help is printed instead. A program calls this before it opens a file.
 pub fn arguments(line: &mut [u8], help: &[u8]) -> Words
-    ensures { λ r. ⌜ lineOf r ≤ length (now (line .exit)) ⌝ }
+    ensures { λ r. ⌜ IsArguments (now (line .exit)) r ⌝ }
 {
     take_standard();
-    if asks_help() {
+    words_of(asks_help(), line, help)
+}
+
+// Where help is asked for it is printed, and there is no line.
+fn words_of(asked: bool, line: &mut [u8], help: &[u8]) -> Words
+    ensures { λ r. ⌜ IsGiven asked (now (line .exit)) r ⌝ }
+{
+    if asked {
         print(help);
         return Words::Helped;
     }
@@ -142,7 +167,7 @@ fn same(a: &[u8], b: &[u8]) -> bool {
 
 // The program's own name is the first of the count.
 fn joined(line: &mut [u8], count: usize) -> Words
-    ensures { λ r. ⌜ lineOf r ≤ length (now (line .exit)) ⌝ }
+    ensures { λ r. ⌜ IsLineOf (count - 1) (now (line .exit)) r ⌝ }
 {
     let mut end = 0;
     let mut i = 1;
@@ -159,7 +184,7 @@ fn joined(line: &mut [u8], count: usize) -> Words
 // Puts an argument behind those that are there.
 fn one_more(line: &mut [u8], end: usize, i: usize) -> Words
     requires { ⌜ end ≤ length (now line) ⌝ }
-    ensures { λ r. ⌜ lineOf r ≤ length (now (line .exit)) ⌝ }
+    ensures { λ r. ⌜ ((n : ℕ) → AreWords n (take end (now (line .entry))) → IsLineOf (n + 1) (now (line .exit)) r) ⌝ }
 {
     if end == 0 {
         return put_argument(line, 0, i);
@@ -174,7 +199,7 @@ fn one_more(line: &mut [u8], end: usize, i: usize) -> Words
 // Puts an argument at a place. One that is empty, or too long for the rest of the line, has no bytes.
 fn put_argument(line: &mut [u8], at: usize, i: usize) -> Words
     requires { ⌜ at ≤ length (now line) ⌝ }
-    ensures { λ r. ⌜ lineOf r ≤ length (now (line .exit)) ⌝ }
+    ensures { λ r. ⌜ PutsWord (now (line .entry)) at (now (line .exit)) r ⌝ }
 {
     let n = os::arg(i, &mut line[at..]);
     if n == 0 {

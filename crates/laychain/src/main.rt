@@ -1,21 +1,22 @@
 // Writes chain.dat in the folder that it is run in, from the lines of standard input, a chain each. Every line that is refused is
 // told on standard error, as is what fails, and then the file stays as it was.
+ghost use mathlib.Core.Bool.{cond, false, _&&_};
 ghost use mathlib.Core.Path.{_≡_};
-ghost use Prim.Native.Nat.{_≤_};
+ghost use Prim.Native.Nat.{_*_, _≤_};
+ghost use lib.Dec.{eqb};
 ghost use lib.ListN.{length};
+ghost use Rattle.records.specs.ChainTables.{chainBytes, mostChains};
+ghost use Rattle.typed.specs.Typed.{chainIn};
+ghost use Rattle.typed.specs.declared.TypedChain.the-variants as typed;
+ghost use Rattle.lines.specs.Input.{atEnd};
+ghost use Rattle.laychain.specs.Tables.{lineRefusal, tableWith, HoldsChains};
 use chart::Chain;
 use files::Words;
 use lines::Input;
+use records::CHAIN_BYTES;
+use records::MOST_CHAINS;
+use records::TABLE_BYTES;
 use typed::TypedChain;
-
-const CHAIN_BYTES: usize = 24;
-
-const MOST_CHAINS: usize = 16;
-
-const TABLE_BYTES: usize = 384;
-
-// The longest line, with its newline.
-const LINE_BYTES: usize = 65_535;
 
 fn main() {
     // Any argument is one too many.
@@ -55,7 +56,7 @@ fn by_arguments(bytes: usize) {
 }
 
 fn make_table() {
-    let mut buffer = [0u8; LINE_BYTES];
+    let mut buffer = [0u8; files::LINE_BYTES];
     let mut table = [0u8; TABLE_BYTES];
     let chains = read_chains(&mut buffer, &mut table);
     if chains == 0 {
@@ -70,8 +71,8 @@ fn make_table() {
 
 // How many chains were read and put into the table; none where something was refused, which has been told.
 fn read_chains(buffer: &mut [u8], table: &mut [u8]) -> usize
-    requires { ⌜ length (now table) ≡ 384 ⌝ }
-    ensures { λ r. ⌜ r ≤ 16 ⌝ }
+    requires { ⌜ length (now table) ≡ chainBytes * mostChains ⌝ }
+    ensures { λ r. ⌜ HoldsChains (now (table .exit)) r ⌝ }
 {
     let mut from = buffer.len();
     let mut to = buffer.len();
@@ -84,19 +85,27 @@ fn read_chains(buffer: &mut [u8], table: &mut [u8]) -> usize
         };
         let refusal = put_line(table, count, &buffer[start..end]);
         count += 1;
-        if refusal != 0 {
-            well = tell(count as u64, refusal);
-        }
+        well = accepted(well, count, refusal);
         from = end + 1;
         to = stop;
     }
     0
 }
 
+// Whether every line was accepted, this one too. Why it was not is told.
+fn accepted(well: bool, line: usize, refusal: u32) -> bool
+    ensures { λ r. ⌜ r ≡ well && eqb refusal 0 ⌝ }
+{
+    if refusal == 0 {
+        return well;
+    }
+    tell(line as u64, refusal)
+}
+
 // How many chains there are, where no line comes next.
 fn ended(input: Input, lines: usize, well: bool) -> usize
-    requires { ⌜ lines ≤ 16 ⌝ }
-    ensures { λ r. ⌜ r ≤ lines ⌝ }
+    requires { ⌜ lines ≤ mostChains ⌝ }
+    ensures { λ r. ⌜ r ≡ atEnd input (cond well lines 0) 0 ⌝ }
 {
     match input {
         Input::Cut => told(lines + 1, 12),
@@ -106,7 +115,7 @@ fn ended(input: Input, lines: usize, well: bool) -> usize
 }
 
 fn chains(lines: usize, well: bool) -> usize
-    ensures { λ r. ⌜ r ≤ lines ⌝ }
+    ensures { λ r. ⌜ r ≡ cond well lines 0 ⌝ }
 {
     if lines == 0 {
         return told(0, 1);
@@ -127,7 +136,9 @@ fn told(line: usize, number: u32) -> usize
 
 // Puts the chain of a line into the table, behind so many others, and answers with the number of its refusal, 0 for none.
 fn put_line(table: &mut [u8], before: usize, line: &[u8]) -> u32
-    requires { ⌜ length (now table) ≡ 384 ⌝ }
+    requires { ⌜ length (now table) ≡ chainBytes * mostChains ⌝ }
+    ensures answer { λ r. ⌜ r ≡ lineRefusal before (chainIn (now (line .entry))) ⌝ }
+    ensures table { λ r. ⌜ now (table .exit) ≡ tableWith (now (table .entry)) before (chainIn (now (line .entry))) ⌝ }
 {
     match typed::chain(line) {
         TypedChain::Chain(c) => put_chain(table, before, c),
@@ -136,7 +147,9 @@ fn put_line(table: &mut [u8], before: usize, line: &[u8]) -> u32
 }
 
 fn put_chain(table: &mut [u8], before: usize, c: Chain) -> u32
-    requires { ⌜ length (now table) ≡ 384 ⌝ }
+    requires { ⌜ length (now table) ≡ chainBytes * mostChains ⌝ }
+    ensures answer { λ r. ⌜ r ≡ lineRefusal before (typed.Chain c) ⌝ }
+    ensures table { λ r. ⌜ now (table .exit) ≡ tableWith (now (table .entry)) before (typed.Chain c) ⌝ }
 {
     if before >= MOST_CHAINS {
         return 1;
@@ -146,7 +159,9 @@ fn put_chain(table: &mut [u8], before: usize, c: Chain) -> u32
 }
 
 // Tells a refusal, with its line, 0 for none. It is no success: false is answered.
-fn tell(line: u64, number: u32) -> bool {
+fn tell(line: u64, number: u32) -> bool
+    ensures { λ r. ⌜ r ≡ false ⌝ }
+{
     match number {
         1 => refused(line, 1, b"a table has 1 to 16 chains, a line each"),
         5 => refused(
@@ -162,6 +177,8 @@ fn tell(line: u64, number: u32) -> bool {
     }
 }
 
-fn refused(line: u64, number: u32, sentence: &[u8]) -> bool {
+fn refused(line: u64, number: u32, sentence: &[u8]) -> bool
+    ensures { λ r. ⌜ r ≡ false ⌝ }
+{
     files::refused(b"laychain", line, number, sentence)
 }

@@ -6,11 +6,9 @@ use files::Words;
 use shown::Line;
 use typed::TypedQuestion;
 
-// A line has at most 65,535 bytes with its newline, which the arguments have not.
-const LINE_BYTES: usize = 65_534;
-
 fn main() {
-    let mut line = [0u8; LINE_BYTES];
+    // The arguments have no newline.
+    let mut line = [0u8; files::LINE_BYTES - 1];
     let words = files::arguments(
         &mut line,
         b"layexpect CHAIN E N prints the readings expected at a place, for a chain of chain.dat in this folder.
@@ -40,8 +38,8 @@ fn take(line: &[u8]) {
 }
 
 fn answer(chain: u32, place: Place) {
-    // A table has at most 384 bytes: with one more, a file too long is seen to be so.
-    let mut table = [0u8; 385];
+    // With one byte more than a table has, a file too long is seen to be so.
+    let mut table = [0u8; records::TABLE_BYTES + 1];
     let Filled::Bytes(n) = files::start(b"chain.dat", &mut table) else {
         return;
     };
@@ -49,7 +47,7 @@ fn answer(chain: u32, place: Place) {
 }
 
 fn print_expected(table: &[u8], chain: u32, place: Place) {
-    let mut out = [0u8; 192];
+    let mut out = [0u8; shown::LINE_ROOM];
     match shown::expected(&mut out, table, chain, place) {
         Line::Text(n) => print(&out[0..n]),
         Line::Refused(number) => tell(number),

@@ -4,11 +4,9 @@ use files::Words;
 use records::Job;
 use typed::TypedJob;
 
-// A line has at most 65,535 bytes with its newline, which the arguments have not.
-const LINE_BYTES: usize = 65_534;
-
 fn main() {
-    let mut line = [0u8; LINE_BYTES];
+    // The arguments have no newline.
+    let mut line = [0u8; files::LINE_BYTES - 1];
     let words = files::arguments(
         &mut line,
         b"layjob E N K T ALLOWANCE writes job.dat, the job of a search, in place of the one in this folder.
@@ -40,7 +38,7 @@ fn take(line: &[u8]) {
 }
 
 fn write(j: Job) {
-    let mut bytes = [0u8; 32];
+    let mut bytes = [0u8; records::JOB_BYTES];
     let refusal = writing::write_job(&mut bytes, j);
     if refusal != 0 {
         tell(refusal);

@@ -1,2 +1,2 @@
--- The law on the length of a listing's text.
-mod TextLaws
+-- The laws on the listing of a log, part by part.
+mod WalkLaws

@@ -1,2 +1,2 @@
--- What the program's functions promise of the count that they answer.
-pub mod Bounds
+-- What the program's functions promise each other of the listing of a log.
+pub mod Walks

@@ -1,35 +1,38 @@
 // Lists a lay log: reads job.dat, chain.dat and lay.dat in the folder that it is run in, and prints the listing of the log.
 // A file that is missing counts as empty. What fails is told on standard error, and nothing is listed after it.
-ghost use Prim.Native.Nat.{_≤_, _<_};
+ghost use mathlib.Core.Path.{_≡_};
+ghost use mathlib.Core.Bool.{true};
+ghost use Prim.Native.Nat.{_+_, _≤_, _<_, min};
 ghost use lib.ListN.{length};
-ghost use Rattle.laylist.specs.Bounds.{endOf};
+ghost use Rattle.records.specs.ChainTables.{chainCountOf};
+ghost use Rattle.records.specs.Jobs.{jobOf};
+ghost use Rattle.listing.specs.Listings.{listingFrom};
+ghost use Rattle.laylist.specs.Walks.{acceptsJob, acceptsTable, BothGood, partBytes, outBytes, BeginsWith, GoesOn};
 use files::Filled;
 use files::Opened;
 use files::Words;
-use libc::STDERR_FILENO;
 use listing::Carried;
 use listing::Listed;
+use records::ChainCount;
+use records::JobAnswer;
 
-// Where the text that waits in a buffer ends, and the place carried on. Why the listing stopped has been told.
-enum Standing {
-    At { end: usize, carried: Carried },
-    Stopped,
+// The text of a listing at the start of a buffer, so many bytes, and the place carried on from it.
+struct Listing {
+    length: usize,
+    carried: Carried,
 }
 
-// The next stretch of the log, with the place carried to it.
+// The place that what follows goes on from. Or nothing follows: the log has ended, or what failed has been told.
 enum Next {
-    Stretch(Carried),
+    From(Carried),
     End,
 }
 
-// At most 16 records are listed at once.
-const PART_BYTES: usize = 512;
+// At most 128 records are listed at once.
+const PART_BYTES: usize = 128 * records::LOG_BYTES;
 
-// Text is written out when there is so much of it.
-const MUCH_TEXT: usize = 65_536;
-
-// Room for not quite so much, and behind it for the lines of 16 records and one more, each of at most 5,760 bytes.
-const OUT_BYTES: usize = 163_840;
+// Room for their lines, and for one more, as `listing::list` asks.
+const OUT_BYTES: usize = 129 * listing::LONGEST_LINE;
 
 fn main() {
     // Any argument is one too many.
@@ -65,101 +68,127 @@ fn by_arguments(bytes: usize) {
 }
 
 fn list_files() {
-    // A job has 32 bytes and a table at most 384: with one more, a file too long is seen to be so.
-    let mut job = [0u8; 33];
-    let mut table = [0u8; 385];
-    let Filled::Bytes(j) = files::start(b"job.dat", &mut job) else {
+    let mut out = out_buffer();
+    // One byte more than a job has: a file too long is seen to be so.
+    let mut job = [0u8; records::JOB_BYTES + 1];
+    let Filled::Bytes(n) = files::start(b"job.dat", &mut job) else {
         return;
     };
-    let Filled::Bytes(t) = files::start(b"chain.dat", &mut table) else {
-        return;
-    };
-    list_by(&job[0..j], &table[0..t]);
+    by_job(&mut out, &job[0..n]);
 }
 
-fn list_by(job: &[u8], table: &[u8]) {
-    let mut out = [0u8; OUT_BYTES];
-    if accepted(&mut out, job, table) {
-        list_log(&mut out, job, table);
+// The buffer for the text. Its many bytes are made in a function of their own, so that only their number is known elsewhere.
+fn out_buffer() -> [u8; OUT_BYTES] {
+    [0u8; OUT_BYTES]
+}
+
+// A job that is refused is told before the table is read, which may fail.
+fn by_job(out: &mut [u8], job: &[u8])
+    requires { ⌜ length (now out) ≡ outBytes ⌝ }
+{
+    if !job_accepted(out, job) {
+        return;
+    }
+    // Here too, one byte more than the longest table has.
+    let mut table = [0u8; records::TABLE_BYTES + 1];
+    let Filled::Bytes(n) = files::start(b"chain.dat", &mut table) else {
+        return;
+    };
+    by_table(out, job, &table[0..n]);
+}
+
+// Whether the job is accepted. If not, its refusal is all that is printed, whatever the table and the log.
+fn job_accepted(out: &mut [u8], job: &[u8]) -> bool
+    requires { ⌜ length (now out) ≡ outBytes ⌝ }
+    ensures { λ r. ⌜ r ≡ acceptsJob (jobOf (now (job .entry))) ⌝ }
+{
+    match records::job_of(job) {
+        JobAnswer::Job(_) => true,
+        JobAnswer::Refused(_) => {
+            print_part(out, job, b"", b"", Carried::Nothing);
+            false
+        }
     }
 }
 
-// Whether job and table are accepted: no records then give no text. Else the text is all that is printed.
-fn accepted(out: &mut [u8], job: &[u8], table: &[u8]) -> bool {
-    let Standing::At { end, carried: _ } = list_part(out, 0, job, table, b"", Carried::Nothing)
-    else {
-        return false;
-    };
-    if end == 0 {
-        return true;
+fn by_table(out: &mut [u8], job: &[u8], table: &[u8])
+    requires { ⌜ (length (now out) ≡ outBytes) × (acceptsJob (jobOf (now job)) ≡ true) ⌝ }
+{
+    if table_accepted(out, job, table) {
+        list_log(out, job, table);
     }
-    files::print(&out[0..end]);
-    false
+}
+
+// Whether the table is accepted. If not, its refusal is all that is printed, whatever the log.
+fn table_accepted(out: &mut [u8], job: &[u8], table: &[u8]) -> bool
+    requires { ⌜ length (now out) ≡ outBytes ⌝ }
+    ensures { λ r. ⌜ r ≡ acceptsTable (chainCountOf (now (table .entry))) ⌝ }
+{
+    match records::chain_count(table) {
+        ChainCount::Chains(_) => true,
+        ChainCount::Refused(_) => {
+            print_part(out, job, table, b"", Carried::Nothing);
+            false
+        }
+    }
 }
 
 // The lines of the log, stretch by stretch. Every turn but the last takes 65,536 bytes of it, and no log has 2^64 times as
 // many: it ends before the turns do.
-fn list_log(out: &mut [u8], job: &[u8], table: &[u8]) {
+fn list_log(out: &mut [u8], job: &[u8], table: &[u8])
+    requires { ⌜ (length (now out) ≡ outBytes) × BothGood (now job) (now table) ⌝ }
+{
     let Opened::File(log) = files::open(b"lay.dat") else {
         return;
     };
     let mut carried = Carried::Nothing;
     let mut turns = u64::MAX;
     while turns > 0 {
-        let Next::Stretch(place) = list_stretch(out, job, table, log, carried) else {
+        let Next::From(last) = list_stretch(out, job, table, log, carried) else {
             return;
         };
-        carried = place;
+        carried = last;
         turns -= 1;
     }
 }
 
-// Reads a stretch of the log, lists it, and writes all its lines out before the next is read, which may fail.
-fn list_stretch(out: &mut [u8], job: &[u8], table: &[u8], log: i32, before: Carried) -> Next {
+// Reads a stretch of the log and lists it, before the next is read, which may fail.
+fn list_stretch(out: &mut [u8], job: &[u8], table: &[u8], log: i32, before: Carried) -> Next
+    requires { ⌜ (length (now out) ≡ outBytes) × BothGood (now job) (now table) ⌝ }
+{
     let mut stretch = io::large_buffer();
     let Filled::Bytes(n) = files::fill(b"lay.dat", log, &mut stretch) else {
         return Next::End;
     };
-    let Standing::At { end, carried } = list_parts(out, job, table, &stretch[0..n], before) else {
-        return Next::End;
-    };
-    if !files::print(&out[0..end]) {
-        return Next::End;
-    }
+    let next = list_parts(out, job, table, &stretch[0..n], before);
     if n < stretch.len() {
         return Next::End;
     }
-    Next::Stretch(carried)
+    next
 }
 
-// Lists a stretch of the log, part by part.
-fn list_parts(out: &mut [u8], job: &[u8], table: &[u8], log: &[u8], before: Carried) -> Standing
-    ensures { λ r. ⌜ endOf r ≤ length (now (out .exit)) ⌝ }
+// Lists a stretch of the log, part by part, each with the place carried from the one before.
+fn list_parts(out: &mut [u8], job: &[u8], table: &[u8], log: &[u8], before: Carried) -> Next
+    requires { ⌜ (length (now out) ≡ outBytes) × BothGood (now job) (now table) ⌝ }
+    ensures { λ r. ⌜ GoesOn (listingFrom (now (job .entry)) (now (table .entry)) (now (log .entry)) before) r ⌝ }
 {
     let mut carried = before;
-    let mut end = 0;
     let mut done = 0;
     while done < log.len() {
         let next = part_end(done, log.len());
-        let s = list_part(out, end, job, table, &log[done..next], carried);
-        let Standing::At {
-            end: e,
-            carried: place,
-        } = s
-        else {
-            return Standing::Stopped;
+        let Next::From(place) = print_part(out, job, table, &log[done..next], carried) else {
+            return Next::End;
         };
-        end = e;
         carried = place;
         done = next;
     }
-    Standing::At { end, carried }
+    Next::From(carried)
 }
 
 // Where the part that begins at done ends: the last may be shorter.
 fn part_end(done: usize, length: usize) -> usize
     requires { ⌜ done < length ⌝ }
-    ensures { λ r. ⌜ (done < r) × (r ≤ length) ⌝ }
+    ensures { λ r. ⌜ r ≡ min (done + partBytes) length ⌝ }
 {
     if length - done < PART_BYTES {
         return length;
@@ -167,37 +196,39 @@ fn part_end(done: usize, length: usize) -> usize
     done + PART_BYTES
 }
 
-// Lists a part of the log behind the text that waits. A refusal is for want of room, which the sizes rule out.
-fn list_part(
-    out: &mut [u8],
-    at: usize,
-    job: &[u8],
-    table: &[u8],
-    part: &[u8],
-    before: Carried,
-) -> Standing
-    requires { ⌜ at ≤ length (now out) ⌝ }
-    ensures { λ r. ⌜ endOf r ≤ length (now (out .exit)) ⌝ }
+// Lists a part of the log and prints its text.
+fn print_part(out: &mut [u8], job: &[u8], table: &[u8], part: &[u8], before: Carried) -> Next
+    requires { ⌜ (length (now out) ≡ outBytes) × (length (now part) ≤ partBytes) ⌝ }
+    ensures { λ r. ⌜ GoesOn (listingFrom (now (job .entry)) (now (table .entry)) (now (part .entry)) before) r ⌝ }
 {
-    match listing::list(&mut out[at..], job, table, part, before) {
-        Listed::Text { length, carried } => passed_on(out, at + length, carried),
-        Listed::Refused(_) => {
-            io::write_all(STDERR_FILENO, b"laylist: no room for the listing\n");
-            Standing::Stopped
-        }
+    let listing = list_part(out, job, table, part, before);
+    let n = listing.length;
+    if !printed(&out[..n], job, table, part, before) {
+        return Next::End;
+    }
+    let carried = listing.carried;
+    Next::From(carried)
+}
+
+// Puts the listing of a part of the log at the start of a buffer.
+fn list_part(out: &mut [u8], job: &[u8], table: &[u8], part: &[u8], before: Carried) -> Listing
+    requires { ⌜ (length (now out) ≡ outBytes) × (length (now part) ≤ partBytes) ⌝ }
+    ensures { λ r. ⌜ BeginsWith (now (out .exit)) (listingFrom (now (job .entry)) (now (table .entry)) (now (part .entry)) before) r ⌝ }
+{
+    match listing::list(out, job, table, part, before) {
+        Listed::Text { length, carried } => Listing { length, carried },
+        // This never comes: there is room for every part.
+        Listed::Refused(_) => Listing {
+            length: 0,
+            carried: before,
+        },
     }
 }
 
-// Writes the waiting text out if there is much of it.
-fn passed_on(out: &[u8], end: usize, carried: Carried) -> Standing
-    requires { ⌜ end ≤ length (now out) ⌝ }
-    ensures { λ r. ⌜ endOf r ≤ length (now (out .entry)) ⌝ }
+// Whether a text was printed. All that is printed but the help goes through here, and must be the listing of a part. What it is
+// the listing of is handed over for that alone.
+fn printed(text: &[u8], job: &[u8], table: &[u8], part: &[u8], before: Carried) -> bool
+    requires { ⌜ now text ≡ listingFrom (now job) (now table) (now part) before .text ⌝ }
 {
-    if end < MUCH_TEXT {
-        return Standing::At { end, carried };
-    }
-    if !files::print(&out[0..end]) {
-        return Standing::Stopped;
-    }
-    Standing::At { end: 0, carried }
+    files::print(text)
 }

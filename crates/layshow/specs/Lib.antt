@@ -1,2 +1,2 @@
--- What the program's functions promise of the counts that they answer.
-pub mod Bounds
+-- What the program prints, and what its functions promise each other of it.
+pub mod Walks

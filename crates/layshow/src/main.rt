@@ -1,31 +1,24 @@
 // Prints what job.dat, chain.dat and lay.dat hold, in the folder that it is run in, a line a record. A file that is missing counts
 // as empty. What is refused or fails is told on standard error, and nothing is printed after it.
-ghost use Prim.Native.Nat.{_+_, _≤_, _<_};
+ghost use mathlib.Core.Path.{_≡_};
+ghost use Prim.Native.Nat.{_+_, _^_, _≤_, _<_, min};
 ghost use lib.ListN.{length};
-ghost use Rattle.shown.specs.Rooms.{textOf};
-ghost use Rattle.layshow.specs.Bounds.{endOf};
+ghost use Rattle.text.specs.Puts.{Put};
+ghost use Rattle.shown.specs.Lines.{jobLine, chainLine, recordLine};
+ghost use Rattle.shown.specs.Rooms.{textOf, lineRoom};
+ghost use Rattle.layshow.specs.Walks.{recordLines, chainLines, tableLines, fileLines, PutLine, longestJob, longestTable, wholeTable, tableRoom, stretchBytes, outBytes};
 use files::Filled;
 use files::Opened;
 use files::Words;
-use libc::STDERR_FILENO;
 use records::ChainCount;
 use shown::Line;
 
-// Where the text that waits in a buffer ends. Why it goes no further has been told.
-enum Standing {
-    At(usize),
-    Stopped,
-}
+// So much of the log is read at a time.
+const STRETCH_BYTES: usize = 65_536;
 
-const CHAIN_BYTES: usize = 24;
-
-const RECORD_BYTES: usize = 32;
-
-// Text is written out when there is so much of it.
-const MUCH_TEXT: usize = 65_536;
-
-// Room for not quite so much, and behind it for the longest line: 192 bytes, and two for each of the 385 of a table.
-const OUT_BYTES: usize = 66_560;
+// Room for a line of each record in it. Job and table take less.
+const OUT_BYTES: usize = STRETCH_BYTES / records::LOG_BYTES
+    * (shown::LINE_ROOM + 2 * records::LOG_BYTES);
 
 fn main() {
     // Any argument is one too many.
@@ -60,51 +53,61 @@ fn by_arguments(bytes: usize) {
 }
 
 fn show() {
-    // A job has 32 bytes and a table at most 384: with one more, a file too long is seen to be so.
-    let mut job = [0u8; 33];
-    let mut table = [0u8; 385];
+    let mut out = out_buffer();
+    // One byte more than a job has, and than the longest table: a file too long is seen to be so.
+    let mut job = [0u8; records::JOB_BYTES + 1];
+    let mut table = [0u8; records::TABLE_BYTES + 1];
     let Filled::Bytes(j) = files::start(b"job.dat", &mut job) else {
         return;
     };
     let Filled::Bytes(t) = files::start(b"chain.dat", &mut table) else {
         return;
     };
-    show_files(&job[0..j], &table[0..t]);
+    show_files(&mut out, &job[0..j], &table[0..t]);
+}
+
+// The buffer for the text. Its many bytes are made in a function of their own, so that only their number is known elsewhere.
+fn out_buffer() -> [u8; OUT_BYTES] {
+    [0u8; OUT_BYTES]
 }
 
 // What is shown of job and table is written out before the log is opened, which may fail.
-fn show_files(job: &[u8], table: &[u8])
-    requires { ⌜ length (now table) ≤ 385 ⌝ }
+fn show_files(out: &mut [u8], job: &[u8], table: &[u8])
+    requires { ⌜ (length (now out) ≡ outBytes) × (length (now job) ≤ longestJob) × (length (now table) ≤ longestTable) ⌝ }
 {
-    let mut out = [0u8; OUT_BYTES];
-    let standing = put_files(&mut out, job, table);
-    if !printed(&out, standing) {
-        return;
+    let n = put_files(out, job, table);
+    if files_printed(&out[..n], job, table) {
+        show_log(out);
     }
-    show_log(&mut out);
 }
 
-fn put_files(out: &mut [u8], job: &[u8], table: &[u8]) -> Standing
-    requires { ⌜ length (now table) ≤ 385 ⌝ }
-    ensures { λ r. ⌜ endOf r ≤ length (now (out .exit)) ⌝ }
+// Whether the text of job and table was printed. What it is the text of is handed over for the contract alone.
+fn files_printed(text: &[u8], job: &[u8], table: &[u8]) -> bool
+    requires { ⌜ now text ≡ fileLines (now job) (now table) ⌝ }
 {
-    let Standing::At(end) = put_job(out, job) else {
-        return Standing::Stopped;
-    };
+    files::print(text)
+}
+
+fn put_files(out: &mut [u8], job: &[u8], table: &[u8]) -> usize
+    requires { ⌜ (length (now out) ≡ outBytes) × (length (now job) ≤ longestJob) × (length (now table) ≤ longestTable) ⌝ }
+    ensures { λ r. ⌜ Put (now (out .entry)) 0 (fileLines (now (job .entry)) (now (table .entry))) (now (out .exit)) r ⌝ }
+{
+    let end = put_job(out, 0, job);
     put_table(out, end, table)
 }
 
-fn put_job(out: &mut [u8], job: &[u8]) -> Standing
-    ensures { λ r. ⌜ endOf r ≤ length (now (out .exit)) ⌝ }
+fn put_job(out: &mut [u8], at: usize, s: &[u8]) -> usize
+    requires { ⌜ at + lineRoom (length (now s)) ≤ length (now out) ⌝ }
+    ensures { λ r. ⌜ PutLine (now (out .entry)) at (jobLine (now (s .entry))) (length (now (s .entry))) (now (out .exit)) r ⌝ }
 {
-    let line = shown::job(out, job);
-    passed_on(out, 0, line)
+    let most = at + shown::LINE_ROOM + 2 * s.len();
+    after(at, shown::job(&mut out[at..most], s))
 }
 
 // A table that is refused has one line.
-fn put_table(out: &mut [u8], at: usize, table: &[u8]) -> Standing
-    requires { ⌜ (at ≤ length (now out)) × (length (now table) ≤ 385) ⌝ }
-    ensures { λ r. ⌜ endOf r ≤ length (now (out .exit)) ⌝ }
+fn put_table(out: &mut [u8], at: usize, table: &[u8]) -> usize
+    requires { ⌜ (at + tableRoom ≤ length (now out)) × (length (now table) ≤ longestTable) ⌝ }
+    ensures { λ r. ⌜ Put (now (out .entry)) at (tableLines (now (table .entry))) (now (out .exit)) r ⌝ }
 {
     match records::chain_count(table) {
         ChainCount::Chains(_) => put_chains(out, at, table),
@@ -112,37 +115,45 @@ fn put_table(out: &mut [u8], at: usize, table: &[u8]) -> Standing
     }
 }
 
-fn put_chains(out: &mut [u8], at: usize, table: &[u8]) -> Standing
-    requires { ⌜ (at ≤ length (now out)) × (length (now table) ≤ 385) ⌝ }
-    ensures { λ r. ⌜ endOf r ≤ length (now (out .exit)) ⌝ }
+fn put_chains(out: &mut [u8], at: usize, table: &[u8]) -> usize
+    requires { ⌜ (at + tableRoom ≤ length (now out)) × (length (now table) ≤ wholeTable) ⌝ }
+    ensures { λ r. ⌜ Put (now (out .entry)) at (chainLines (now (table .entry))) (now (out .exit)) r ⌝ }
 {
     let mut end = at;
     let mut done = 0;
-    let mut number = 0;
+    let mut number = 1;
     while done < table.len() {
-        let next = piece_end(done, CHAIN_BYTES, table.len());
-        number += 1;
-        let Standing::At(e) = put_chain(out, end, number, &table[done..next]) else {
-            return Standing::Stopped;
-        };
-        end = e;
+        let next = piece_end(done, records::CHAIN_BYTES, table.len());
+        end = put_chain(out, end, number, &table[done..next]);
         done = next;
+        number += 1;
     }
-    Standing::At(end)
+    end
 }
 
-fn put_chain(out: &mut [u8], at: usize, number: u32, s: &[u8]) -> Standing
-    requires { ⌜ at ≤ length (now out) ⌝ }
-    ensures { λ r. ⌜ endOf r ≤ length (now (out .exit)) ⌝ }
+fn put_chain(out: &mut [u8], at: usize, number: u32, s: &[u8]) -> usize
+    requires { ⌜ at + lineRoom (length (now s)) ≤ length (now out) ⌝ }
+    ensures { λ r. ⌜ PutLine (now (out .entry)) at (chainLine number (now (s .entry))) (length (now (s .entry))) (now (out .exit)) r ⌝ }
 {
-    let line = shown::chain(&mut out[at..], number, s);
-    passed_on(out, at, line)
+    let most = at + shown::LINE_ROOM + 2 * s.len();
+    after(at, shown::chain(&mut out[at..most], number, s))
+}
+
+// Where a line that begins at a place ends. A line that is refused, for want of room, never comes.
+fn after(at: usize, line: Line) -> usize
+    requires { ⌜ at + textOf line < 2 ^ 64 ⌝ }
+    ensures { λ r. ⌜ r ≡ at + textOf line ⌝ }
+{
+    match line {
+        Line::Text(n) => at + n,
+        Line::Refused(_) => at,
+    }
 }
 
 // Where the piece of so many bytes ends that begins at done: the last may be shorter.
 fn piece_end(done: usize, bytes: usize, length: usize) -> usize
-    requires { ⌜ (done < length) × (0 < bytes) ⌝ }
-    ensures { λ r. ⌜ (done < r) × (r ≤ length) ⌝ }
+    requires { ⌜ done < length ⌝ }
+    ensures { λ r. ⌜ r ≡ min (done + bytes) length ⌝ }
 {
     if length - done < bytes {
         return length;
@@ -152,7 +163,9 @@ fn piece_end(done: usize, bytes: usize, length: usize) -> usize
 
 // The lines of the log, stretch by stretch. Every turn but the last takes 65,536 bytes of it, and no log has 2^64 times as
 // many: it ends before the turns do.
-fn show_log(out: &mut [u8]) {
+fn show_log(out: &mut [u8])
+    requires { ⌜ length (now out) ≡ outBytes ⌝ }
+{
     let Opened::File(log) = files::open(b"lay.dat") else {
         return;
     };
@@ -167,68 +180,51 @@ fn show_log(out: &mut [u8]) {
 
 // Reads a stretch of the log, shows it, and writes all its lines out before the next is read, which may fail. Answers whether
 // there may be a next one.
-fn show_stretch(out: &mut [u8], log: i32) -> bool {
+fn show_stretch(out: &mut [u8], log: i32) -> bool
+    requires { ⌜ length (now out) ≡ outBytes ⌝ }
+{
     let mut stretch = io::large_buffer();
     let Filled::Bytes(n) = files::fill(b"lay.dat", log, &mut stretch) else {
         return false;
     };
-    let standing = put_records(out, &stretch[0..n]);
-    if !printed(out, standing) {
+    if !show_records(out, &stretch[0..n]) {
         return false;
     }
     n == stretch.len()
 }
 
-fn put_records(out: &mut [u8], log: &[u8]) -> Standing
-    ensures { λ r. ⌜ endOf r ≤ length (now (out .exit)) ⌝ }
+fn show_records(out: &mut [u8], log: &[u8]) -> bool
+    requires { ⌜ (length (now out) ≡ outBytes) × (length (now log) ≤ stretchBytes) ⌝ }
+{
+    let n = put_records(out, log);
+    records_printed(&out[..n], log)
+}
+
+// Whether the text of a stretch was printed. What it is the text of is handed over for the contract alone.
+fn records_printed(text: &[u8], log: &[u8]) -> bool
+    requires { ⌜ now text ≡ recordLines (now log) ⌝ }
+{
+    files::print(text)
+}
+
+fn put_records(out: &mut [u8], log: &[u8]) -> usize
+    requires { ⌜ (length (now out) ≡ outBytes) × (length (now log) ≤ stretchBytes) ⌝ }
+    ensures { λ r. ⌜ Put (now (out .entry)) 0 (recordLines (now (log .entry))) (now (out .exit)) r ⌝ }
 {
     let mut end = 0;
     let mut done = 0;
     while done < log.len() {
-        let next = piece_end(done, RECORD_BYTES, log.len());
-        let Standing::At(e) = put_record(out, end, &log[done..next]) else {
-            return Standing::Stopped;
-        };
-        end = e;
+        let next = piece_end(done, records::LOG_BYTES, log.len());
+        end = put_record(out, end, &log[done..next]);
         done = next;
     }
-    Standing::At(end)
+    end
 }
 
-fn put_record(out: &mut [u8], at: usize, s: &[u8]) -> Standing
-    requires { ⌜ at ≤ length (now out) ⌝ }
-    ensures { λ r. ⌜ endOf r ≤ length (now (out .exit)) ⌝ }
+fn put_record(out: &mut [u8], at: usize, s: &[u8]) -> usize
+    requires { ⌜ at + lineRoom (length (now s)) ≤ length (now out) ⌝ }
+    ensures { λ r. ⌜ PutLine (now (out .entry)) at (recordLine (now (s .entry))) (length (now (s .entry))) (now (out .exit)) r ⌝ }
 {
-    let line = shown::record(&mut out[at..], s);
-    passed_on(out, at, line)
-}
-
-// Goes on behind a line, and writes the waiting text out if there is much of it. A refusal is for want of room, which the sizes
-// rule out.
-fn passed_on(out: &[u8], at: usize, line: Line) -> Standing
-    requires { ⌜ at + textOf line ≤ length (now out) ⌝ }
-    ensures { λ r. ⌜ endOf r ≤ length (now (out .entry)) ⌝ }
-{
-    let Line::Text(n) = line else {
-        io::write_all(STDERR_FILENO, b"layshow: no room for a line\n");
-        return Standing::Stopped;
-    };
-    let end = at + n;
-    if end < MUCH_TEXT {
-        return Standing::At(end);
-    }
-    if !files::print(&out[0..end]) {
-        return Standing::Stopped;
-    }
-    Standing::At(0)
-}
-
-// Whether the waiting text was written out.
-fn printed(out: &[u8], standing: Standing) -> bool
-    requires { ⌜ endOf standing ≤ length (now out) ⌝ }
-{
-    let Standing::At(end) = standing else {
-        return false;
-    };
-    files::print(&out[0..end])
+    let most = at + shown::LINE_ROOM + 2 * s.len();
+    after(at, shown::record(&mut out[at..most], s))
 }

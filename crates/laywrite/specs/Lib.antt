@@ -1,2 +1,2 @@
--- What the program's functions promise of the count that they answer.
-pub mod Bounds
+-- What the program's functions promise of the records that wait to be written out.
+pub mod Waiting

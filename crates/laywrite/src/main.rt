@@ -1,14 +1,20 @@
 // Appends log records to lay.dat in the folder that it is run in, from the lines of standard input, a record each. Every line that
 // is refused is told on standard error, as is what fails, and then nothing is appended.
-ghost use Prim.Native.Nat.{_≤_, _<_};
+ghost use Prim.Native.Nat.{_+_, _≤_};
+ghost use mathlib.Core.List.{_++_};
 ghost use mathlib.Core.Path.{_≡_};
-ghost use lib.ListN.{length};
-ghost use Rattle.laywrite.specs.Bounds.{waitingOf};
+ghost use lib.ListN.{length, take};
+ghost use Rattle.records.specs.LogRecords.{logBytes};
+ghost use Rattle.typed.specs.Typed.{draftIn};
+ghost use Rattle.typed.specs.declared.TypedDraft.the-variants as typed;
+ghost use Rattle.lines.specs.Input.{atEnd};
+ghost use Rattle.laywrite.specs.Waiting.{waitingOf, allDropped, Wait, IsKept, IsTaken, HoldRecords};
 use files::Filled;
 use files::Words;
 use libc::SEEK_END;
 use libc::SEEK_SET;
 use lines::Input;
+use records::LOG_BYTES;
 use typed::TypedDraft;
 use writing::Draft;
 
@@ -31,11 +37,6 @@ enum Copying {
     All,
     Failed,
 }
-
-const RECORD_BYTES: usize = 32;
-
-// The longest line, with its newline.
-const LINE_BYTES: usize = 65_535;
 
 // Records are written out when so many bytes of them wait.
 const OUT_BYTES: usize = 65_536;
@@ -93,8 +94,8 @@ fn open_log() -> Log {
         os::fail(b"lay.dat");
         return Log::Unfit;
     }
-    // The lowest five bits of a number that 32 divides are zero.
-    if length & 31 != 0 {
+    // The size of a record is a power of two: the bits below it are zero in a number that it divides.
+    if length & (LOG_BYTES as i64 - 1) != 0 {
         tell(0, 1);
         return Log::Unfit;
     }
@@ -142,7 +143,7 @@ fn make_scratch() -> i32 {
 
 // Whether every line was accepted, and its record written to the scratch file.
 fn read_records(scratch: i32) -> bool {
-    let mut buffer = [0u8; LINE_BYTES];
+    let mut buffer = [0u8; files::LINE_BYTES];
     let mut out = [0u8; OUT_BYTES];
     let Records::Waiting(n) = each_line(&mut buffer, &mut out, scratch) else {
         return false;
@@ -150,8 +151,10 @@ fn read_records(scratch: i32) -> bool {
     written(scratch, &out[0..n])
 }
 
+// The records of the lines that wait when all are read.
 fn each_line(buffer: &mut [u8], out: &mut [u8], scratch: i32) -> Records
-    ensures { λ r. ⌜ waitingOf r ≤ length (now (out .exit)) ⌝ }
+    requires { ⌜ logBytes ≤ length (now out) ⌝ }
+    ensures { λ r. ⌜ HoldRecords (now (out .exit)) r ⌝ }
 {
     let mut from = buffer.len();
     let mut to = buffer.len();
@@ -172,7 +175,7 @@ fn each_line(buffer: &mut [u8], out: &mut [u8], scratch: i32) -> Records
 
 // The records, where no line comes next.
 fn ended(input: Input, line: u64, records: Records) -> Records
-    ensures { λ r. ⌜ waitingOf r ≤ waitingOf records ⌝ }
+    ensures { λ r. ⌜ r ≡ atEnd input records allDropped ⌝ }
 {
     match input {
         Input::Cut => dropped(line, 12),
@@ -183,7 +186,7 @@ fn ended(input: Input, line: u64, records: Records) -> Records
 
 // No records, for the reason that is told.
 fn dropped(line: u64, number: u32) -> Records
-    ensures { λ r. ⌜ waitingOf r ≡ 0 ⌝ }
+    ensures { λ r. ⌜ r ≡ allDropped ⌝ }
 {
     tell(line, number);
     Records::Dropped
@@ -191,7 +194,8 @@ fn dropped(line: u64, number: u32) -> Records
 
 fn take_line(out: &mut [u8], before: Records, scratch: i32, line: u64, text: &[u8]) -> Records
     requires { ⌜ waitingOf before ≤ length (now out) ⌝ }
-    ensures { λ r. ⌜ waitingOf r ≤ length (now (out .exit)) ⌝ }
+    requires { ⌜ logBytes ≤ length (now out) ⌝ }
+    ensures { λ r. ⌜ IsTaken before (now (out .entry)) (draftIn (now (text .entry))) (now (out .exit)) r ⌝ }
 {
     match typed::draft(text) {
         TypedDraft::Draft(d) => take_draft(out, before, scratch, line, d),
@@ -201,9 +205,10 @@ fn take_line(out: &mut [u8], before: Records, scratch: i32, line: u64, text: &[u
 
 fn take_draft(out: &mut [u8], before: Records, scratch: i32, line: u64, d: Draft) -> Records
     requires { ⌜ waitingOf before ≤ length (now out) ⌝ }
-    ensures { λ r. ⌜ waitingOf r ≤ length (now (out .exit)) ⌝ }
+    requires { ⌜ logBytes ≤ length (now out) ⌝ }
+    ensures { λ r. ⌜ IsTaken before (now (out .entry)) (typed.Draft d) (now (out .exit)) r ⌝ }
 {
-    let mut bytes = [0u8; RECORD_BYTES];
+    let mut bytes = [0u8; LOG_BYTES];
     let refusal = writing::write(&mut bytes, d);
     if refusal != 0 {
         return dropped(line, refusal);
@@ -217,7 +222,8 @@ fn take_draft(out: &mut [u8], before: Records, scratch: i32, line: u64, d: Draft
 // Puts a record behind those that wait, and writes them all out where there is no room for it.
 fn keep(out: &mut [u8], at: usize, scratch: i32, bytes: &[u8]) -> Records
     requires { ⌜ at ≤ length (now out) ⌝ }
-    ensures { λ r. ⌜ waitingOf r ≤ length (now (out .exit)) ⌝ }
+    requires { ⌜ length (now bytes) ≤ length (now out) ⌝ }
+    ensures { λ r. ⌜ IsKept (take at (now (out .entry))) (now (bytes .entry)) (now (out .exit)) r ⌝ }
 {
     if out.len() - at >= bytes.len() {
         return put(out, at, bytes);
@@ -229,8 +235,8 @@ fn keep(out: &mut [u8], at: usize, scratch: i32, bytes: &[u8]) -> Records
 }
 
 fn put(out: &mut [u8], at: usize, bytes: &[u8]) -> Records
-    requires { ⌜ at ≤ length (now out) ⌝ }
-    ensures { λ r. ⌜ waitingOf r ≤ length (now (out .exit)) ⌝ }
+    requires { ⌜ at + length (now bytes) ≤ length (now out) ⌝ }
+    ensures { λ r. ⌜ Wait (take at (now (out .entry)) ++ now (bytes .entry)) (now (out .exit)) r ⌝ }
 {
     Records::Waiting(text::put(out, at, bytes))
 }

@@ -1,14 +1,11 @@
 -- Bytes of a buffer copied to its front, the first one first: those to come are still where they were.
-use Prim.Native.Nat.{ℕ, _+_, _-_, _≤_, _<_, min}
+use Prim.Native.Nat.{ℕ, _+_, _<_}
 use mathlib.Core.Path.{_≡_, ap, _∙_, sym}
-use mathlib.Core.List.{List, _++_}
-use native.Mathlib.Decide.{decLe}
-use native.Mathlib.Nat.{lt-of-not-le}
+use mathlib.Core.List.{List}
 use native.Mathlib.Omega.{arith}
 use native.Mathlib.Numerals.{add-one}
-use lib.ListN.{length, getD, take, drop, set, length-take, length-drop}
-use lib.Seq.{length-take-le, getD-append-add, getD-drop, paste, paste-suc, take-all}
-use Rattle.lines.specs.Input.{between}
+use lib.ListN.{length, getD, take, drop, set, length-drop}
+use lib.Seq.{length-take-le, getD-append-add, getD-drop, paste, paste-suc}
 
 -- The buffer after so many of them.
 abbrev pub copied : List ℕ → ℕ → ℕ → List ℕ
@@ -32,26 +29,3 @@ one-more b from i h =
     ∙ ap (λ (n : ℕ). set (copied b from i) n (getD (drop from b) i 0)) (omega arith)
     ∙ paste-suc b 0 (drop from b) i 0 (omega arith) (omega (arith, length-drop from b))
     ∙ ap (copied b from) (sym (add-one i))
-
--- How many there are, and what they are when all are copied.
-pub so-many : (b : List ℕ) (from to : ℕ) → min to (length b) - from ≡ length (between from to b)
-so-many b from to = omega (arith, length-take (to - from) (drop from b), length-drop from b)
-
-pub all-copied : (b : List ℕ) (from to : ℕ) → copied b from (min to (length b) - from) ≡ between from to b ++ drop (min to (length b) - from) b
-all-copied b from to =
-    let n = min to (length b) - from in
-    let none : 0 + n ≡ n = omega arith in
-    ap (λ (m : ℕ). take n (drop from b) ++ drop m b) none
-    ∙ ap (λ (l : List ℕ). l ++ drop n b) (go (decLe to (length b)))
-  where
-    go : Dec (to ≤ length b) → take (min to (length b) - from) (drop from b) ≡ between from to b
-    go (yes h) =
-        let e : min to (length b) - from ≡ to - from = omega arith in
-        ap (λ (n : ℕ). take n (drop from b)) e
-    go (no h) =
-        take-all (min to (length b) - from) (drop from b) (omega (arith, length-drop from b, lt-of-not-le h))
-        ∙ sym (take-all (to - from) (drop from b) (omega (arith, length-drop from b, lt-of-not-le h)))
-
--- They are no more than the buffer has.
-pub no-more : (b : List ℕ) (from to : ℕ) → length (between from to b) ≤ length b
-no-more b from to = omega (arith, so-many b from to)

@@ -1,3 +1,3 @@
--- The laws on bytes that are moved to the front of a buffer, and on the line in a part of a text.
+-- The laws on bytes that are moved to the front of a buffer, and on the line that comes next.
 mod FrontLaws
-mod LineLaws
+pub mod LineLaws

@@ -1,10 +1,10 @@
 // The lines of standard input, one by one, in a buffer that the caller lends: a line with its newline is as long as the buffer at
-// most. No contract can say what is read; what is said is that a line is one.
-ghost use mathlib.Core.List.{List, _++_};
+// most. What is read is the outside's; all else that is answered follows from the arguments and from the buffer.
+ghost use mathlib.Core.List.{_++_};
 ghost use mathlib.Core.Path.{_≡_};
-ghost use Prim.Native.Nat.{ℕ, _-_, min};
+ghost use Prim.Native.Nat.{_≤_, min};
 ghost use lib.ListN.{length, drop};
-ghost use Rattle.lines.specs.Input.{IsNext, IsFound, between};
+ghost use Rattle.lines.specs.Input.{IsNext, IsRead, nextIn, between};
 use files::Filled;
 use libc::STDIN_FILENO;
 
@@ -21,96 +21,69 @@ pub enum Input {
     Failed,
 }
 
-// Where the newline of a line stands.
-enum Found {
-    At(usize),
-    Nothing,
-}
-
 // The next line of the text between two places of the buffer, of which more is read where there is no whole line. Text that
 // stops before the buffer does is the last. So the first line is the next one of no text at the end of the buffer, and after a
 // line the text begins behind its newline.
 pub fn next(buffer: &mut [u8], from: usize, to: usize) -> Input
-    ensures { λ r. ⌜ IsNext (now (buffer .exit)) r ⌝ }
+    ensures { λ r. ⌜ IsNext (now (buffer .entry)) from to (now (buffer .exit)) r ⌝ }
 {
-    if let Found::At(end) = newline(buffer, from, to) {
-        return Input::Line {
-            start: from,
-            end,
-            stop: to,
-        };
+    let stop = least(to, buffer.len());
+    let there = next_in(buffer, from, stop);
+    if stop < buffer.len() {
+        return there;
     }
-    if to < buffer.len() {
-        return last(from, to);
+    if let Input::Line { .. } = there {
+        return there;
     }
+    read_more(buffer, from, stop)
+}
+
+// What comes next in the text between two places of a buffer.
+fn next_in(buffer: &[u8], from: usize, to: usize) -> Input
+    requires { ⌜ to ≤ length (now buffer) ⌝ }
+    ensures { λ r. ⌜ r ≡ nextIn (now (buffer .entry)) from to ⌝ }
+{
+    if from >= to {
+        return Input::End;
+    }
+    let n = typed::line_end(&buffer[from..to]);
+    if n >= to - from {
+        return Input::Cut;
+    }
+    Input::Line {
+        start: from,
+        end: from + n,
+        stop: to,
+    }
+}
+
+// What comes next where more is read behind the text between two places, which moves to the front.
+fn read_more(buffer: &mut [u8], from: usize, to: usize) -> Input
+    requires { ⌜ to ≤ length (now buffer) ⌝ }
+    ensures { λ r. ⌜ IsRead (now (buffer .entry)) from to (now (buffer .exit)) r ⌝ }
+{
     let kept = front(buffer, from, to);
     let Filled::Bytes(more) = files::fill(b"standard input", STDIN_FILENO, &mut buffer[kept..])
     else {
         return Input::Failed;
     };
-    first(buffer, kept + more)
+    next_in(buffer, 0, kept + more)
 }
 
-// The first line of the text in a buffer.
-fn first(buffer: &[u8], stop: usize) -> Input
-    ensures { λ r. ⌜ IsNext (now (buffer .entry)) r ⌝ }
-{
-    match newline(buffer, 0, stop) {
-        Found::At(end) => Input::Line {
-            start: 0,
-            end,
-            stop,
-        },
-        Found::Nothing => last(0, stop),
-    }
-}
-
-// Where no line is left: text without a newline, or none.
-fn last(from: usize, to: usize) -> Input
-    ensures { λ r. ⌜ ((buffer : List ℕ) → IsNext buffer r) ⌝ }
-{
-    if from < to {
-        return Input::Cut;
-    }
-    Input::End
-}
-
-fn newline(buffer: &[u8], from: usize, to: usize) -> Found
-    ensures { λ r. ⌜ IsFound (now (buffer .entry)) from to r ⌝ }
-{
-    if to > buffer.len() {
-        return Found::Nothing;
-    }
-    if from > to {
-        return Found::Nothing;
-    }
-    let n = typed::line_end(&buffer[from..to]);
-    if n >= to - from {
-        return Found::Nothing;
-    }
-    Found::At(from + n)
-}
-
-// Moves the bytes between two places of a buffer to its front, and answers how many they are.
+// Moves the text between two places of a buffer to its front, and answers how many bytes it has.
 fn front(buffer: &mut [u8], from: usize, to: usize) -> usize
+    requires { ⌜ to ≤ length (now buffer) ⌝ }
     ensures count { λ r. ⌜ r ≡ length (between from to (now (buffer .entry))) ⌝ }
     ensures buffer { λ r. ⌜ now (buffer .exit) ≡ between from to (now (buffer .entry)) ++ drop r (now (buffer .entry)) ⌝ }
 {
-    let count = bytes_between(from, to, buffer.len());
     let mut i = 0;
-    while i < count {
-        buffer[i] = buffer[from + i];
+    let mut at = from;
+    while at < to {
+        buffer[i] = buffer[at];
         i += 1;
+        at += 1;
     }
-    count
-}
-
-// How many bytes stand between two places of so many.
-fn bytes_between(from: usize, to: usize, bytes: usize) -> usize
-    ensures { λ r. ⌜ r ≡ min to bytes - from ⌝ }
-{
-    let end = least(to, bytes);
-    if from < end { end - from } else { 0 }
+    i
 }
 
 fn least(a: usize, b: usize) -> usize

@@ -3,12 +3,10 @@ use Prim.Native.Nat.{ℕ, suc, _+_, _-_, _*_, _/_, _≤_, _<_, min}
 use mathlib.Core.Path.{_≡_, refl, sym, ap, ap₂, _∙_, subst⁻¹}
 use mathlib.Core.List.{List, [], _++_, append-nil, append-assoc}
 use native.Mathlib.Omega.{arith}
-use native.Mathlib.Nat.{lt-of-not-le}
-use native.Mathlib.Decide.{decLe}
 use lib.ListN.{length, take, drop, length-drop, drop-of-length-le}
-use lib.Seq.{take-all, drop-drop}
 use Rattle.records.specs.declared.Job.{Job}
 use Rattle.records.specs.LogRecords.{logBytes}
+use Rattle.records.proofs.Pieces.{piece-is, behind-is}
 use Rattle.text.specs.Puts.{Put}
 use Rattle.text.proofs.PutLaws.{put-then, put-none, put-as}
 use Rattle.listing.specs.declared.Carried.{Carried}
@@ -17,33 +15,6 @@ use Rattle.listing.specs.Answers.{answerOf, carriedBy}
 use Rattle.listing.specs.Listings.{lineOf, Part, lineBefore, firstAnswer, firstLine, linesFrom, recordsIn, linesOf, longestLine}
 use Rattle.listing.specs.Putting.{Gives}
 use Rattle.listing.proofs.ListingLaws.{put-first}
-
--- The bytes of one record, and those behind it.
-module _ (log : List ℕ) (done next : ℕ) (e : next ≡ min (done + logBytes) (length log)) where
-  rest-long : length (drop done log) ≡ length log - done
-  rest-long = length-drop done log
-
-  pub piece-is : take (next - done) (drop done log) ≡ take logBytes (drop done log)
-  piece-is = go (decLe (done + logBytes) (length log))
-    where
-      go : Dec (done + logBytes ≤ length log) → take (next - done) (drop done log) ≡ take logBytes (drop done log)
-      go (yes h) =
-          let whole : next - done ≡ logBytes = omega (arith, e) in
-          ap (λ (n : ℕ). take n (drop done log)) whole
-      go (no h) =
-          take-all (next - done) (drop done log) (omega (arith, e, rest-long))
-          ∙ sym (take-all logBytes (drop done log) (omega (arith, rest-long, lt-of-not-le h)))
-
-  pub behind-is : drop next log ≡ drop logBytes (drop done log)
-  behind-is = go (decLe (done + logBytes) (length log)) ∙ sym (drop-drop logBytes done log)
-    where
-      go : Dec (done + logBytes ≤ length log) → drop next log ≡ drop (done + logBytes) log
-      go (yes h) =
-          let whole : next ≡ done + logBytes = omega (arith, e) in
-          ap (λ (n : ℕ). drop n log) whole
-      go (no h) =
-          drop-of-length-le log {i = next} (omega (arith, e, lt-of-not-le h))
-          ∙ sym (drop-of-length-le log {i = done + logBytes} (omega (arith, lt-of-not-le h)))
 
 -- Two texts before the rest.
 both-before : (x y : List ℕ) (p : Part) → lineBefore x (lineBefore y p) ≡ lineBefore (x ++ y) p
@@ -77,17 +48,17 @@ module _ (j : Job) (table : List ℕ) where
         let s = drop done log in
         let line = firstLine j table place s in
         let size : length s ≡ length log - done = length-drop done log in
-        let after : length (drop next log) ≡ length s - logBytes = ap length (behind-is log done next e) ∙ length-drop logBytes s in
+        let after : length (drop next log) ≡ length s - logBytes = ap length (behind-is logBytes log done next e) ∙ length-drop logBytes s in
         let on : place′ ≡ carriedBy (firstAnswer j table place s) =
-        handed ∙ ap (λ (x : List ℕ). carriedBy (answerOf j table place x)) (piece-is log done next e) in
+        handed ∙ ap (λ (x : List ℕ). carriedBy (answerOf j table place x)) (piece-is logBytes log done next e) in
         record {
           text = r .text ++ line;
-          put = put-then (r .put) (put-as (ap (λ (x : List ℕ). lineOf x (answerOf j table place x)) (piece-is log done next e)) put);
+          put = put-then (r .put) (put-as (ap (λ (x : List ℕ). lineOf x (answerOf j table place x)) (piece-is logBytes log done next e)) put);
           rest =
               r .rest
               ∙ ap (lineBefore (r .text)) (lines-step place s (omega (arith, size)))
               ∙ both-before (r .text) line (linesOf j table (carriedBy (firstAnswer j table place s)) (drop logBytes s))
-              ∙ ap₂ (λ (c : Carried) (l : List ℕ). lineBefore (r .text ++ line) (linesOf j table c l)) (sym on) (sym (behind-is log done next e));
+              ∙ ap₂ (λ (c : Carried) (l : List ℕ). lineBefore (r .text ++ line) (linesOf j table c l)) (sym on) (sym (behind-is logBytes log done next e));
           room = omega (arith, r .room, short, size, after);
         }
 

@@ -127,20 +127,20 @@ told-as {a} {t} {u} {l} e h = subst⁻¹ (λ (x : Told). Tells a x l) e h
 
 -- A fix by a chain of the table.
 pub fix-tells : (j : Job) (chain : NamedChain) (c : Chain) (a b a′ b′ : ℤ) (n : ℕ) → chain ≡ named.Chain c → a′ ≡ a → b′ ≡ b → n ≡ listEntries →
-    let o = searchOf (questionOf c a′ b′ (j .tolerance) (j .allowance) n) (j .window) in
+    let o = searchOf (questionOf c (a′ ∷ b′ ∷ []) (j .tolerance) (j .allowance) n) (j .window) in
     (answer : Answer) (f : SearchFigures) (t : Told) (l : List ℕ) →
     f ≡ searchFigures answer → answer ≡ o .answer → l ≡ listOf n (o .places) → length l ≡ listEntries →
     ((o : Outcome) (l : List ℕ) → f ≡ searchFigures (o .answer) → Begins (o .places) (f .count) l → Tells (searched o) t l) →
-    Tells (fixBy j a b chain) t l
+    Tells (fixBy j (a ∷ b ∷ []) chain) t l
 unfolding fixBy
 fix-tells j chain c a b a′ b′ n chained first second entries answer f t l figures answered list size told =
-    let asked : ℤ → ℤ → ℕ → Question = λ x y m. questionOf c x y (j .tolerance) (j .allowance) m in
+    let asked : ℤ → ℤ → ℕ → Question = λ x y m. questionOf c (x ∷ y ∷ []) (j .tolerance) (j .allowance) m in
     let same : asked a′ b′ n ≡ asked a b listEntries = ap₂ (λ (x y : ℤ). asked x y n) first second ∙ ap (asked a b) entries in
-    tells-as (ap (λ (q : Question). searched (searchOf q (j .window))) same ∙ sym (ap (fixBy j a b) chained))
+    tells-as (ap (λ (q : Question). searched (searchOf q (j .window))) same ∙ sym (ap (fixBy j (a ∷ b ∷ [])) chained))
     (found-tells (asked a′ b′ n) (j .window) answer f t l figures answered (list ∙ ap (λ (m : ℕ). listOf m (searchOf (asked a′ b′ n) (j .window) .places)) entries) size told)
 
-pub fix-same : (j : Job) (a b a′ b′ : ℤ) (x y : NamedChain) → a′ ≡ a → b′ ≡ b → x ≡ y → fixBy j a′ b′ x ≡ fixBy j a b y
-fix-same j a b a′ b′ x y first second e = ap₂ (λ (u v : ℤ). fixBy j u v x) first second ∙ ap (fixBy j a b) e
+pub fix-same : (j : Job) (a b a′ b′ : ℤ) (x y : NamedChain) → a′ ≡ a → b′ ≡ b → x ≡ y → fixBy j (a′ ∷ b′ ∷ []) x ≡ fixBy j (a ∷ b ∷ []) y
+fix-same j a b a′ b′ x y first second e = ap₂ (λ (u v : ℤ). fixBy j (u ∷ v ∷ []) x) first second ∙ ap (fixBy j (a ∷ b ∷ [])) e
 
 -- What a record answers, by its entry.
 pub answer-by : (j : Job) (table : List ℕ) (before : Carried) (s : List ℕ) (e : LogEntry) → logEntryOf s ≡ e → answerBy j (chainOf table (byteAt s 1)) before e ≡ answerOf j table before s

@@ -38,11 +38,11 @@ searched o =
     (Fix (searchFigures (o .answer) .visits) (o .places))
     (Refused (searchFigures (o .answer) .refusal) (searchFigures (o .answer) .visits))
 
--- Two readings by a chain of the table: what refuses the chain, or the search by the job.
-unfoldable pub fixBy : Job → ℤ → ℤ → NamedChain → RecordAnswer
-fixBy j a b (named.Chain c) =
-    searched (searchOf (questionOf c a b (j .tolerance) (j .allowance) (2 * programRoom)) (j .window))
-fixBy j a b (named.Refused number) = Refused number 0
+-- Readings by a chain of the table: what refuses the chain, or the search by the job.
+unfoldable pub fixBy : Job → List ℤ → NamedChain → RecordAnswer
+fixBy j readings (named.Chain c) =
+    searched (searchOf (questionOf c readings (j .tolerance) (j .allowance) (2 * programRoom)) (j .window))
+fixBy j readings (named.Refused number) = Refused number 0
 
 -- A hold repeats the place carried, and is refused where there is none.
 unfoldable pub holdOf : Carried → RecordAnswer
@@ -51,7 +51,7 @@ holdOf carried.Nothing = Refused 11 0
 
 -- What a record's entry in centimetres answers, `chain` its chain in the table.
 unfoldable pub answerBy : Job → NamedChain → Carried → LogEntry → RecordAnswer
-answerBy j chain before (entry.Readings a b) = fixBy j a b chain
+answerBy j chain before (entry.Readings a b) = fixBy j (a ∷ b ∷ []) chain
 answerBy j chain before (entry.Place p) = Grid p
 answerBy j chain before entry.Hold = holdOf before
 answerBy j chain before (entry.Refused number) = Refused number 0

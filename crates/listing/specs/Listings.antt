@@ -1,5 +1,5 @@
 -- The printed line of a record, and the whole output of the program as bytes (01, The program).
-use Prim.Native.Nat.{ℕ, zero, suc, _+_, _-_, _/_}
+use Prim.Native.Nat.{ℕ, zero, suc, _/_}
 use mathlib.Core.Bool.{Bool, cond}
 use mathlib.Core.List.{List, [], _∷_, _++_}
 use lib.Dec.{eqb, ltb}
@@ -10,6 +10,7 @@ use Rattle.records.specs.declared.JobAnswer.{JobAnswer}
 use Rattle.records.specs.declared.JobAnswer.the-variants as job
 use Rattle.records.specs.declared.ChainCount.{ChainCount}
 use Rattle.records.specs.declared.ChainCount.the-variants as count
+use Rattle.records.specs.Bytes.{piecesIn}
 use Rattle.records.specs.LogRecords.{logBytes, rawIn}
 use Rattle.records.specs.ChainTables.{chainCountOf}
 use Rattle.records.specs.Jobs.{jobOf}
@@ -68,7 +69,7 @@ linesFrom (suc n) j table before log =
 
 -- How many records a log has, a short last one among them.
 abbrev pub recordsIn : List ℕ → ℕ
-recordsIn log = (length log + (logBytes - 1)) / logBytes
+recordsIn log = piecesIn logBytes log
 
 -- The lines of a log.
 abbrev pub linesOf : Job → List ℕ → Carried → List ℕ → Part
@@ -107,3 +108,14 @@ listedIn bytes log p = cond (hasRoom bytes log) (listed.Text (length (p .text)) 
 
 unfoldable pub bufferWith : List ℕ → List ℕ → Part → List ℕ
 bufferWith out log p = cond (hasRoom (length out) log) (p .text ++ drop (length (p .text)) out) out
+
+-- All that a listing leaves: its answer, and every byte of its buffer.
+pub record ListLeft : Type 0 where
+  pub answer : Listed
+  pub buffer : List ℕ
+
+-- What the listing of a log, or of a further part of one, leaves in a buffer.
+abbrev pub listLeft : List ℕ → List ℕ → List ℕ → List ℕ → Carried → ListLeft
+listLeft out job table log before =
+    let p = listingFrom job table log before in
+    record { answer = listedIn (length out) log p; buffer = bufferWith out log p }

@@ -12,12 +12,13 @@ ghost use Rattle.records.specs.ChainTables.{chainCountOf};
 ghost use Rattle.text.specs.Texts.{spaced, figuresText};
 ghost use Rattle.text.specs.Puts.{Put};
 ghost use Rattle.listing.specs.Answers.{RecordAnswer, Refused, fixBy, holdOf, answerOf, searched, carriedBy, only, programRoom};
-ghost use Rattle.listing.specs.Listings.{headOf, lineOf, linesOf, noticeOf, listingBy, listingFrom, longestLine, listedIn, bufferWith};
+ghost use Rattle.listing.specs.Listings.{headOf, lineOf, linesOf, noticeOf, listingBy, longestLine, listLeft};
 ghost use Rattle.listing.specs.Putting.{Gives, Begins, Tells, listEntries, wordText};
 use chart::Place;
 use records::ChainCount;
 use records::Job;
 use records::JobAnswer;
+use records::LOG_BYTES;
 use records::LogEntry;
 use records::NamedChain;
 use records::RawAnswer;
@@ -57,15 +58,14 @@ struct Standing {
     carried: Carried,
 }
 
-const LOG_BYTES: usize = 32;
-
-const LONGEST_LINE: usize = 5_760;
+// No line of a record is longer.
+pub const LONGEST_LINE: usize = 5_760;
 
 // Puts the listing of a log at the start of a buffer, or that of a further part of a log, with the place carried to it. The
 // buffer must have room for the longest line, 5,760 bytes, for each whole record of the log and for one more; else 9.
 pub fn list(out: &mut [u8], job: &[u8], table: &[u8], log: &[u8], before: Carried) -> Listed
-    ensures answer { λ r. ⌜ r ≡ listedIn (length (now (out .entry))) (now (log .entry)) (listingFrom (now (job .entry)) (now (table .entry)) (now (log .entry)) before) ⌝ }
-    ensures out { λ _. ⌜ now (out .exit) ≡ bufferWith (now (out .entry)) (now (log .entry)) (listingFrom (now (job .entry)) (now (table .entry)) (now (log .entry)) before) ⌝ }
+    ensures answer { λ r. ⌜ r ≡ listLeft (now (out .entry)) (now (job .entry)) (now (table .entry)) (now (log .entry)) before .answer ⌝ }
+    ensures out { λ _. ⌜ now (out .exit) ≡ listLeft (now (out .entry)) (now (job .entry)) (now (table .entry)) (now (log .entry)) before .buffer ⌝ }
 {
     if out.len() / LONGEST_LINE <= log.len() / LOG_BYTES {
         return Listed::Refused(9);
@@ -190,7 +190,7 @@ fn chain_byte(s: &[u8]) -> u32
 
 fn fix(list: &mut [u32], j: Job, chain: NamedChain, a: i64, b: i64) -> Told
     requires { ⌜ length (now list) ≡ listEntries ⌝ }
-    ensures { λ r. ⌜ Tells (fixBy j a b chain) r (now (list .exit)) ⌝ }
+    ensures { λ r. ⌜ Tells (fixBy j (a ∷ b ∷ []) chain) r (now (list .exit)) ⌝ }
 {
     match chain {
         NamedChain::Chain(c) => found(search::as_figures(search::search(

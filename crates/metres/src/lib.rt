@@ -48,7 +48,7 @@ enum Hundredfold {
     Refused,
 }
 
-const MOST_CENTIMETRES: u64 = 1_000_000_000;
+pub const MOST_CENTIMETRES: u64 = 1_000_000_000;
 
 // A number of metres in whole centimetres: the nearest to exactly 100 times the number, a tie going to the even one.
 pub fn centimetres(x: f64) -> Whole

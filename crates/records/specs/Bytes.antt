@@ -1,10 +1,10 @@
--- What the definitions of records share: a byte, a number, bytes that must be zero, and a test that refuses.
-use Prim.Native.Nat.{ℕ}
+-- What the definitions of records share: a byte, a number, bytes that must be zero, pieces of bytes, and a test that refuses.
+use Prim.Native.Nat.{ℕ, _+_, _-_, _/_}
 use mathlib.Core.Bool.{Bool, true, false, _&&_}
 use mathlib.Core.List.{List, [], _∷_}
 use lib.Dec.{eqb}
 use lib.Ieee.{Float}
-use lib.ListN.{getD, take, drop}
+use lib.ListN.{length, getD, take, drop}
 use Rattle.fields.specs.Fields.{fieldAt}
 use Rattle.metres.specs.Patterns.{numberOf}
 
@@ -24,6 +24,10 @@ allZero (b ∷ bs) = eqb b 0 && allZero bs
 -- So many bytes from `at` on are all zero. Bytes are looked at, not numbers: those of minus zero are not all zero.
 abbrev pub areZero : ℕ → List ℕ → ℕ → Bool
 areZero count s at = allZero (take count (drop at s))
+
+-- How many pieces of so many bytes there are, a short last one among them.
+abbrev pub piecesIn : ℕ → List ℕ → ℕ
+piecesIn width s = (length s + (width - 1)) / width
 
 -- A test that fails is answered with its refusal; where it passes, the rest answers (01, Numbers of refusal: "the first
 -- failure answers").

@@ -83,15 +83,17 @@ enum Pair {
     Unusable,
 }
 
-const LOG_BYTES: usize = 32;
+// The bytes of a log record, of a chain and of a job.
+pub const LOG_BYTES: usize = 32;
 
-const CHAIN_BYTES: usize = 24;
+pub const CHAIN_BYTES: usize = 24;
 
-const JOB_BYTES: usize = 32;
+pub const JOB_BYTES: usize = 32;
 
-const MOST_CHAINS: usize = 16;
+// How many chains a table may have, and its bytes then.
+pub const MOST_CHAINS: usize = 16;
 
-const MOST_TOLERANCE: u32 = 100_000;
+pub const TABLE_BYTES: usize = MOST_CHAINS * CHAIN_BYTES;
 
 // The raw log record in 32 bytes.
 pub fn raw_record(s: &[u8]) -> RawAnswer
@@ -123,6 +125,30 @@ pub fn log_entry(s: &[u8]) -> LogEntry
         LogRecord::Hold => LogEntry::Hold,
         LogRecord::Refused(number) => LogEntry::Refused(number),
     }
+}
+
+// Whether two numbers are easting and northing of a place in range. They may be too large for a place's numbers.
+pub fn is_place(x: i64, y: i64) -> bool
+    ensures { λ r. ⌜ r ≡ isPlace x y ⌝ }
+{
+    if x < 0 {
+        return false;
+    }
+    if y < 0 {
+        return false;
+    }
+    let e = metres::size(x);
+    let n = metres::size(y);
+    if e > u32::MAX as u64 {
+        return false;
+    }
+    if n > u32::MAX as u64 {
+        return false;
+    }
+    chart::in_range(Place {
+        easting: e as u32,
+        northing: n as u32,
+    })
 }
 
 // How many chains there are in the bytes of a table.
@@ -186,7 +212,7 @@ pub fn job_of(s: &[u8]) -> JobAnswer
     if !search::is_window(j.window) {
         return JobAnswer::Refused(6);
     }
-    if j.tolerance > MOST_TOLERANCE {
+    if j.tolerance > search::MOST_TOLERANCE {
         return JobAnswer::Refused(7);
     }
     JobAnswer::Job(j)
@@ -334,30 +360,6 @@ fn place(p: Pair) -> LogEntry
     LogEntry::Place(Place {
         easting: metres::size(x) as u32,
         northing: metres::size(y) as u32,
-    })
-}
-
-// Whether two numbers are easting and northing of a place in range. They may be too large for a place's numbers.
-fn is_place(x: i64, y: i64) -> bool
-    ensures { λ r. ⌜ r ≡ isPlace x y ⌝ }
-{
-    if x < 0 {
-        return false;
-    }
-    if y < 0 {
-        return false;
-    }
-    let e = metres::size(x);
-    let n = metres::size(y);
-    if e > u32::MAX as u64 {
-        return false;
-    }
-    if n > u32::MAX as u64 {
-        return false;
-    }
-    chart::in_range(Place {
-        easting: e as u32,
-        northing: n as u32,
     })
 }
 

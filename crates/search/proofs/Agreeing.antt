@@ -1,4 +1,4 @@
--- A slave's test without its root. The reading that a slave's range, the root of y, and the master's, m, make is as wanted,
+-- A slave's test without its root. The reading that a slave's distance, the root of y, and the master's, m, make is as wanted,
 -- u less d, give or take a slack, where y lies between two squares.
 use Prim.Native.Nat.{ℕ, zero, suc, _+_, _*_, _≤_, _<_}
 use mathlib.Core.Path.{_≡_, sym, ap, _∙_}
@@ -14,7 +14,7 @@ use Rattle.squares.proofs.Squares.{below-next}
 use Rattle.squares.proofs.RootLaws.{root-law, root-at-most}
 use Rattle.chart.specs.declared.Place.{Place}
 use Rattle.chart.specs.Places.{apart, squaredDistance, distanceOf}
-use Rattle.chart.specs.Readings.{rangeOf, differ}
+use Rattle.chart.specs.Readings.{differ}
 use Rattle.chart.proofs.Differing.{differ-is}
 
 -- By how much the reading misses.
@@ -22,8 +22,8 @@ abbrev pub miss : ℕ → ℕ → ℕ → ℕ → ℕ
 miss y m u d = apart (root y + d) (m + u)
 
 -- It is what the definitions say, for the squared distance y.
-pub miss-is : (p slave : Place) (y m u d : ℕ) → y ≡ squaredDistance p slave → differ (subℕ (rangeOf p slave) m) (subℕ u d) ≡ miss y m u d
-unfolding rangeOf distanceOf
+pub miss-is : (p slave : Place) (y m u d : ℕ) → y ≡ squaredDistance p slave → differ (subℕ (distanceOf p slave) m) (subℕ u d) ≡ miss y m u d
+unfolding distanceOf
 miss-is p slave y m u d e =
     differ-is (root (squaredDistance p slave)) m u d ∙ ap (λ (x : ℕ). apart (root x + d) (m + u)) (sym e)
 

@@ -31,26 +31,26 @@ module _ (s : Standing) where
 
 module _ (q : Question) (w : Window) where
   -- The first test that fails answers.
-  pub search-3 : noneTooLarge (q .wanted) ≡ false → searchOf q w ≡ refused ReadingTooLarge
+  pub search-3 : noneTooLarge (q .rule .wanted) ≡ false → searchOf q w ≡ refused ReadingTooLarge
   unfolding searchOf
   search-3 e = rw e
 
-  pub search-5 : noneTooLarge (q .wanted) ≡ true → isSound (q .chain) ≡ false → searchOf q w ≡ refused Unsound
+  pub search-5 : noneTooLarge (q .rule .wanted) ≡ true → isSound (q .rule .chain) ≡ false → searchOf q w ≡ refused Unsound
   unfolding searchOf
   search-5 e f = rw (e, f)
 
-  pub search-6 : noneTooLarge (q .wanted) ≡ true → isSound (q .chain) ≡ true → isWindow w ≡ false → searchOf q w ≡ refused BadWindow
+  pub search-6 : noneTooLarge (q .rule .wanted) ≡ true → isSound (q .rule .chain) ≡ true → isWindow w ≡ false → searchOf q w ≡ refused BadWindow
   unfolding searchOf
   search-6 e f g = rw (e, f, g)
 
-  pub search-7 : noneTooLarge (q .wanted) ≡ true → isSound (q .chain) ≡ true → isWindow w ≡ true → mostTolerance < q .tolerance → searchOf q w ≡ refused BadTolerance
+  pub search-7 : noneTooLarge (q .rule .wanted) ≡ true → isSound (q .rule .chain) ≡ true → isWindow w ≡ true → mostTolerance < q .rule .tolerance → searchOf q w ≡ refused BadTolerance
   unfolding searchOf
-  search-7 e f g h = rw (e, f, g, lt-leb (q .tolerance) mostTolerance h)
+  search-7 e f g h = rw (e, f, g, lt-leb (q .rule .tolerance) mostTolerance h)
 
   -- With the tests passed the answer is the walk's.
-  pub search-walks : Accepted q w → searchOf q w ≡ ended (visit q (w .k) (w .corner) start)
+  pub search-walks : Accepted (q .rule) w → searchOf q w ≡ ended (visit q (w .k) (w .corner) start)
   unfolding searchOf
-  search-walks a = rw (a .readings, a .chain, a .window, le-leb (q .tolerance) mostTolerance (a .tolerance))
+  search-walks a = rw (a .readings, a .chain, a .window, le-leb (q .rule .tolerance) mostTolerance (a .tolerance))
 
 -- The places of a list, two entries each.
 pub length-entries : (ps : List Place) → length (entriesOf ps) ≡ 2 * length ps

@@ -2,7 +2,7 @@
 use Prim.Native.Nat.{ℕ, _/_, _≤_}
 use mathlib.Core.Path.{_≡_, ap, ap₂, _∙_, subst⁻¹}
 use mathlib.Core.Bool.{true}
-use mathlib.Core.List.{[], _∷_}
+use mathlib.Core.List.{List, [], _∷_}
 use native.Mathlib.Nat.{le-trans}
 use borrow.Author.Tests.{leb-true}
 use lib.Dec.{leb}
@@ -16,7 +16,7 @@ use Rattle.chart.proofs.PlaceLaws.{both}
 use Rattle.chart.proofs.ChainLaws.{stations-in-range}
 use Rattle.search.specs.declared.Wish.{Wish}
 use Rattle.search.specs.declared.Hunt.{Hunt}
-use Rattle.search.specs.Questions.{questionOf, mostReading, mostTolerance, noneTooLarge}
+use Rattle.search.specs.Questions.{Question, questionOf, mostReading, mostTolerance, noneTooLarge}
 use Rattle.search.specs.Holding.{above, below, wantedBy, questionBy, Fair, Ready}
 use Rattle.search.proofs.Signs.{made-again, above-small, below-small}
 
@@ -32,7 +32,7 @@ fair-wish slave r e h =
     record { slave = e; above = le-trans (above-small r) h; below = le-trans (below-small r) h }
 
 -- No reading is too large: neither of the two.
-both-small : (c : Chain) (ra rb : ℤ) → noneTooLarge (wantedOf c ra rb) ≡ true → (natAbs ra ≤ mostReading) × (natAbs rb ≤ mostReading)
+both-small : (c : Chain) (ra rb : ℤ) → noneTooLarge (wantedOf c (ra ∷ rb ∷ [])) ≡ true → (natAbs ra ≤ mostReading) × (natAbs rb ≤ mostReading)
 unfolding noneTooLarge
 both-small c ra rb e =
     let first = both (leb (natAbs ra) mostReading) _ e in
@@ -44,14 +44,21 @@ module _ (c : Chain) (ra rb : ℤ) (tolerance allowance room : ℕ) (a b : Wish)
   made = record { master = c .master; a = a; b = b; tolerance = tolerance; allowance = allowance; room = room }
 
   -- It asks what the readings ask.
-  pub asks : (entries : ℕ) → room ≡ entries / 2 → questionBy made ≡ questionOf c ra rb tolerance allowance entries
+  pub asks : (entries : ℕ) → room ≡ entries / 2 → questionBy made ≡ questionOf c (ra ∷ rb ∷ []) tolerance allowance entries
   asks entries e =
       ap₂ (λ (x y : Wish). questionBy (record { master = c .master; a = x; b = y; tolerance = tolerance; allowance = allowance; room = room })) ea eb
-      ∙ ap₂ (λ (x y : Wanted). record { chain = c; wanted = x ∷ y ∷ []; tolerance = tolerance; allowance = allowance; room = room }) (wanted-again (c .a) ra) (wanted-again (c .b) rb)
-      ∙ ap (λ (n : ℕ). record { chain = c; wanted = wantedOf c ra rb; tolerance = tolerance; allowance = allowance; room = n }) e
+      ∙ ap₂ (λ (x y : Wanted). question (x ∷ y ∷ []) room) (wanted-again (c .a) ra) (wanted-again (c .b) rb)
+      ∙ ap (question (wantedOf c (ra ∷ rb ∷ []))) e
+    where
+      question : List Wanted → ℕ → Question
+      question ws n =
+          record {
+            rule = record { chain = c; wanted = ws; tolerance = tolerance };
+            limits = record { allowance = allowance; room = n };
+          }
 
   -- With the tests passed it is ready.
-  pub ready : noneTooLarge (wantedOf c ra rb) ≡ true → isSound c ≡ true → tolerance ≤ mostTolerance → Ready made
+  pub ready : noneTooLarge (wantedOf c (ra ∷ rb ∷ [])) ≡ true → isSound c ≡ true → tolerance ≤ mostTolerance → Ready made
   ready small sound t =
       let stations = stations-in-range c sound in
       let sizes = both-small c ra rb small in

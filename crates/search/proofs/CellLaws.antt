@@ -11,7 +11,7 @@ use native.Mathlib.Decide.{decLe}
 use lib.ListN.{length, length-append}
 use Rattle.chart.specs.declared.Place.{Place}
 use Rattle.search.specs.Windows.{east, north, northEast, IsCellOf}
-use Rattle.search.specs.Questions.{Question, matches}
+use Rattle.search.specs.Questions.{Rule, matches}
 use Rattle.search.specs.Cells.{cells, ifSo, those, matching}
 
 same-place : (p o : Place) → p .easting ≡ o .easting → p .northing ≡ o .northing → p ≡ o
@@ -121,22 +121,22 @@ those-none f [] h = refl
 those-none f (p ∷ l) h = rw (h p (List·Memᴰ·head refl)) (those-none f l (λ o m. h o (List·Memᴰ·tail m)))
 
 -- A place inside a square that matches is one of its matching cells.
-pub matching-all : (q : Question) (k : ℕ) (p o : Place) → IsCellOf k p o → matches q o ≡ true → List·Memᴰ o (matching q k p)
+pub matching-all : (rule : Rule) (k : ℕ) (p o : Place) → IsCellOf k p o → matches rule o ≡ true → List·Memᴰ o (matching rule k p)
 unfolding matching
-matching-all q k p o i t = those-in (matches q) (cells k p) o t (inside-cell k p o i)
+matching-all rule k p o i t = those-in (matches rule) (cells k p) o t (inside-cell k p o i)
 
 -- A matching cell of a square is a place inside it, and matches.
-pub matching-only : (q : Question) (k : ℕ) (p o : Place) → List·Memᴰ o (matching q k p) → IsCellOf k p o × (matches q o ≡ true)
+pub matching-only : (rule : Rule) (k : ℕ) (p o : Place) → List·Memᴰ o (matching rule k p) → IsCellOf k p o × (matches rule o ≡ true)
 unfolding matching
-matching-only q k p o m =
-    let found = in-those (matches q) (cells k p) o m in
+matching-only rule k p o m =
+    let found = in-those (matches rule) (cells k p) o m in
     (cell-inside k p o (found .1), found .0)
 
 -- The matching cells of a square are those of its quarters, one quarter after the other.
-pub matching-square : (q : Question) (k : ℕ) (p : Place) → matching q (suc k) p ≡ matching q k p ++ (matching q k (east (2 ^ k) p) ++ (matching q k (north (2 ^ k) p) ++ matching q k (northEast (2 ^ k) p)))
+pub matching-square : (rule : Rule) (k : ℕ) (p : Place) → matching rule (suc k) p ≡ matching rule k p ++ (matching rule k (east (2 ^ k) p) ++ (matching rule k (north (2 ^ k) p) ++ matching rule k (northEast (2 ^ k) p)))
 unfolding matching cells
-matching-square q k p = simp those-append
+matching-square rule k p = simp those-append
 
 -- So they are as many as those of the four.
-pub matching-counted : (q : Question) (k : ℕ) (p : Place) → length (matching q (suc k) p) ≡ length (matching q k p) + (length (matching q k (east (2 ^ k) p)) + (length (matching q k (north (2 ^ k) p)) + length (matching q k (northEast (2 ^ k) p))))
-matching-counted q k p = ap length (matching-square q k p) ∙ simp length-append
+pub matching-counted : (rule : Rule) (k : ℕ) (p : Place) → length (matching rule (suc k) p) ≡ length (matching rule k p) + (length (matching rule k (east (2 ^ k) p)) + (length (matching rule k (north (2 ^ k) p)) + length (matching rule k (northEast (2 ^ k) p))))
+matching-counted rule k p = ap length (matching-square rule k p) ∙ simp length-append

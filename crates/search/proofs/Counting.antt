@@ -7,7 +7,7 @@ use native.Mathlib.Nat.{pow-succ'}
 use native.Mathlib.Numerals.{add-one}
 use Rattle.chart.specs.declared.Place.{Place}
 use Rattle.search.specs.Windows.{east, north, northEast}
-use Rattle.search.specs.Questions.{Question, isKept}
+use Rattle.search.specs.Questions.{Rule, isKept}
 use Rattle.search.specs.Cells.{whereSo, visitsOf, mostVisits}
 
 tower : ℕ → ℕ
@@ -32,19 +32,19 @@ where-at-most : (b : Bool) (n m : ℕ) → n ≤ m → whereSo b (λ _. n) ≤ m
 where-at-most true n m h = h
 where-at-most false n m h = omega arith
 
-in-tower : (q : Question) (k : ℕ) (p : Place) → visitsOf q k p ≤ tower k
+in-tower : (rule : Rule) (k : ℕ) (p : Place) → visitsOf rule k p ≤ tower k
 unfolding visitsOf tower
-in-tower q zero p = omega arith
-in-tower q (suc k) p =
+in-tower rule zero p = omega arith
+in-tower rule (suc k) p =
     let se : Place = east (2 ^ k) p in
     let nw : Place = north (2 ^ k) p in
     let ne : Place = northEast (2 ^ k) p in
     omega (
       arith,
-      where-at-most (isKept q k p) (visitsOf q k p + (visitsOf q k se + (visitsOf q k nw + visitsOf q k ne))) (4 * tower k)
-          (omega (arith, in-tower q k p, in-tower q k se, in-tower q k nw, in-tower q k ne)),
+      where-at-most (isKept rule k p) (visitsOf rule k p + (visitsOf rule k se + (visitsOf rule k nw + visitsOf rule k ne))) (4 * tower k)
+          (omega (arith, in-tower rule k p, in-tower rule k se, in-tower rule k nw, in-tower rule k ne)),
     )
 
 -- The law.
-pub at-most : (q : Question) (k : ℕ) (p : Place) → visitsOf q k p ≤ mostVisits k
-at-most q k p = omega (arith, in-tower q k p, most-is k)
+pub at-most : (rule : Rule) (k : ℕ) (p : Place) → visitsOf rule k p ≤ mostVisits k
+at-most rule k p = omega (arith, in-tower rule k p, most-is k)

@@ -11,7 +11,7 @@ use Rattle.chart.specs.declared.Place.{Place}
 use Rattle.chart.specs.Places.{apart}
 use Rattle.chart.proofs.Moving.{within-moves}
 use Rattle.search.specs.Windows.{northEast, IsCellOf}
-use Rattle.search.specs.Questions.{Question, matches, isKept}
+use Rattle.search.specs.Questions.{Rule, matches, isKept}
 use Rattle.search.specs.Cells.{matching, cells}
 use Rattle.search.proofs.CellLaws.{those-none, cell-inside}
 
@@ -40,13 +40,13 @@ from-middle : (p o h side : ℕ) → side ≡ 2 * h → p ≤ o → o < p + side
 from-middle p o h side e l u = omega arith
 
 -- Where a cell of the square matches, the square is kept.
-kept-by : (q : Question) (k : ℕ) (p o : Place) → IsCellOf (suc k) p o → matches q o ≡ true → isKept q k p ≡ true
-kept-by q k p o i e =
-    within-moves (q .tolerance) _ (q .chain) (q .wanted) (northEast (2 ^ k) p) o (2 ^ k) (2 ^ k) (span k)
+kept-by : (rule : Rule) (k : ℕ) (p o : Place) → IsCellOf (suc k) p o → matches rule o ≡ true → isKept rule k p ≡ true
+kept-by rule k p o i e =
+    within-moves (rule .tolerance) _ (rule .chain) (rule .wanted) (northEast (2 ^ k) p) o (2 ^ k) (2 ^ k) (span k)
     (from-middle (p .easting) (o .easting) (2 ^ k) (2 ^ suc k) (pow-succ' 2 k) (i .from-west) (i .to-east))
     (from-middle (p .northing) (o .northing) (2 ^ k) (2 ^ suc k) (pow-succ' 2 k) (i .from-south) (i .to-north))
     (spans k)
-    (room-for-it (q .tolerance) k)
+    (room-for-it (rule .tolerance) k)
     e
 
 not-so : (b : Bool) → (b ≡ true → ⊥) → b ≡ false
@@ -54,8 +54,8 @@ not-so true f = absurd (f refl)
 not-so false f = refl
 
 -- The dropping law.
-pub dropped-none : (q : Question) (k : ℕ) (p : Place) → isKept q k p ≡ false → matching q (suc k) p ≡ []
+pub dropped-none : (rule : Rule) (k : ℕ) (p : Place) → isKept rule k p ≡ false → matching rule (suc k) p ≡ []
 unfolding matching
-dropped-none q k p e =
-    those-none (matches q) (cells (suc k) p)
-    (λ o m. not-so (matches q o) (λ t. true≢false (sym (kept-by q k p o (cell-inside (suc k) p o m) t) ∙ e)))
+dropped-none rule k p e =
+    those-none (matches rule) (cells (suc k) p)
+    (λ o m. not-so (matches rule o) (λ t. true≢false (sym (kept-by rule k p o (cell-inside (suc k) p o m) t) ∙ e)))

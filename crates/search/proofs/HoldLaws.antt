@@ -67,13 +67,13 @@ module _ (s : Standing) (t : Tally) (l : List ℕ) (h : Holds s t l) where
 
   module _ (q : Question) (p : Place) where
     -- A cell is missed, finds the list full, or is listed.
-    pub missed-holds : matches q p ≡ false → Holds (cell q p s) t l
+    pub missed-holds : matches (q .rule) p ≡ false → Holds (cell q p s) t l
     missed-holds e = subst⁻¹ (λ (x : Standing). Holds x t l) (cell-missed q p s e) h
 
-    pub full-holds : matches q p ≡ true → q .room ≤ t .count → Holds (cell q p s) (stopTally 9 t) l
+    pub full-holds : matches (q .rule) p ≡ true → q .limits .room ≤ t .count → Holds (cell q p s) (stopTally 9 t) l
     full-holds e full = subst⁻¹ (λ (x : Standing). Holds x (stopTally 9 t) l) (cell-full q p s e (omega (arith, h .count))) (stop-holds 9)
 
-    pub listed-holds : matches q p ≡ true → t .count < q .room → 2 * q .room ≤ length l → Holds (cell q p s) (record { stop = t .stop; count = t .count + 1; visits = t .visits }) (set (set l (2 * t .count) (p .easting)) (2 * t .count + 1) (p .northing))
+    pub listed-holds : matches (q .rule) p ≡ true → t .count < q .limits .room → 2 * q .limits .room ≤ length l → Holds (cell q p s) (record { stop = t .stop; count = t .count + 1; visits = t .visits }) (set (set l (2 * t .count) (p .easting)) (2 * t .count + 1) (p .northing))
     listed-holds e room fits =
         subst⁻¹ (λ (x : Standing). Holds x (record { stop = t .stop; count = t .count + 1; visits = t .visits }) (set (set l (2 * t .count) (p .easting)) (2 * t .count + 1) (p .northing)))
         (cell-listed q p s e (omega (arith, h .count)))
@@ -83,30 +83,30 @@ module _ (s : Standing) (t : Tally) (l : List ℕ) (h : Holds s t l) where
     pub after-holds : (k : ℕ) → (t .stop ≡ 0 → ⊥) → Holds (visit q k p s) t l
     after-holds k f = subst⁻¹ (λ (x : Standing). Holds x t l) (visit-after q k p s (λ e. f (h .stop ∙ e))) h
 
-    pub out-holds : (k : ℕ) → t .stop ≡ 0 → q .allowance ≤ t .visits → Holds (visit q k p s) (stopTally 10 t) l
+    pub out-holds : (k : ℕ) → t .stop ≡ 0 → q .limits .allowance ≤ t .visits → Holds (visit q k p s) (stopTally 10 t) l
     out-holds k z a =
         subst⁻¹ (λ (x : Standing). Holds x (stopTally 10 t) l)
         (visit-out q k p s (sym (h .stop) ∙ z) (omega (arith, h .visits)))
         (stop-holds 10)
 
     -- A visit that begins: what holds the cell's walk, the dropped square's or the quarters' holds the visit's.
-    module _ (z : t .stop ≡ 0) (a : t .visits < q .allowance) where
+    module _ (z : t .stop ≡ 0) (a : t .visits < q .limits .allowance) where
       pub cell-holds : (k : ℕ) (r : Tally) (l' : List ℕ) → k ≡ 0 → Holds (cell q p (counted s)) r l' → Holds (visit q k p s) r l'
       cell-holds k r l' e g =
           subst⁻¹ (λ (x : Standing). Holds x r l')
           (ap (λ (x : ℕ). visit q x p s) e ∙ visit-cell q p s (sym (h .stop) ∙ z) (omega (arith, h .visits)))
           g
 
-      square : (k j : ℕ) (b : Bool) → k ≡ suc j → isKept q j p ≡ b → visit q k p s ≡ either b (quarters q j p) unchanged (counted s)
+      square : (k j : ℕ) (b : Bool) → k ≡ suc j → isKept (q .rule) j p ≡ b → visit q k p s ≡ either b (quarters q j p) unchanged (counted s)
       square k j b ek e =
           ap (λ (x : ℕ). visit q x p s) ek
           ∙ visit-square q j p s (sym (h .stop) ∙ z) (omega (arith, h .visits))
           ∙ ap (λ (x : Bool). either x (quarters q j p) unchanged (counted s)) e
 
-      pub dropped-holds : (k j : ℕ) → k ≡ suc j → isKept q j p ≡ false → Holds (visit q k p s) (begunTally t) l
+      pub dropped-holds : (k j : ℕ) → k ≡ suc j → isKept (q .rule) j p ≡ false → Holds (visit q k p s) (begunTally t) l
       dropped-holds k j ek e = subst⁻¹ (λ (x : Standing). Holds x (begunTally t) l) (square k j false ek e) (count-holds z)
 
-      pub quarters-hold : (k j : ℕ) (se nw ne : Place) (r : Tally) (l' : List ℕ) → k ≡ suc j → isKept q j p ≡ true → se ≡ east (2 ^ j) p → nw ≡ north (2 ^ j) p → ne ≡ northEast (2 ^ j) p → Holds (visit q j ne (visit q j nw (visit q j se (visit q j p (counted s))))) r l' → Holds (visit q k p s) r l'
+      pub quarters-hold : (k j : ℕ) (se nw ne : Place) (r : Tally) (l' : List ℕ) → k ≡ suc j → isKept (q .rule) j p ≡ true → se ≡ east (2 ^ j) p → nw ≡ north (2 ^ j) p → ne ≡ northEast (2 ^ j) p → Holds (visit q j ne (visit q j nw (visit q j se (visit q j p (counted s))))) r l' → Holds (visit q k p s) r l'
       quarters-hold k j se nw ne r l' ek e ese enw ene g =
           subst⁻¹ (λ (x : Standing). Holds x r l')
           (square k j true ek e

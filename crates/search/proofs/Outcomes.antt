@@ -29,7 +29,7 @@ walk q w = visit q (w .k) (w .corner) start
 
 -- The outcome of a walk that goes to its end.
 abbrev pub complete : Question → Window → Outcome
-complete q w = gone (matchingIn q w) (visitsIn q w)
+complete q w = gone (matchingIn (q .rule) w) (visitsIn (q .rule) w)
 
 from-nought : (n : ℕ) → 0 + n ≡ n
 from-nought n = omega arith
@@ -42,7 +42,7 @@ module _ (q : Question) (w : Window) where
       ended-gone (walk q w) (λ x. eqb-false 0 10 refl (sym e ∙ x)) (λ x. eqb-false 0 9 refl (sym e ∙ x))
       ∙ ap₂ gone (ap (λ (s : Standing). s .places) done) (ap (λ (s : Standing). s .visits) done ∙ from-nought _)
 
-  module _ (a : Accepted q w) (enough : AmpleAllowance q w) where
+  module _ (a : Accepted (q .rule) w) (enough : AmpleAllowance q w) where
     -- With ample allowance and room.
     pub ample-complete : AmpleRoom q w → searchOf q w ≡ complete q w
     ample-complete room =
@@ -50,7 +50,7 @@ module _ (q : Question) (w : Window) where
         ∙ unstopped (ap (λ (s : Standing). s .stop) (whole q (w .k) (w .corner) [] 0 (omega arith) (omega arith)))
 
     -- With ample allowance and too little room.
-    pub short-full : q .room < length (matchingIn q w) → searchOf q w ≡ refused (NoRoom (walk q w .visits))
+    pub short-full : q .limits .room < length (matchingIn (q .rule) w) → searchOf q w ≡ refused (NoRoom (walk q w .visits))
     short-full room =
         let nine : walk q w .stop ≡ 9 = too-little-room q (w .k) (w .corner) enough room in
         search-walks q w a ∙ ended-full (walk q w) (λ x. eqb-false 9 10 refl (sym nine ∙ x)) nine
@@ -58,14 +58,14 @@ module _ (q : Question) (w : Window) where
 -- How a search ends: at a test before the walk, complete, for want of room, or with the allowance used up.
 pub data Ending (q : Question) (w : Window) : Outcome → Type 0 where
   early : (a : Answer) → (8 ≤ searchFigures a .refusal → ⊥) → (searchFigures a .visits ≡ 0) → Ending q w (refused a)
-  done : visitsIn q w ≤ q .allowance → Ending q w (complete q w)
-  full : (v : ℕ) → v ≤ q .allowance → Ending q w (refused (NoRoom v))
-  out : Ending q w (refused (AllowanceUsed (q .allowance)))
+  done : visitsIn (q .rule) w ≤ q .limits .allowance → Ending q w (complete q w)
+  full : (v : ℕ) → v ≤ q .limits .allowance → Ending q w (refused (NoRoom v))
+  out : Ending q w (refused (AllowanceUsed (q .limits .allowance)))
 
 module _ (q : Question) (w : Window) where
-  by-stop : Accepted q w → (walk q w .stop ≡ 0) ⊎ ((walk q w .stop ≡ 9) ⊎ (walk q w .stop ≡ 10)) → Ending q w (searchOf q w)
+  by-stop : Accepted (q .rule) w → (walk q w .stop ≡ 0) ⊎ ((walk q w .stop ≡ 9) ⊎ (walk q w .stop ≡ 10)) → Ending q w (searchOf q w)
   by-stop a (inl z) =
-      let most : visitsIn q w ≤ q .allowance =
+      let most : visitsIn (q .rule) w ≤ q .limits .allowance =
       omega (arith, bounded q (w .k) (w .corner) .most, ap (λ (s : Standing). s .visits) (finished q (w .k) (w .corner) [] 0 z)) in
       subst⁻¹ (Ending q w) (search-walks q w a ∙ unstopped q w z) (done most)
   by-stop a (inr (inl n)) =
@@ -76,7 +76,7 @@ module _ (q : Question) (w : Window) where
       (search-walks q w a ∙ ended-out (walk q w) t ∙ ap (λ (v : ℕ). refused (AllowanceUsed v)) (bounded q (w .k) (w .corner) .all t))
       out
 
-  by-tests : (b c d : Bool) → noneTooLarge (q .wanted) ≡ b → isSound (q .chain) ≡ c → isWindow w ≡ d → Dec (q .tolerance ≤ mostTolerance) → Ending q w (searchOf q w)
+  by-tests : (b c d : Bool) → noneTooLarge (q .rule .wanted) ≡ b → isSound (q .rule .chain) ≡ c → isWindow w ≡ d → Dec (q .rule .tolerance ≤ mostTolerance) → Ending q w (searchOf q w)
   unfolding searchFigures
   by-tests false c d e f g t = subst⁻¹ (Ending q w) (search-3 q w e) (early ReadingTooLarge (λ h. omega arith) refl)
   by-tests true false d e f g t = subst⁻¹ (Ending q w) (search-5 q w e f) (early Unsound (λ h. omega arith) refl)
@@ -89,4 +89,4 @@ module _ (q : Question) (w : Window) where
   -- Every search ends in one of these ways.
   pub ending : Ending q w (searchOf q w)
   ending =
-      by-tests (noneTooLarge (q .wanted)) (isSound (q .chain)) (isWindow w) refl refl refl (decLe (q .tolerance) mostTolerance)
+      by-tests (noneTooLarge (q .rule .wanted)) (isSound (q .rule .chain)) (isWindow w) refl refl refl (decLe (q .rule .tolerance) mostTolerance)

@@ -73,16 +73,16 @@ end-counts s =
 pub search-counts : (q : Question) (w : Window) → Counts (searchOf q w)
 unfolding searchOf searchFigures
 search-counts q w =
-    test-counts (noneTooLarge (q .wanted)) ReadingTooLarge _ refl
-    (test-counts (isSound (q .chain)) Unsound _ refl
+    test-counts (noneTooLarge (q .rule .wanted)) ReadingTooLarge _ refl
+    (test-counts (isSound (q .rule .chain)) Unsound _ refl
     (test-counts (isWindow w) BadWindow _ refl
-    (test-counts (leb (q .tolerance) mostTolerance) BadTolerance _ refl (end-counts (visit q (w .k) (w .corner) start)))))
+    (test-counts (leb (q .rule .tolerance) mostTolerance) BadTolerance _ refl (end-counts (visit q (w .k) (w .corner) start)))))
 
 module _ (q : Question) (w : Window) where
   -- Whatever the end, what is listed is among the matching cells.
-  pub places-of : (o : Outcome) → Ending q w o → (p : Place) → Listed p (o .places) → Listed p (matchingIn q w)
+  pub places-of : (o : Outcome) → Ending q w o → (p : Place) → Listed p (o .places) → Listed p (matchingIn (q .rule) w)
   places-of _ (early a f v) p m = absurd (List·Memᴰ·not-nil m)
-  places-of _ (done most) p m = subst (Listed p) (gone-places (matchingIn q w) (visitsIn q w)) m
+  places-of _ (done most) p m = subst (Listed p) (gone-places (matchingIn (q .rule) w) (visitsIn (q .rule) w)) m
   places-of _ (full v most) p m = absurd (List·Memᴰ·not-nil m)
   places-of _ out p m = absurd (List·Memᴰ·not-nil m)
 
@@ -90,30 +90,30 @@ module _ (q : Question) (w : Window) where
   pub rises-of : (o : Outcome) → Ending q w o → Rises (chartNumber w) (o .places)
   unfolding Rises
   rises-of _ (early a f v) = tt
-  rises-of _ (done most) = subst⁻¹ (Rises (chartNumber w)) (gone-places (matchingIn q w) (visitsIn q w)) (matching-rises q w)
+  rises-of _ (done most) = subst⁻¹ (Rises (chartNumber w)) (gone-places (matchingIn (q .rule) w) (visitsIn (q .rule) w)) (matching-rises (q .rule) w)
   rises-of _ (full v most) = tt
   rises-of _ out = tt
 
   -- 8 ends only a walk that found no matching cell.
-  pub none-of : (o : Outcome) → Ending q w o → searchFigures (o .answer) .refusal ≡ 8 → matchingIn q w ≡ []
+  pub none-of : (o : Outcome) → Ending q w o → searchFigures (o .answer) .refusal ≡ 8 → matchingIn (q .rule) w ≡ []
   unfolding searchFigures
   none-of _ (early a f v) e = absurd (f (omega (arith, e)))
-  none-of _ (done most) e = gone-none (matchingIn q w) (visitsIn q w) e
+  none-of _ (done most) e = gone-none (matchingIn (q .rule) w) (visitsIn (q .rule) w) e
   none-of _ (full v most) e = absurd (eqb-false 9 8 refl e)
   none-of _ out e = absurd (eqb-false 10 8 refl e)
 
   -- Where there is no matching cell, no cell matches.
-  pub unmatched : (o : Place) → IsCellIn w o → matchingIn q w ≡ [] → (b : Bool) → matches q o ≡ b → b ≡ false
-  unmatched o i e true m = absurd (List·Memᴰ·not-nil (subst (Listed o) e (matching-all q (w .k) (w .corner) o i m)))
+  pub unmatched : (o : Place) → IsCellIn w o → matchingIn (q .rule) w ≡ [] → (b : Bool) → matches (q .rule) o ≡ b → b ≡ false
+  unmatched o i e true m = absurd (List·Memᴰ·not-nil (subst (Listed o) e (matching-all (q .rule) (w .k) (w .corner) o i m)))
   unmatched o i e false m = refl
 
   -- No end has more visits than allowed, and 10 has exactly as many.
-  pub spent-of : (o : Outcome) → Ending q w o → (searchFigures (o .answer) .visits ≤ q .allowance) × (searchFigures (o .answer) .refusal ≡ 10 → searchFigures (o .answer) .visits ≡ q .allowance)
+  pub spent-of : (o : Outcome) → Ending q w o → (searchFigures (o .answer) .visits ≤ q .limits .allowance) × (searchFigures (o .answer) .refusal ≡ 10 → searchFigures (o .answer) .visits ≡ q .limits .allowance)
   unfolding searchFigures
   spent-of _ (early a f v) = (omega (arith, v), λ e. absurd (f (omega (arith, e))))
   spent-of _ (done most) = (
-    omega (arith, gone-visits (matchingIn q w) (visitsIn q w)),
-    λ e. absurd (omega (arith, e, gone-small (matchingIn q w) (visitsIn q w))),
+    omega (arith, gone-visits (matchingIn (q .rule) w) (visitsIn (q .rule) w)),
+    λ e. absurd (omega (arith, e, gone-small (matchingIn (q .rule) w) (visitsIn (q .rule) w))),
   )
   spent-of _ (full v most) = (most, λ e. absurd (eqb-false 9 10 refl e))
   spent-of _ out = (omega arith, λ e. refl)

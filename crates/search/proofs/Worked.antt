@@ -2,23 +2,23 @@
 -- `demands`.
 use Prim.Native.Nat.{ℕ}
 use mathlib.Core.Path.{_≡_, refl}
-use mathlib.Core.List.{[], _∷_}
+use mathlib.Core.List.{List, [], _∷_}
 use lib.IntN.{ℤ, negsuc}
 use Rattle.squares.specs.Root.{root}
 use Rattle.chart.specs.declared.Place.{Place}
 use Rattle.chart.specs.Places.{distanceOf}
 use Rattle.chart.specs.Readings.{rangeOf, readingOf, differ, within}
 use Rattle.search.specs.declared.Window.{Window}
-use Rattle.search.specs.Questions.{Question, questionOf}
+use Rattle.search.specs.Questions.{Rule, ruleOf}
 use Rattle.search.specs.Answers.{entriesOf, listOf}
 use Rattle.search.specs.Cells.{interleave, chartNumber, visitsOf}
 
 abbrev at : ℕ → ℕ → Place
 at e n = record { easting = e; northing = n }
 
--- Chain 1 with two readings, a tolerance, an allowance and the entries of a list.
-abbrev asked : ℤ → ℤ → ℕ → ℕ → ℕ → Question
-asked ra rb = questionOf (record { master = at 0 0; a = at 30000 0; b = at 0 40000 }) ra rb
+-- Chain 1 with readings and a tolerance.
+abbrev asked : List ℤ → ℕ → Rule
+asked = ruleOf (record { master = at 0 0; a = at 30000 0; b = at 0 40000 })
 
 abbrev window : ℕ → ℕ → ℕ → Window
 window e n k = record { corner = at e n; k = k }
@@ -38,6 +38,6 @@ unfolding interleave
 chart-number = refl
 
 -- P4's window takes one visit and one for each quarter.
-p4-visits : visitsOf (asked (negsuc 9999) (negsuc 19999) 0 100 8) 1 (at 30000 40000) ≡ 5
+p4-visits : visitsOf (asked (negsuc 9999 ∷ negsuc 19999 ∷ []) 0) 1 (at 30000 40000) ≡ 5
 unfolding visitsOf within differ readingOf rangeOf distanceOf root
 p4-visits = refl

@@ -5,15 +5,17 @@ use mathlib.Core.Path.{_≡_}
 use mathlib.Core.Bool.{Bool, true, false, cond}
 use mathlib.Core.List.{List, [], _∷_, _++_}
 use lib.Dec.{leb, eqb}
+use lib.IntN.{ℤ}
 use lib.ListN.{length, replicate}
 use Rattle.chart.specs.declared.Place.{Place}
+use Rattle.chart.specs.declared.Chain.{Chain}
 use Rattle.chart.specs.Chains.{isSound}
 use Rattle.search.specs.declared.Window.{Window}
 use Rattle.search.specs.declared.Answer.{Answer}
 use Rattle.search.specs.declared.Answer.the-variants.{Places, ReadingTooLarge, Unsound, BadWindow, BadTolerance, NoMatch, NoRoom, AllowanceUsed}
 use Rattle.search.specs.declared.SearchFigures.{SearchFigures}
 use Rattle.search.specs.Windows.{isWindow}
-use Rattle.search.specs.Questions.{Question, mostTolerance, noneTooLarge}
+use Rattle.search.specs.Questions.{Rule, Question, questionOf, mostTolerance, noneTooLarge}
 use Rattle.search.specs.Walk.{Standing, start, visit}
 
 -- An answer, and the places it lists.
@@ -42,19 +44,19 @@ unless true a rest = rest tt
 unless false a rest = refused a
 
 -- The tests before the walk all pass.
-pub record Accepted (q : Question) (w : Window) : Type 0 where
-  pub readings : noneTooLarge (q .wanted) ≡ true
-  pub chain : isSound (q .chain) ≡ true
+pub record Accepted (rule : Rule) (w : Window) : Type 0 where
+  pub readings : noneTooLarge (rule .wanted) ≡ true
+  pub chain : isSound (rule .chain) ≡ true
   pub window : isWindow w ≡ true
-  pub tolerance : q .tolerance ≤ mostTolerance
+  pub tolerance : rule .tolerance ≤ mostTolerance
 
 -- The search: 3, 5, 6, 7, then the walk.
 unfoldable pub searchOf : Question → Window → Outcome
 searchOf q w =
-    unless (noneTooLarge (q .wanted)) ReadingTooLarge (λ _.
-    unless (isSound (q .chain)) Unsound (λ _.
+    unless (noneTooLarge (q .rule .wanted)) ReadingTooLarge (λ _.
+    unless (isSound (q .rule .chain)) Unsound (λ _.
     unless (isWindow w) BadWindow (λ _.
-    unless (leb (q .tolerance) mostTolerance) BadTolerance (λ _.
+    unless (leb (q .rule .tolerance) mostTolerance) BadTolerance (λ _.
     ended (visit q (w .k) (w .corner) start)))))
 
 -- Easting and northing of each place in turn.
@@ -65,6 +67,17 @@ entriesOf (p ∷ ps) = p .easting ∷ p .northing ∷ entriesOf ps
 -- A list of so many entries with these places: theirs first, all others zero.
 unfoldable pub listOf : ℕ → List Place → List ℕ
 listOf entries ps = entriesOf ps ++ replicate (entries - 2 * length ps) 0
+
+-- All that a search leaves: its answer, and every entry of its list, whatever it held.
+pub record SearchLeft : Type 0 where
+  pub answer : Answer
+  pub list : List ℕ
+
+-- What a search of a window for readings, one for each slave, leaves in a list of so many entries.
+abbrev pub searchLeft : Chain → List ℤ → Window → ℕ → ℕ → ℕ → SearchLeft
+searchLeft c readings w tolerance allowance entries =
+    let o = searchOf (questionOf c readings tolerance allowance entries) w in
+    record { answer = o .answer; list = listOf entries (o .places) }
 
 -- An answer in figures: the number of the refusal, 0 for none, the count of places and the visits.
 unfoldable pub searchFigures : Answer → SearchFigures

@@ -8,7 +8,7 @@ use lib.ListN.{length}
 use Rattle.chart.specs.declared.Place.{Place}
 use Rattle.search.specs.declared.Window.{Window}
 use Rattle.search.specs.Windows.{east, north, northEast, IsCellIn}
-use Rattle.search.specs.Questions.{Question, matches, isKept}
+use Rattle.search.specs.Questions.{Rule, Question, matches, isKept}
 
 -- The lowest k bits of two numbers interleaved, the northing bit above the easting bit at each place.
 unfoldable pub interleave : ℕ → ℕ → ℕ → ℕ
@@ -41,8 +41,8 @@ those test [] = []
 those test (p ∷ ps) = ifSo (test p) p (those test ps)
 
 -- The matching cells of a square.
-unfoldable pub matching : Question → ℕ → Place → List Place
-matching q k p = those (matches q) (cells k p)
+unfoldable pub matching : Rule → ℕ → Place → List Place
+matching rule k p = those (matches rule) (cells k p)
 
 -- n, worked out only if so; else 0.
 abbrev pub whereSo : Bool → (Unit {0} → ℕ) → ℕ
@@ -50,26 +50,26 @@ whereSo true n = n tt
 whereSo false n = 0
 
 -- The visits that a square takes: one, and those of its quarters where it is not dropped.
-unfoldable pub visitsOf : Question → ℕ → Place → ℕ
-visitsOf q zero p = 1
-visitsOf q (suc k) p =
-    1 + whereSo (isKept q k p)
-    (λ _. visitsOf q k p + (visitsOf q k (east (2 ^ k) p) + (visitsOf q k (north (2 ^ k) p) + visitsOf q k (northEast (2 ^ k) p))))
+unfoldable pub visitsOf : Rule → ℕ → Place → ℕ
+visitsOf rule zero p = 1
+visitsOf rule (suc k) p =
+    1 + whereSo (isKept rule k p)
+    (λ _. visitsOf rule k p + (visitsOf rule k (east (2 ^ k) p) + (visitsOf rule k (north (2 ^ k) p) + visitsOf rule k (northEast (2 ^ k) p))))
 
 -- The most that any square of side 2^k takes.
 abbrev pub mostVisits : ℕ → ℕ
 mostVisits k = (4 ^ (k + 1) - 1) / 3
 
 -- The matching cells of a window, and the visits that it takes.
-abbrev pub matchingIn : Question → Window → List Place
-matchingIn q w = matching q (w .k) (w .corner)
+abbrev pub matchingIn : Rule → Window → List Place
+matchingIn rule w = matching rule (w .k) (w .corner)
 
-abbrev pub visitsIn : Question → Window → ℕ
-visitsIn q w = visitsOf q (w .k) (w .corner)
+abbrev pub visitsIn : Rule → Window → ℕ
+visitsIn rule w = visitsOf rule (w .k) (w .corner)
 
 -- A cell of the window that matches.
-abbrev pub IsMatch : Question → Window → Place → Type 0
-IsMatch q w p = IsCellIn w p × (matches q p ≡ true)
+abbrev pub IsMatch : Rule → Window → Place → Type 0
+IsMatch rule w p = IsCellIn w p × (matches rule p ≡ true)
 
 -- A place stands in a list.
 abbrev pub Listed : Place → List Place → Type 0
@@ -77,7 +77,7 @@ Listed p ps = List·Memᴰ p ps
 
 -- Ample room: for every matching cell. Ample allowance: for every visit that the window takes.
 abbrev pub AmpleRoom : Question → Window → Type 0
-AmpleRoom q w = length (matchingIn q w) ≤ q .room
+AmpleRoom q w = length (matchingIn (q .rule) w) ≤ q .limits .room
 
 abbrev pub AmpleAllowance : Question → Window → Type 0
-AmpleAllowance q w = visitsIn q w ≤ q .allowance
+AmpleAllowance q w = visitsIn (q .rule) w ≤ q .limits .allowance

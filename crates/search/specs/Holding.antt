@@ -11,7 +11,7 @@ use Rattle.chart.specs.Readings.{Wanted}
 use Rattle.search.specs.declared.Wish.{Wish}
 use Rattle.search.specs.declared.Hunt.{Hunt}
 use Rattle.search.specs.declared.Tally.{Tally}
-use Rattle.search.specs.Questions.{Question, mostReading, mostTolerance}
+use Rattle.search.specs.Questions.{Rule, Limits, Question, mostReading, mostTolerance}
 use Rattle.search.specs.Walk.{Standing}
 use Rattle.search.specs.Answers.{entriesOf}
 
@@ -28,16 +28,20 @@ below (negsuc n) = suc n
 abbrev pub wantedBy : Wish → Wanted
 wantedBy w = record { slave = w .slave; reading = subℕ (w .above) (w .below) }
 
--- The question that a hunt goes after.
-abbrev pub questionBy : Hunt → Question
-questionBy h =
+-- The rule and the limits that a hunt goes by, and so its question.
+abbrev pub ruleBy : Hunt → Rule
+ruleBy h =
     record {
       chain = record { master = h .master; a = h .a .slave; b = h .b .slave };
       wanted = wantedBy (h .a) ∷ wantedBy (h .b) ∷ [];
       tolerance = h .tolerance;
-      allowance = h .allowance;
-      room = h .room;
     }
+
+abbrev pub limitsBy : Hunt → Limits
+limitsBy h = record { allowance = h .allowance; room = h .room }
+
+abbrev pub questionBy : Hunt → Question
+questionBy h = record { rule = ruleBy h; limits = limitsBy h }
 
 -- A wish whose sums fit the machine.
 pub record Fair (w : Wish) : Type 0 where

@@ -9,21 +9,34 @@ use Rattle.chart.specs.declared.Chain.{Chain}
 use Rattle.chart.specs.Readings.{Wanted, wantedOf, within}
 use Rattle.search.specs.Windows.{northEast}
 
--- A chain, the reading wanted for each of its slaves, the tolerance in centimetres, how many visits are allowed, and how
--- many places the list has room for.
-pub record Question : Type 0 where
+-- The rule: a chain, the reading wanted for each of its slaves, and the tolerance in centimetres.
+pub record Rule : Type 0 where
   pub chain : Chain
   pub wanted : List Wanted
   pub tolerance : ℕ
+
+-- The limits: how many visits are allowed, and how many places the list has room for.
+pub record Limits : Type 0 where
   pub allowance : ℕ
   pub room : ℕ
 
--- The question of two readings and a list of so many entries. Two entries are a place; half a place is no room
--- (01, Numbers of refusal).
-abbrev pub questionOf : Chain → ℤ → ℤ → ℕ → ℕ → ℕ → Question
-questionOf c ra rb tolerance allowance entries =
-    record
-    { chain = c; wanted = wantedOf c ra rb; tolerance = tolerance; allowance = allowance; room = entries / 2 }
+-- A question is both. What matches, which squares are dropped and how many visits they take is the rule's; where a walk ends
+-- is the limits' too.
+pub record Question : Type 0 where
+  pub rule : Rule
+  pub limits : Limits
+
+-- The rule of readings, one for each slave.
+abbrev pub ruleOf : Chain → List ℤ → ℕ → Rule
+ruleOf c readings tolerance = record { chain = c; wanted = wantedOf c readings; tolerance = tolerance }
+
+-- The limits of a list of so many entries. Two entries are a place; half a place is no room (01, Numbers of refusal).
+abbrev pub limitsOf : ℕ → ℕ → Limits
+limitsOf allowance entries = record { allowance = allowance; room = entries / 2 }
+
+abbrev pub questionOf : Chain → List ℤ → ℕ → ℕ → ℕ → Question
+questionOf c readings tolerance allowance entries =
+    record { rule = ruleOf c readings tolerance; limits = limitsOf allowance entries }
 
 -- How large a wanted reading may be in size, and a tolerance (01, Numbers of refusal; The records).
 abbrev pub mostReading : ℕ
@@ -38,10 +51,10 @@ noneTooLarge [] = true
 noneTooLarge (w ∷ ws) = leb (natAbs (w .reading)) mostReading && noneTooLarge ws
 
 -- The cell p matches: each of its readings differs from the wanted one by at most t (01, Distance and reading).
-abbrev pub matches : Question → Place → Bool
-matches q p = within (q .tolerance) (q .chain) (q .wanted) p
+abbrev pub matches : Rule → Place → Bool
+matches rule p = within (rule .tolerance) (rule .chain) (rule .wanted) p
 
 -- The square of side s = 2^(k + 1) at p is not dropped: at the cell s/2 east and s/2 north of p no reading differs from the
 -- wanted one by more than t + 2s + 2 (01, The search and its count).
-abbrev pub isKept : Question → ℕ → Place → Bool
-isKept q k p = within (q .tolerance + 2 * 2 ^ suc k + 2) (q .chain) (q .wanted) (northEast (2 ^ k) p)
+abbrev pub isKept : Rule → ℕ → Place → Bool
+isKept rule k p = within (rule .tolerance + 2 * 2 ^ suc k + 2) (rule .chain) (rule .wanted) (northEast (2 ^ k) p)

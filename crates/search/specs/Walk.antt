@@ -47,14 +47,14 @@ visited allowance inside s =
 
 -- A cell that matches goes to the list; one that finds the list full stops the walk with 9.
 unfoldable pub cell : Question → Place → Standing → Standing
-cell q p = either (matches q p) (λ s. either (leb (q .room) (length (s .places))) (stopped 9) (listed p) s) unchanged
+cell q p = either (matches (q .rule) p) (λ s. either (leb (q .limits .room) (length (s .places))) (stopped 9) (listed p) s) unchanged
 
 -- The square of side 2^k at p. A cell is tested. A larger square that is not dropped has its quarters visited: south-west,
 -- south-east, north-west, north-east, each finished before the next.
 unfoldable pub visit : Question → ℕ → Place → Standing → Standing
-visit q zero p = visited (q .allowance) (cell q p)
+visit q zero p = visited (q .limits .allowance) (cell q p)
 visit q (suc k) p =
-    visited (q .allowance)
-    (either (isKept q k p)
+    visited (q .limits .allowance)
+    (either (isKept (q .rule) k p)
     (λ s. visit q k (northEast (2 ^ k) p) (visit q k (north (2 ^ k) p) (visit q k (east (2 ^ k) p) (visit q k p s))))
     unchanged)

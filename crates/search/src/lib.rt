@@ -1,20 +1,20 @@
 // The search of a window: every cell that matches, each once, in chart order.
 ghost use mathlib.Core.Path.{_≡_};
 ghost use mathlib.Core.Bool.{true};
-ghost use mathlib.Core.List.{_++_};
+ghost use mathlib.Core.List.{_++_, _∷_, []};
 ghost use Prim.Native.Nat.{_+_, _-_, _*_, _≤_, _<_, _^_};
 ghost use lib.Dec.{leb};
 ghost use lib.IntN.{subℕ};
 ghost use lib.ListN.{length, take, replicate};
-ghost use Rattle.chart.specs.Places.{inRange, squaredDistance};
-ghost use Rattle.chart.specs.Readings.{rangeOf, differ, wantedOf, within};
+ghost use Rattle.chart.specs.Places.{inRange, squaredDistance, distanceOf};
+ghost use Rattle.chart.specs.Readings.{differ, wantedOf, within};
 ghost use Rattle.search.specs.Windows.{isWindow};
 ghost use Rattle.search.specs.Windows as windows;
-ghost use Rattle.search.specs.Questions.{questionOf, noneTooLarge};
+ghost use Rattle.search.specs.Questions.{noneTooLarge};
 ghost use Rattle.search.specs.Walk.{Standing, start};
 ghost use Rattle.search.specs.Walk as walk;
-ghost use Rattle.search.specs.Answers.{ended, searchOf, listOf, searchFigures};
-ghost use Rattle.search.specs.Holding.{above, below, questionBy, Fair, Ready, OnChart, Holds};
+ghost use Rattle.search.specs.Answers.{ended, listOf, searchLeft, searchFigures};
+ghost use Rattle.search.specs.Holding.{above, below, ruleBy, questionBy, Fair, Ready, OnChart, Holds};
 use chart::Chain;
 use chart::Place;
 
@@ -71,7 +71,8 @@ const MOST_EXPONENT: u32 = 24;
 
 const MOST_READING: u64 = 1_000_000_000;
 
-const MOST_TOLERANCE: u32 = 100_000;
+// How large a tolerance may be, in centimetres.
+pub const MOST_TOLERANCE: u32 = 100_000;
 
 // Whether k is at most 24 and every cell of the window in range.
 pub fn is_window(w: Window) -> bool
@@ -101,8 +102,8 @@ pub fn search(
     tolerance: u32,
     allowance: u64,
 ) -> Answer
-    ensures answer { λ r. ⌜ r ≡ searchOf (questionOf c ra rb tolerance allowance (length (now (list .entry)))) w .answer ⌝ }
-    ensures list { λ _. ⌜ now (list .exit) ≡ listOf (length (now (list .entry))) (searchOf (questionOf c ra rb tolerance allowance (length (now (list .entry)))) w .places) ⌝ }
+    ensures answer { λ r. ⌜ r ≡ searchLeft c (ra ∷ rb ∷ []) w tolerance allowance (length (now (list .entry))) .answer ⌝ }
+    ensures list { λ _. ⌜ now (list .exit) ≡ searchLeft c (ra ∷ rb ∷ []) w tolerance allowance (length (now (list .entry))) .list ⌝ }
 {
     let readings = none_too_large(ra, rb);
     let chain = chart::sound(c);
@@ -169,7 +170,7 @@ fn told(refusal: u32, count: usize, visits: u64) -> SearchFigures
 
 // Whether both readings are at most 1,000,000,000 in size.
 fn none_too_large(ra: i64, rb: i64) -> bool
-    ensures { λ r. ⌜ ((c : Chain) → r ≡ noneTooLarge (wantedOf c ra rb)) ⌝ }
+    ensures { λ r. ⌜ ((c : Chain) → r ≡ noneTooLarge (wantedOf c (ra ∷ rb ∷ []))) ⌝ }
 {
     if metres::size(ra) > MOST_READING {
         return false;
@@ -282,7 +283,7 @@ fn walked(list: &mut [u32], h: Hunt, w: Window) -> Answer
     Answer::Places { count, visits }
 }
 
-// The square of side 2^k at p. The guess is the master's range at the middle of the square around it: near enough that one
+// The square of side 2^k at p. The guess is the master's distance at the middle of the square around it: near enough that one
 // step of Newton's mostly finds this one's.
 fn visit(list: &mut [u32], h: Hunt, k: u32, side: u32, p: Place, guess: u64, t: Tally) -> Tally
     requires { ⌜ Ready h × OnChart k side p × (2 * h .room ≤ length (now list)) ⌝ }
@@ -308,7 +309,7 @@ fn visit(list: &mut [u32], h: Hunt, k: u32, side: u32, p: Place, guess: u64, t: 
     }
     let half = side / 2;
     let middle = north_east(p, half);
-    let m = range(middle, h.master, guess);
+    let m = distance(middle, h.master, guess);
     if !near(h, middle, m, h.tolerance + 2 * (side as u64) + 2) {
         return begun;
     }
@@ -325,7 +326,7 @@ fn cell(list: &mut [u32], h: Hunt, p: Place, guess: u64, t: Tally) -> Tally
     requires { ⌜ Ready h × (inRange p ≡ true) × (2 * h .room ≤ length (now list)) ⌝ }
     ensures { λ r. ⌜ ((s : Standing) → Holds s t (now (list .entry)) → Holds (walk.cell (questionBy h) p s) r (now (list .exit))) ⌝ }
 {
-    let m = range(p, h.master, guess);
+    let m = distance(p, h.master, guess);
     if !near(h, p, m, h.tolerance) {
         return t;
     }
@@ -348,10 +349,10 @@ fn cell(list: &mut [u32], h: Hunt, p: Place, guess: u64, t: Tally) -> Tally
     }
 }
 
-// Whether every slave's reading at p is as wanted, give or take slack, where m is the master's range.
+// Whether every slave's reading at p is as wanted, give or take slack, where m is the master's distance.
 fn near(h: Hunt, p: Place, m: u64, slack: u64) -> bool
-    requires { ⌜ Ready h × (inRange p ≡ true) × (m ≡ rangeOf p (h .master)) × (m < 2 ^ 30) × (slack < 2 ^ 28) ⌝ }
-    ensures { λ r. ⌜ r ≡ within slack (questionBy h .chain) (questionBy h .wanted) p ⌝ }
+    requires { ⌜ Ready h × (inRange p ≡ true) × (m ≡ distanceOf p (h .master)) × (m < 2 ^ 30) × (slack < 2 ^ 28) ⌝ }
+    ensures { λ r. ⌜ r ≡ within slack (ruleBy h .chain) (ruleBy h .wanted) p ⌝ }
 {
     if !agrees(h.a, p, m, slack) {
         return false;
@@ -359,11 +360,11 @@ fn near(h: Hunt, p: Place, m: u64, slack: u64) -> bool
     agrees(h.b, p, m, slack)
 }
 
-// The same of one slave. Its range is the root of y, and a root lies from low to high exactly if the number lies from low²
+// The same of one slave. Its distance is the root of y, and a root lies from low to high exactly if the number lies from low²
 // to below (high + 1)²: so no root is taken.
 fn agrees(w: Wish, p: Place, m: u64, slack: u64) -> bool
     requires { ⌜ Fair w × (inRange p ≡ true) × (m < 2 ^ 30) × (slack < 2 ^ 28) ⌝ }
-    ensures { λ r. ⌜ r ≡ leb (differ (subℕ (rangeOf p (w .slave)) m) (subℕ (w .above) (w .below))) slack ⌝ }
+    ensures { λ r. ⌜ r ≡ leb (differ (subℕ (distanceOf p (w .slave)) m) (subℕ (w .above) (w .below))) slack ⌝ }
 {
     let y = squared(p, w.slave);
     let far = m + w.above;
@@ -382,9 +383,9 @@ fn agrees(w: Wish, p: Place, m: u64, slack: u64) -> bool
 }
 
 // How far p lies from a station, by a guess of it.
-fn range(p: Place, station: Place, guess: u64) -> u64
+fn distance(p: Place, station: Place, guess: u64) -> u64
     requires { ⌜ (inRange p ≡ true) × (inRange station ≡ true) ⌝ }
-    ensures { λ r. ⌜ (r ≡ rangeOf p station) × (r < 2 ^ 30) ⌝ }
+    ensures { λ r. ⌜ (r ≡ distanceOf p station) × (r < 2 ^ 30) ⌝ }
 {
     squares::root_near(squared(p, station), guess)
 }

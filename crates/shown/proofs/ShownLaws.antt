@@ -13,8 +13,8 @@ use Rattle.fields.specs.Fields.{bytesOf, putAt}
 use Rattle.fields.proofs.FieldLaws.{put-inside}
 use Rattle.metres.specs.Metres.{mostCentimetres}
 use Rattle.chart.specs.declared.Place.{Place}
-use Rattle.chart.specs.declared.Figures.{Figures}
 use Rattle.chart.specs.Places.{inRange}
+use Rattle.chart.specs.Readings.{NoneFor}
 use Rattle.records.specs.declared.ChainCount.the-variants.{Chains}
 use Rattle.records.specs.ChainTables.{chainOf}
 use Rattle.writing.specs.Writing.{metresBytes}
@@ -22,8 +22,8 @@ use Rattle.text.specs.Texts.{spaced, figuresText, hexOf, bytesIn}
 use Rattle.text.proofs.PutLaws.{put-none}
 use Rattle.shown.specs.declared.Line.the-variants.{Text, Refused}
 use Rattle.shown.specs.Fields.{hexText, refusedText, signText, decimalText, metresText}
-use Rattle.shown.specs.Expected.{noReadings, byChain, byTable, writtenText, expectedText}
-use Rattle.shown.specs.Rooms.{Reply, Says, Refuses, lineFor, bufferFor, hasRoom, inRoom, replyOf, Puts}
+use Rattle.shown.specs.Expected.{byChain, byTable, writtenText}
+use Rattle.shown.specs.Rooms.{Reply, Says, lineFor, bufferFor, hasRoom, inRoom, Puts}
 
 -- No text, and the same text.
 pub puts-none : (o : List ℕ) (at : ℕ) → Puts o at [] o at
@@ -51,7 +51,7 @@ put-filled width s n h =
     ∙ append-nil (bytesOf width n)
 
 -- The readings by the table that was counted: a place out of range, and one in range.
-pub far-away : (n : ℕ) (table : List ℕ) (chain : ℕ) (p : Place) → inRange p ≡ false → noReadings 4 ≡ byTable (Chains n) table chain p
+pub far-away : (n : ℕ) (table : List ℕ) (chain : ℕ) (p : Place) → inRange p ≡ false → NoneFor 4 ≡ byTable (Chains n) table chain p
 unfolding byTable
 far-away n table chain p e = rw (e)
 
@@ -113,12 +113,3 @@ answered o count x {o′} {end} room p few =
     let put = p (omega (arith, leb-true (192 + 2 * count) (length o) room, few)) in
     let none : 0 + length x ≡ length x = omega arith in
     (rw (room) (ap Text (put .end-is ∙ none)), rw (room) (put .now-is ∙ ap (λ (n : ℕ). x ++ drop n o) none))
-
--- The readings as they are replied.
-pub reply-refused : (f : Figures) → (f .refusal ≡ 0 → ⊥) → Refuses (f .refusal) ≡ replyOf f
-unfolding replyOf
-reply-refused f h = rw (ne-eqb (f .refusal) 0 h)
-
-pub reply-told : (f : Figures) → f .refusal ≡ 0 → Says (expectedText (f .a) (f .b)) ≡ replyOf f
-unfolding replyOf
-reply-told f h = rw (eq-eqb (f .refusal) 0 h)

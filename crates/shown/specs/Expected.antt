@@ -1,14 +1,13 @@
 -- The readings expected at a place, as text (docs/FORMATS.md, Text; 01, Numbers of refusal: "4 precedes 5").
-use Prim.Native.Nat.{ℕ}
+use Prim.Native.Nat.{ℕ, suc}
 use mathlib.Core.Bool.{cond}
-use mathlib.Core.List.{List, _∷_, _++_}
+use mathlib.Core.List.{List, [], _∷_, _++_}
 use lib.Dec.{leb}
-use lib.IntN.{ℤ, pos, natAbs}
+use lib.IntN.{ℤ, natAbs}
 use Rattle.metres.specs.Metres.{mostCentimetres}
 use Rattle.chart.specs.declared.Place.{Place}
-use Rattle.chart.specs.declared.Figures.{Figures}
 use Rattle.chart.specs.Places.{inRange}
-use Rattle.chart.specs.Readings.{expectedAt, figuresOf}
+use Rattle.chart.specs.Readings.{Expectation, NoneFor, expectedAt}
 use Rattle.records.specs.declared.ChainCount.{ChainCount}
 use Rattle.records.specs.declared.ChainCount.the-variants as count
 use Rattle.records.specs.declared.NamedChain.{NamedChain}
@@ -19,21 +18,17 @@ use Rattle.writing.specs.Writing.{metresBytes}
 use Rattle.text.specs.Texts.{wholeText, hexOf, bytesIn}
 use Rattle.shown.specs.Fields.{metresText}
 
--- A refusal gives both readings as 0.
-abbrev pub noReadings : ℕ → Figures
-noReadings number = record { refusal = number; a = pos 0; b = pos 0 }
-
 -- By the chain that was named: its readings, or why there is none.
-unfoldable pub byChain : NamedChain → Place → Figures
-byChain (named.Chain c) p = figuresOf (expectedAt c p)
-byChain (named.Refused number) p = noReadings number
+unfoldable pub byChain : NamedChain → Place → Expectation
+byChain (named.Chain c) p = expectedAt c p
+byChain (named.Refused number) p = NoneFor number
 
 -- By the count of chains: 1 where the table is none, then 4 for the place, then 5 for the chain.
-unfoldable pub byTable : ChainCount → List ℕ → ℕ → Place → Figures
-byTable (count.Refused number) table chain p = noReadings number
-byTable (count.Chains n) table chain p = unless (inRange p) (noReadings 4) (byChain (chainOf table chain) p)
+unfoldable pub byTable : ChainCount → List ℕ → ℕ → Place → Expectation
+byTable (count.Refused number) table chain p = NoneFor number
+byTable (count.Chains n) table chain p = unless (inRange p) (NoneFor 4) (byChain (chainOf table chain) p)
 
-abbrev pub expectedIn : List ℕ → ℕ → Place → Figures
+abbrev pub expectedIn : List ℕ → ℕ → Place → Expectation
 expectedIn table chain p = byTable (chainCountOf table) table chain p
 
 -- A reading in metres, and the bytes that a log record has for it; 3 where it cannot be written.
@@ -41,9 +36,15 @@ unfoldable pub writtenText : ℤ → List ℕ
 writtenText z =
     cond (leb (natAbs z) mostCentimetres) ((32 ∷ metresText z) ++ (32 ∷ hexOf (metresBytes z))) (bytesIn " REFUSED 3")
 
--- The line of a slave, and both lines.
-abbrev pub slaveLine : List ℕ → ℤ → List ℕ
-slaveLine name z = name ++ ((32 ∷ wholeText z) ++ (writtenText z ++ bytesIn "\n"))
+-- The line of a slave, by its letter.
+abbrev pub slaveLine : ℕ → ℤ → List ℕ
+slaveLine letter z = letter ∷ ((32 ∷ wholeText z) ++ (writtenText z ++ bytesIn "\n"))
 
-unfoldable pub expectedText : ℤ → ℤ → List ℕ
-expectedText a b = slaveLine (bytesIn "A") a ++ slaveLine (bytesIn "B") b
+-- A line for each reading, the slaves lettered on from the first.
+abbrev pub slaveLines : ℕ → List ℤ → List ℕ
+slaveLines letter [] = []
+slaveLines letter (z ∷ zs) = slaveLine letter z ++ slaveLines (suc letter) zs
+
+-- The slaves' lines, from A on.
+unfoldable pub expectedText : List ℤ → List ℕ
+expectedText readings = slaveLines 65 readings

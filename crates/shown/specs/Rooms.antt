@@ -2,9 +2,9 @@
 use Prim.Native.Nat.{ℕ, _+_, _*_, _≤_}
 use mathlib.Core.Bool.{Bool, cond}
 use mathlib.Core.List.{List, _++_}
-use lib.Dec.{leb, eqb}
+use lib.Dec.{leb}
 use lib.ListN.{length, drop}
-use Rattle.chart.specs.declared.Figures.{Figures}
+use Rattle.chart.specs.Readings.{Expectation, Expects, NoneFor}
 use Rattle.text.specs.Puts.{Put}
 use Rattle.shown.specs.declared.Line.{Line}
 use Rattle.shown.specs.declared.Line.the-variants as line
@@ -29,16 +29,30 @@ abbrev pub textOf : Line → ℕ
 textOf (line.Text n) = n
 textOf (line.Refused number) = 0
 
--- Room for any line of so many bytes, with those in hexadecimal; without it, 9.
+-- The room for any line of so many bytes, with those in hexadecimal; in a buffer that has less, 9.
+abbrev pub lineRoom : ℕ → ℕ
+lineRoom count = 192 + 2 * count
+
 abbrev pub hasRoom : ℕ → ℕ → Bool
-hasRoom bytes count = leb (192 + 2 * count) bytes
+hasRoom bytes count = leb (lineRoom count) bytes
 
 abbrev pub inRoom : ℕ → ℕ → Reply → Reply
 inRoom bytes count reply = cond (hasRoom bytes count) reply (Refuses 9)
 
+-- All that is left of a text put into a buffer: what is answered, and every byte of the buffer.
+pub record Shown : Type 0 where
+  pub answer : Line
+  pub buffer : List ℕ
+
+abbrev pub shownIn : List ℕ → ℕ → Reply → Shown
+shownIn out count reply =
+    let told = inRoom (length out) count reply in
+    record { answer = lineFor told; buffer = bufferFor out told }
+
 -- The readings as text, or why there are none.
-unfoldable pub replyOf : Figures → Reply
-replyOf f = cond (eqb (f .refusal) 0) (Says (expectedText (f .a) (f .b))) (Refuses (f .refusal))
+unfoldable pub replyOf : Expectation → Reply
+replyOf (Expects readings) = Says (expectedText readings)
+replyOf (NoneFor number) = Refuses number
 
 -- What the code's private functions promise each other: a text is put if there is room for it.
 abbrev pub Puts : List ℕ → ℕ → List ℕ → List ℕ → ℕ → Type 0

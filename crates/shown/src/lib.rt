@@ -1,8 +1,9 @@
 // What the files hold, a line of text a record, and the readings expected at a place.
 ghost use mathlib.Core.Path.{_≡_};
-ghost use mathlib.Core.List.{_++_};
+ghost use mathlib.Core.List.{_++_, _∷_, []};
 ghost use Prim.Native.Nat.{_+_, _*_, _≤_};
 ghost use lib.ListN.{length};
+ghost use Rattle.chart.specs.Readings.{saidBy};
 ghost use Rattle.records.specs.LogRecords.{logEntryOf};
 ghost use Rattle.records.specs.Refusals.{entryRefusal, jobRefusal};
 ghost use Rattle.records.specs.Jobs.{jobOf};
@@ -10,9 +11,9 @@ ghost use Rattle.writing.specs.Writing.{metresBytes};
 ghost use Rattle.text.specs.Texts.{figuresText, hexOf, bytesIn};
 ghost use Rattle.shown.specs.Fields.{centimetresText, decimalText, metresText, hexText, refusedText};
 ghost use Rattle.shown.specs.Lines.{jobText, jobLine, chainText, refusalIn, chainLine, rawText, recordText, recordLine};
-ghost use Rattle.shown.specs.Expected.{noReadings, byChain, expectedIn, writtenText, slaveLine};
-ghost use Rattle.shown.specs.Rooms.{Says, lineFor, bufferFor, hasRoom, inRoom, replyOf, Puts};
-use chart::Figures;
+ghost use Rattle.shown.specs.Expected.{byChain, expectedIn, writtenText, slaveLine, expectedText};
+ghost use Rattle.shown.specs.Rooms.{Says, hasRoom, shownIn, replyOf, Puts};
+use chart::Expected;
 use chart::Place;
 use metres::Whole;
 use records::ChainCount;
@@ -28,18 +29,14 @@ pub enum Line {
     Refused(u32),
 }
 
-const CHAIN_BYTES: usize = 24;
-
 // The room for the longest line, beside its bytes in hexadecimal.
-const LINE_ROOM: usize = 192;
-
-const MOST_CENTIMETRES: u64 = 1_000_000_000;
+pub const LINE_ROOM: usize = 192;
 
 // Puts the line of a job at the start of a buffer. Here and below, a buffer that has not room for 192 bytes and two for each
 // that is shown is refused with 9.
 pub fn job(out: &mut [u8], s: &[u8]) -> Line
-    ensures answer { λ r. ⌜ r ≡ lineFor (inRoom (length (now (out .entry))) (length (now (s .entry))) (Says (jobLine (now (s .entry))))) ⌝ }
-    ensures out { λ _. ⌜ now (out .exit) ≡ bufferFor (now (out .entry)) (inRoom (length (now (out .entry))) (length (now (s .entry))) (Says (jobLine (now (s .entry))))) ⌝ }
+    ensures answer { λ r. ⌜ r ≡ shownIn (now (out .entry)) (length (now (s .entry))) (Says (jobLine (now (s .entry)))) .answer ⌝ }
+    ensures out { λ _. ⌜ now (out .exit) ≡ shownIn (now (out .entry)) (length (now (s .entry))) (Says (jobLine (now (s .entry)))) .buffer ⌝ }
 {
     if !has_room(out.len(), s.len()) {
         return Line::Refused(9);
@@ -52,8 +49,8 @@ pub fn job(out: &mut [u8], s: &[u8]) -> Line
 
 // The line of a chain, by its number in a table, from its 24 bytes.
 pub fn chain(out: &mut [u8], number: u32, s: &[u8]) -> Line
-    ensures answer { λ r. ⌜ r ≡ lineFor (inRoom (length (now (out .entry))) (length (now (s .entry))) (Says (chainLine number (now (s .entry))))) ⌝ }
-    ensures out { λ _. ⌜ now (out .exit) ≡ bufferFor (now (out .entry)) (inRoom (length (now (out .entry))) (length (now (s .entry))) (Says (chainLine number (now (s .entry))))) ⌝ }
+    ensures answer { λ r. ⌜ r ≡ shownIn (now (out .entry)) (length (now (s .entry))) (Says (chainLine number (now (s .entry)))) .answer ⌝ }
+    ensures out { λ _. ⌜ now (out .exit) ≡ shownIn (now (out .entry)) (length (now (s .entry))) (Says (chainLine number (now (s .entry)))) .buffer ⌝ }
 {
     if !has_room(out.len(), s.len()) {
         return Line::Refused(9);
@@ -66,8 +63,8 @@ pub fn chain(out: &mut [u8], number: u32, s: &[u8]) -> Line
 
 // The line of a log record.
 pub fn record(out: &mut [u8], s: &[u8]) -> Line
-    ensures answer { λ r. ⌜ r ≡ lineFor (inRoom (length (now (out .entry))) (length (now (s .entry))) (Says (recordLine (now (s .entry))))) ⌝ }
-    ensures out { λ _. ⌜ now (out .exit) ≡ bufferFor (now (out .entry)) (inRoom (length (now (out .entry))) (length (now (s .entry))) (Says (recordLine (now (s .entry))))) ⌝ }
+    ensures answer { λ r. ⌜ r ≡ shownIn (now (out .entry)) (length (now (s .entry))) (Says (recordLine (now (s .entry)))) .answer ⌝ }
+    ensures out { λ _. ⌜ now (out .exit) ≡ shownIn (now (out .entry)) (length (now (s .entry))) (Says (recordLine (now (s .entry)))) .buffer ⌝ }
 {
     if !has_room(out.len(), s.len()) {
         return Line::Refused(9);
@@ -80,18 +77,16 @@ pub fn record(out: &mut [u8], s: &[u8]) -> Line
 
 // The readings expected at a place for the chain of a number in a table: a line for each slave.
 pub fn expected(out: &mut [u8], table: &[u8], chain: u32, place: Place) -> Line
-    ensures answer { λ r. ⌜ r ≡ lineFor (inRoom (length (now (out .entry))) 0 (replyOf (expectedIn (now (table .entry)) chain place))) ⌝ }
-    ensures out { λ _. ⌜ now (out .exit) ≡ bufferFor (now (out .entry)) (inRoom (length (now (out .entry))) 0 (replyOf (expectedIn (now (table .entry)) chain place))) ⌝ }
+    ensures answer { λ r. ⌜ r ≡ shownIn (now (out .entry)) 0 (replyOf (expectedIn (now (table .entry)) chain place)) .answer ⌝ }
+    ensures out { λ _. ⌜ now (out .exit) ≡ shownIn (now (out .entry)) 0 (replyOf (expectedIn (now (table .entry)) chain place)) .buffer ⌝ }
 {
     if !has_room(out.len(), 0) {
         return Line::Refused(9);
     }
-    let f = readings(table, chain, place);
-    if f.refusal != 0 {
-        return Line::Refused(f.refusal);
+    match readings(table, chain, place) {
+        Expected::Readings { a, b } => Line::Text(put_slaves(out, a, b)),
+        Expected::Refused(number) => Line::Refused(number),
     }
-    let a = put_slave(out, 0, b"A", f.a);
-    Line::Text(put_slave(out, a, b"B", f.b))
 }
 
 fn has_room(bytes: usize, count: usize) -> bool
@@ -115,7 +110,7 @@ fn job_refusal(s: &[u8]) -> u32
 fn chain_refusal(s: &[u8]) -> u32
     ensures { λ r. ⌜ r ≡ refusalIn (now (s .entry)) ⌝ }
 {
-    if s.len() != CHAIN_BYTES {
+    if s.len() != records::CHAIN_BYTES {
         return 1;
     }
     match records::chain_of(s, 1) {
@@ -136,35 +131,25 @@ fn entry_refusal(s: &[u8]) -> u32
 }
 
 // The readings, or why there are none: first the table, then the place, then the chain.
-fn readings(table: &[u8], chain: u32, place: Place) -> Figures
-    ensures { λ r. ⌜ r ≡ expectedIn (now (table .entry)) chain place ⌝ }
+fn readings(table: &[u8], chain: u32, place: Place) -> Expected
+    ensures { λ r. ⌜ saidBy r ≡ expectedIn (now (table .entry)) chain place ⌝ }
 {
     let inside = chart::in_range(place);
     if let ChainCount::Refused(number) = records::chain_count(table) {
-        return no_readings(number);
+        return Expected::Refused(number);
     }
     if !inside {
-        return no_readings(4);
+        return Expected::Refused(4);
     }
     by_chain(records::chain_of(table, chain), place)
 }
 
-fn by_chain(chain: NamedChain, place: Place) -> Figures
-    ensures { λ r. ⌜ r ≡ byChain chain place ⌝ }
+fn by_chain(chain: NamedChain, place: Place) -> Expected
+    ensures { λ r. ⌜ saidBy r ≡ byChain chain place ⌝ }
 {
     match chain {
-        NamedChain::Chain(c) => chart::as_figures(chart::readings(c, place)),
-        NamedChain::Refused(number) => no_readings(number),
-    }
-}
-
-fn no_readings(refusal: u32) -> Figures
-    ensures { λ r. ⌜ r ≡ noReadings refusal ⌝ }
-{
-    Figures {
-        refusal,
-        a: 0,
-        b: 0,
+        NamedChain::Chain(c) => chart::readings(c, place),
+        NamedChain::Refused(number) => Expected::Refused(number),
     }
 }
 
@@ -290,12 +275,21 @@ fn put_hex(out: &mut [u8], at: usize, s: &[u8]) -> usize
     text::put_bytes(out, a, s)
 }
 
-// The line of a slave.
-fn put_slave(out: &mut [u8], at: usize, name: &[u8], z: i64) -> usize
-    ensures text { λ r. ⌜ Puts (now (out .entry)) at (slaveLine (now (name .entry)) z) (now (out .exit)) r ⌝ }
-    ensures few { λ _. ⌜ length (slaveLine (now (name .entry)) z) ≤ 95 + length (now (name .entry)) ⌝ }
+// The lines of the slaves.
+fn put_slaves(out: &mut [u8], a: i64, b: i64) -> usize
+    ensures text { λ r. ⌜ Puts (now (out .entry)) 0 (expectedText (a ∷ b ∷ [])) (now (out .exit)) r ⌝ }
+    ensures few { λ _. ⌜ length (expectedText (a ∷ b ∷ [])) ≤ 192 ⌝ }
 {
-    let a = text::put(out, at, name);
+    let end = put_slave(out, 0, b'A', a);
+    put_slave(out, end, b'B', b)
+}
+
+// The line of a slave, by its letter.
+fn put_slave(out: &mut [u8], at: usize, letter: u8, z: i64) -> usize
+    ensures text { λ r. ⌜ Puts (now (out .entry)) at (slaveLine letter z) (now (out .exit)) r ⌝ }
+    ensures few { λ _. ⌜ length (slaveLine letter z) ≤ 96 ⌝ }
+{
+    let a = text::put(out, at, &[letter]);
     let b = text::put(out, a, b" ");
     let c = text::put_whole(out, b, z);
     let d = put_written(out, c, z);
@@ -307,7 +301,7 @@ fn put_written(out: &mut [u8], at: usize, z: i64) -> usize
     ensures text { λ r. ⌜ Puts (now (out .entry)) at (writtenText z) (now (out .exit)) r ⌝ }
     ensures few { λ _. ⌜ length (writtenText z) ≤ 73 ⌝ }
 {
-    if metres::size(z) > MOST_CENTIMETRES {
+    if metres::size(z) > metres::MOST_CENTIMETRES {
         return text::put(out, at, b" REFUSED 3");
     }
     let a = text::put(out, at, b" ");

@@ -23,13 +23,19 @@ put-length {o} {at} {x} {o′} {end} p =
     ap length (p .now-is ∙ sym (append-assoc (take at o) x rest))
     ∙ omega (arith, length-append (take at o ++ x) rest, front o at x (p .fits), length-drop (at + length x) o, p .fits)
 
+-- What stands before its end then.
+pub put-front : {o : List ℕ} {at : ℕ} {x o′ : List ℕ} {end : ℕ} → Put o at x o′ end → take end o′ ≡ take at o ++ x
+put-front {o} {at} {x} {o′} {end} p =
+    let rest = drop (at + length x) o in
+    ap (take end) (p .now-is ∙ sym (append-assoc (take at o) x rest))
+    ∙ take-at (take at o ++ x) rest end (front o at x (p .fits) ∙ sym (p .end-is))
+
 -- One text behind another is both.
 pub put-then : {o : List ℕ} {at : ℕ} {x o′ : List ℕ} {end : ℕ} {y o″ : List ℕ} {end′ : ℕ} → Put o at x o′ end → Put o′ end y o″ end′ → Put o at (x ++ y) o″ end′
 put-then {o} {at} {x} {o′} {end} {y} {o″} {end′} p q =
     let rest = drop (at + length x) o in
     let whole : o′ ≡ (take at o ++ x) ++ rest = p .now-is ∙ sym (append-assoc (take at o) x rest) in
     let size : length (take at o ++ x) ≡ end = front o at x (p .fits) ∙ sym (p .end-is) in
-    let before : take end o′ ≡ take at o ++ x = ap (take end) whole ∙ take-at (take at o ++ x) rest end size in
     let both : at + length x + length y ≡ at + length (x ++ y) = omega (arith, length-append x y) in
     let behind : drop (end + length y) o′ ≡ drop (at + length (x ++ y)) o =
     ap₂ (λ (n : ℕ) (l : List ℕ). drop (n + length y) l) (sym size) whole
@@ -42,7 +48,7 @@ put-then {o} {at} {x} {o′} {end} {y} {o″} {end′} p q =
       end-is = omega (arith, q .end-is, p .end-is, length-append x y);
       now-is =
           q .now-is
-          ∙ ap₂ (λ (f r : List ℕ). f ++ (y ++ r)) before behind
+          ∙ ap₂ (λ (f r : List ℕ). f ++ (y ++ r)) (put-front p) behind
           ∙ append-assoc (take at o) x (y ++ tail)
           ∙ ap (λ (z : List ℕ). take at o ++ z) (sym (append-assoc x y tail));
     }

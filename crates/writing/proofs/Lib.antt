@@ -2,7 +2,7 @@
 pub mod Theorems
 pub mod WriteLaws
 mod BufferLaws
-mod ChainWriteLaws
+pub mod ChainWriteLaws
 mod JobWriteLaws
 mod ReadBack
 mod TableBack

@@ -1,18 +1,15 @@
 -- The tests of the writer, one after the other, what each comes to, and the bytes that it puts.
 use Prim.Native.Nat.{ℕ, _≤_, _<_}
 use mathlib.Core.Path.{_≡_, refl}
-use mathlib.Core.Bool.{Bool, true, false, not, cond, _||_, true≢false}
+use mathlib.Core.Bool.{Bool, true, false, not, cond, _||_}
 use native.Mathlib.Omega.{arith}
 use lib.Dec.{leb, eqb}
-use lib.IntN.{ℤ, pos, negsuc, natAbs}
+use lib.IntN.{pos, natAbs}
 use lib.ListN.{length, set, replicate}
-use lib.Signed.{ltZ, leZ}
-use borrow.Author.Tests.{ltb-true, ltb-false, eqb-true, eq-eqb, ne-eqb, le-leb, lt-leb}
+use borrow.Author.Tests.{eqb-true, eq-eqb, ne-eqb, le-leb, lt-leb}
 use Rattle.fields.specs.Fields.{bytesOf, putAt}
 use Rattle.metres.specs.Metres.{mostCentimetres}
 use Rattle.metres.specs.Patterns.{putNumberAt}
-use Rattle.chart.specs.Places.{mostEasting, mostNorthing}
-use Rattle.chart.proofs.PlaceLaws.{too-far-east, by-northing}
 use Rattle.records.specs.LogRecords.{logBytes, isPlace}
 use Rattle.records.specs.ChainTables.{mostChains, oneTo}
 use Rattle.records.proofs.TableLaws.{one-to-says}
@@ -37,19 +34,6 @@ no-place d n = rw (ne-eqb (d .kind) 2 n)
 
 pub by-place : (d : Draft) → d .kind ≡ 2 → placeFits d ≡ isPlace (d .x) (d .y)
 by-place d e = rw (eq-eqb (d .kind) 2 e)
-
--- After the signs comes the easting's limit, and then the northing's decides.
-pub beyond-east : (x y : ℤ) → ltZ (pos mostEasting) x ≡ true → isPlace x y ≡ false
-unfolding isPlace
-beyond-east (pos e) (pos n) h = too-far-east _ (ltb-true mostEasting e h)
-beyond-east (pos e) (negsuc n) h = refl
-beyond-east (negsuc e) y h = refl
-
-pub by-north : (x y : ℤ) → ltZ x (pos 0) ≡ false → ltZ y (pos 0) ≡ false → ltZ (pos mostEasting) x ≡ false → isPlace x y ≡ leZ y (pos mostNorthing)
-unfolding isPlace
-by-north (pos e) (pos n) west south east = by-northing _ (ltb-false mostEasting e east)
-by-north (pos e) (negsuc n) west south east = absurd (true≢false south)
-by-north (negsuc e) y west south east = absurd (true≢false west)
 
 -- The chain, of a hyperbolic record alone.
 pub no-chain : (d : Draft) → (d .kind ≡ 1 → ⊥) → chainFits d ≡ true

@@ -10,7 +10,11 @@ ghost use Rattle.writing.specs.ChainWriting.{putPlaceAt, bytesOfChain, c
 ghost use Rattle.writing.specs.JobWriting.{bytesOfJob, jobRefusalOf, jobBufferOf};
 use chart::Chain;
 use chart::Place;
+use records::CHAIN_BYTES;
+use records::JOB_BYTES;
 use records::Job;
+use records::LOG_BYTES;
+use records::MOST_CHAINS;
 
 // What a log record is to say. x and y are readings A and B, or easting and northing, in centimetres.
 pub struct Draft {
@@ -20,22 +24,6 @@ pub struct Draft {
     pub x: i64,
     pub y: i64,
 }
-
-const LOG_BYTES: usize = 32;
-
-const CHAIN_BYTES: usize = 24;
-
-const JOB_BYTES: usize = 32;
-
-const MOST_CHAINS: u32 = 16;
-
-const MOST_EASTING: i64 = 100_000_000;
-
-const MOST_NORTHING: i64 = 1_000_000_000;
-
-const MOST_CENTIMETRES: u64 = 1_000_000_000;
-
-const MOST_TOLERANCE: u32 = 100_000;
 
 // Writes a draft into a buffer of 32 bytes. Answers with the number of the refusal, 0 for none; a refused write leaves the
 // whole buffer zero, whatever its length.
@@ -112,10 +100,10 @@ fn numbers_fit(d: Draft) -> bool
     if d.kind == 3 {
         return true;
     }
-    if metres::size(d.x) > MOST_CENTIMETRES {
+    if metres::size(d.x) > metres::MOST_CENTIMETRES {
         return false;
     }
-    metres::size(d.y) <= MOST_CENTIMETRES
+    metres::size(d.y) <= metres::MOST_CENTIMETRES
 }
 
 fn place_fits(d: Draft) -> bool
@@ -124,16 +112,7 @@ fn place_fits(d: Draft) -> bool
     if d.kind != 2 {
         return true;
     }
-    if d.x < 0 {
-        return false;
-    }
-    if d.y < 0 {
-        return false;
-    }
-    if d.x > MOST_EASTING {
-        return false;
-    }
-    d.y <= MOST_NORTHING
+    records::is_place(d.x, d.y)
 }
 
 fn chain_fits(d: Draft) -> bool
@@ -145,13 +124,13 @@ fn chain_fits(d: Draft) -> bool
     one_to(MOST_CHAINS, d.chain)
 }
 
-fn one_to(most: u32, n: u32) -> bool
+fn one_to(most: usize, n: u32) -> bool
     ensures { λ r. ⌜ r ≡ oneTo most n ⌝ }
 {
     if n == 0 {
         return false;
     }
-    n <= most
+    n as usize <= most
 }
 
 // A draft with 0 for what its kind does not use.
@@ -235,7 +214,7 @@ fn job_refusal(bytes: usize, j: Job) -> u32
     if !search::is_window(j.window) {
         return 6;
     }
-    if j.tolerance > MOST_TOLERANCE {
+    if j.tolerance > search::MOST_TOLERANCE {
         return 7;
     }
     0

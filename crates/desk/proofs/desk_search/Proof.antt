@@ -1,5 +1,6 @@
 -- `desk::desk_search` meets its contract: the figures of what `search` answers, and its list.
 use mathlib.Core.Path.{ap, ap₂, _∙_}
+use mathlib.Core.List.{[], _∷_}
 use borrow.Author.Needs.{needs}
 use denote.Ref.{now}
 use lib.IntN.{ℤ}
@@ -33,7 +34,7 @@ returns c =
     let start = call .before .before .before .before in
     let d = start .args in
     let window = windowBy (d .e) (d .n) (d .k) in
-    let asked : Chain → ℤ → ℤ → Question = λ x a b. questionOf x a b (d .tolerance) (d .allowance) (length (now (d .list))) in
+    let asked : Chain → ℤ → ℤ → Question = λ x a b. questionOf x (a ∷ b ∷ []) (d .tolerance) (d .allowance) (length (now (d .list))) in
     let chain = chainBy (d .me) (d .mn) (d .ae) (d .an) (d .be) (d .bn) in
     let same =
     ap (λ (x : Chain). asked x (toZ w64 (ofZ w64 (d .ra))) (toZ w64 (ofZ w64 (d .rb)))) (call .before .before .chain-by .ensures)

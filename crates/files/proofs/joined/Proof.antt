@@ -1,21 +1,22 @@
--- `files::joined` stays within the line and ends: the arguments that are left fall.
-use Prim.Native.Nat.{_-_, _≤_}
+-- `files::joined` ends: the arguments that are left fall. The line holds as many words as have been put.
+use Prim.Native.Nat.{ℕ, _+_, _-_, _≤_, max}
 use borrow.Author.Needs.{needs}
-use lib.ListN.{length}
-use mathlib.Core.Path.{_≡_, ap}
+use lib.ListN.{length, take}
+use mathlib.Core.Path.{_≡_, subst}
 use native.Mathlib.Omega.{arith}
-use Rattle.files.specs.Answers.{lineOf}
+use Rattle.files.specs.Answers.{AreWords, none, IsLineOf}
+use Rattle.files.specs.declared.Words.the-variants as words
 use Rattle.files.proofs.joined.Statement.{statement}
 use Rattle.files.proofs.joined.Tie as tie
 
 abbrev Inv-loop : tie.InvT-loop
-Inv-loop line₀ count end₀ i₀ line end i = (end ≤ length line) × (length line ≡ length line₀)
+Inv-loop line₀ count end₀ i₀ line end i = (end ≤ length line) × ((length line ≡ length line₀) × (AreWords (i - 1) (take end line) × ((1 ≤ i) × (i ≤ max count 1))))
 
 abbrev μ-loop : tie.MeasureT-loop
 μ-loop line₀ count end₀ i₀ line end i = count - i
 
 loop-holds : tie.Need-loop-holds Inv-loop μ-loop
-loop-holds c = search needs
+loop-holds c = (search needs, (search needs, (none, (search needs, search needs))))
 
 one-more-requires : tie.Need-one-more-requires Inv-loop μ-loop
 one-more-requires c κs = search needs
@@ -36,13 +37,21 @@ loop-less : tie.Need-loop-less Inv-loop μ-loop
 loop-less c = search needs
 
 loop-again : tie.Need-loop-again Inv-loop μ-loop
-loop-again c = (omega (arith, ap lineOf (c .before .e .given .1)), search needs)
+loop-again c =
+    let i = c .before .before .before .before .before .before .before .before .loop .i in
+    let call = c .before .before .before .before .before .one-more in
+    let line : IsLineOf (i - 1 + 1) (call .last .0) (words.Line (c .before .e .given .0 .0)) =
+    subst (IsLineOf (i - 1 + 1) (call .last .0)) (c .before .e .given .1) (call .ensures (i - 1) (c .before .before .before .before .before .before .before .before .loop .inv .1 .1 .0)) in
+    let count : i - 1 + 1 ≡ i + 1 - 1 = omega arith in
+    (line .0, (search needs, (subst (λ (k : ℕ). AreWords k (take (c .before .e .given .0 .0) (call .last .0))) count (line .1), (omega arith, omega arith))))
 
 same-length-2 : tie.Need-same-length-2 Inv-loop μ-loop
 same-length-2 c = search needs
 
 returns-2 : tie.Need-returns-2 Inv-loop μ-loop
-returns-2 c = search needs
+returns-2 c =
+    let count : c .before .loop .i - 1 ≡ c .before .before .before .args .count - 1 = omega arith in
+    (c .before .loop .inv .0, subst (λ (k : ℕ). AreWords k (take (c .before .loop .end) (c .before .loop .line))) count (c .before .loop .inv .1 .1 .0))
 
 pub joined-spec : {M : Type 1} → statement M
 joined-spec =

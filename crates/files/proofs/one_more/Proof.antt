@@ -1,8 +1,9 @@
--- `files::one_more` stays within the line: the space takes one byte of what is left.
+-- `files::one_more` puts a word behind those that are there: the space takes one byte of what is left.
+use borrow.Author.Needs.{needs}
 use mathlib.Core.Path.{_∙_}
 use native.Mathlib.Omega.{arith}
-use borrow.Author.Needs.{needs}
 use lib.ListN.{length-set}
+use Rattle.files.proofs.WordLaws.{puts-first, puts-next}
 use Rattle.files.proofs.one_more.Statement.{statement}
 use Rattle.files.proofs.one_more.Tie as tie
 
@@ -13,7 +14,7 @@ same-length : tie.Need-same-length
 same-length c = search needs
 
 returns : tie.Need-returns
-returns c = search needs
+returns c = λ n ws. puts-first (c .before .before .before .before .before .before .args .line .now) (c .before .before .put-argument .last .0) (c .before .before .put-argument .result) n (c .before .before .before .before .before .before .args .end) (omega arith) (c .before .before .put-argument .ensures) ws
 
 returns-2 : tie.Need-returns-2
 returns-2 c = search needs
@@ -31,7 +32,7 @@ same-length-2 : tie.Need-same-length-2
 same-length-2 c = c .before .before .put-argument2 .kept .0 ∙ simp length-set
 
 returns-3 : tie.Need-returns-3
-returns-3 c = search needs
+returns-3 c = λ n ws. puts-next (c .before .before .before .before .before .before .before .args .line .now) (c .before .before .put-argument2 .last .0) (c .before .before .put-argument2 .result) n (c .before .before .before .before .before .before .before .args .end) (omega arith) (omega arith) (c .before .before .put-argument2 .ensures) ws
 
 pub one-more-spec : {M : Type 1} → statement M
 one-more-spec =

@@ -1,35 +1,24 @@
--- `files::open` answers with a descriptor that is not below 0, as its test has it.
-use mathlib.Core.Path.{subst⁻¹}
+-- `files::open` answers with a descriptor that is not below 0, by what opening answered.
 use borrow.Author.Needs.{needs}
-use lib.Dec.{T}
-use lib.IntN.{pos}
-use lib.Signed.{leZ-yes, yes-nonNeg}
+use mathlib.Core.Path.{subst⁻¹}
 use mir.Syntax.{w32}
 use mir.Val.{toZ, ofZ}
+use Rattle.files.specs.Answers.{IsOpen}
+use Rattle.files.proofs.OpenLaws.{is-open}
 use Rattle.files.proofs.open.Statement.{statement}
 use Rattle.files.proofs.open.Tie as tie
 
 open-read-requires : tie.Need-open-read-requires
 open-read-requires c κs = search needs
 
-returns : tie.Need-returns
-returns c =
-    let descriptor = toZ w32 (ofZ w32 (c .before .open-read .result)) in
-    yes-nonNeg (leZ-yes {a = pos 0} {b = descriptor} (subst⁻¹ T (c .if1 .taken) tt))
-
 errno-requires : tie.Need-errno-requires
 errno-requires c κs = search needs
 
-returns-2 : tie.Need-returns-2
-returns-2 c = search needs
+opened-by-requires : tie.Need-opened-by-requires
+opened-by-requires c κs = search needs
 
-fail-requires : tie.Need-fail-requires
-fail-requires c κs = search needs
-
-returns-3 : tie.Need-returns-3
-returns-3 c = search needs
+returns : tie.Need-returns
+returns c = subst⁻¹ IsOpen (c .opened-by .ensures) (is-open (toZ w32 (ofZ w32 (c .before .before .open-read .result))) (toZ w32 (ofZ w32 (c .before .errno .result))))
 
 pub open-spec : {M : Type 1} → statement M
-open-spec =
-    tie.close
-    (tie.spec open-read-requires returns errno-requires returns-2 fail-requires returns-3)
+open-spec = tie.close (tie.spec open-read-requires errno-requires opened-by-requires returns)

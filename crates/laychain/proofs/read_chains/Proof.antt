@@ -1,21 +1,31 @@
--- `laychain::read_chains` ends: the lines that a table may have, and one more, are counted. A line lies within the buffer.
-use Prim.Native.Nat.{_-_, _≤_}
-use mathlib.Core.Path.{_≡_, subst}
+-- `laychain::read_chains` ends: the lines that a table may have, and one more, are counted. Each line that is accepted puts one
+-- chain behind the others.
+use Prim.Native.Nat.{_-_, _*_, _≤_}
+use mathlib.Core.Bool.{true, cond}
+use mathlib.Core.Path.{_≡_, sym, _∙_, subst, subst⁻¹}
 use native.Mathlib.Omega.{arith}
 use borrow.Author.Needs.{needs}
+use borrow.Author.Tests.{eqb-true}
+use lib.Dec.{eqb}
 use lib.ListN.{length}
-use Rattle.lines.specs.Input.{IsLine, IsNext}
+use Rattle.chart.proofs.PlaceLaws.{both}
+use Rattle.records.specs.ChainTables.{chainBytes, mostChains}
+use Rattle.lines.specs.Input.{IsNext}
+use Rattle.lines.proofs.LineLaws.{IsLine, line-next, holds-at-end}
+use Rattle.laychain.specs.Tables.{HoldsChains}
+use Rattle.laychain.proofs.TableLaws.{no-chains, one-more-line, held-if}
 use Rattle.laychain.proofs.read_chains.Statement.{statement}
 use Rattle.laychain.proofs.read_chains.Tie as tie
 
 abbrev Inv-loop : tie.InvT-loop
-Inv-loop buffer₀ table₀ from₀ to₀ count₀ well₀ buffer table from to count well = (count ≤ 17) × ((length table ≡ 384) × (length buffer ≡ length buffer₀))
+Inv-loop buffer₀ table₀ from₀ to₀ count₀ well₀ buffer table from to count well =
+    (count ≤ 17) × ((length table ≡ chainBytes * mostChains) × ((length buffer ≡ length buffer₀) × (well ≡ true → HoldsChains table count)))
 
 abbrev μ-loop : tie.MeasureT-loop
 μ-loop buffer₀ table₀ from₀ to₀ count₀ well₀ buffer table from to count well = 17 - count
 
 loop-holds : tie.Need-loop-holds Inv-loop μ-loop
-loop-holds c = search needs
+loop-holds c = (search needs, (search needs, (search needs, λ _. no-chains (c .before .before .args .table .now))))
 
 next-requires : tie.Need-next-requires Inv-loop μ-loop
 next-requires c κs = search needs
@@ -33,11 +43,18 @@ same-length-2 : tie.Need-same-length-2 Inv-loop μ-loop
 same-length-2 c = search needs
 
 returns : tie.Need-returns Inv-loop μ-loop
-returns c = search needs
+returns c =
+    let l = c .before .before .before .before .before .before .before .loop in
+    subst⁻¹ (HoldsChains (l .table)) (c .ended .ensures)
+    (holds-at-end (HoldsChains (l .table)) (c .before .before .before .before .next .result) (cond (l .well) (l .count) 0) 0
+    (held-if (l .table) (l .count) (l .well) (l .inv .1 .1 .1)) (no-chains (l .table)))
 
 -- The line that comes next.
 found : (c : tie.After-input Inv-loop μ-loop) → IsLine (c .before .before .before .before .next .last .0) (c .input .given .0 .0) (c .input .given .0 .1 .0) (c .input .given .0 .1 .1 .0)
-found c = subst (IsNext (c .before .before .before .before .next .last .0)) (c .input .given .1) (c .before .before .before .before .next .ensures)
+found c =
+    let l = c .before .before .before .before .before .before .before .loop in
+    let call = c .before .before .before .before .next in
+    line-next (l .buffer) (l .from) (l .to) (call .last .0) (subst (IsNext (l .buffer) (l .from) (l .to) (call .last .0)) (c .input .given .1) (call .ensures))
 
 sub-put-line : tie.Need-sub-put-line Inv-loop μ-loop
 sub-put-line c = found (c .before .before) .rises
@@ -54,8 +71,8 @@ put-line-requires c κs = search needs
 add-count : tie.Need-add-count Inv-loop μ-loop
 add-count c = search needs
 
-tell-requires : tie.Need-tell-requires Inv-loop μ-loop
-tell-requires c κs = search needs
+accepted-requires : tie.Need-accepted-requires Inv-loop μ-loop
+accepted-requires c κs = search needs
 
 add-from : tie.Need-add-from Inv-loop μ-loop
 add-from c = omega (arith, found (c .before .before .before .before .before .before .before .before) .inside, found (c .before .before .before .before .before .before .before .before) .stands)
@@ -64,7 +81,20 @@ loop-less : tie.Need-loop-less Inv-loop μ-loop
 loop-less c = search needs
 
 loop-again : tie.Need-loop-again Inv-loop μ-loop
-loop-again c = search needs
+loop-again c =
+    let l = c .before .before .before .before .before .before .before .before .before .before .before .before .before .before .before .loop in
+    let call = c .before .before .before .put-line in (
+      search needs,
+      (
+        search needs,
+        (
+          search needs,
+          λ e.
+              let good = both (l .well) (eqb (call .result) 0) (sym (c .accepted .ensures) ∙ e) in
+              one-more-line (l .table) (call .last .0) _ (l .count) (l .inv .1 .0) (l .inv .1 .1 .1 (good .0)) (sym (call .ensures .0) ∙ eqb-true (call .result) 0 (good .1)) (call .ensures .1),
+        ),
+      ),
+    )
 
 same-length-3 : tie.Need-same-length-3 Inv-loop μ-loop
 same-length-3 c = search needs
@@ -73,7 +103,7 @@ same-length-4 : tie.Need-same-length-4 Inv-loop μ-loop
 same-length-4 c = search needs
 
 returns-2 : tie.Need-returns-2 Inv-loop μ-loop
-returns-2 c = search needs
+returns-2 c = no-chains (c .before .loop .table)
 
 pub read-chains-spec : {M : Type 1} → statement M
 read-chains-spec =
@@ -93,7 +123,7 @@ read-chains-spec =
     part-put-line-end
     put-line-requires
     add-count
-    tell-requires
+    accepted-requires
     add-from
     loop-less
     loop-again

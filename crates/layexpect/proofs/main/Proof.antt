@@ -1,8 +1,8 @@
 -- `layexpect::main` hands on no more of the line than the arguments fill.
-use mathlib.Core.Path.{ap}
+use mathlib.Core.Path.{subst}
 use native.Mathlib.Omega.{arith}
 use borrow.Author.Needs.{needs}
-use Rattle.files.specs.Answers.{lineOf}
+use Rattle.files.specs.Answers.{IsArguments}
 use Rattle.layexpect.proofs.main.Statement.{statement}
 use Rattle.layexpect.proofs.main.Tie as tie
 
@@ -25,7 +25,10 @@ part-take-start : tie.Need-part-take-start
 part-take-start c = search needs
 
 part-take-end : tie.Need-part-take-end
-part-take-end c = omega (arith, ap lineOf (c .before .before .words .given .1))
+part-take-end c =
+    let call = c .before .before .before .before .before .arguments in
+    let given = subst (IsArguments (call .last .0)) (c .before .before .words .given .1) (call .ensures) in
+    omega (arith, given .0)
 
 take-requires : tie.Need-take-requires
 take-requires c κs = search needs

@@ -29,8 +29,8 @@ loop-holds c = search needs
 list-stretch-requires : tie.Need-list-stretch-requires Inv-loop μ-loop
 list-stretch-requires c κs = search needs
 
-enum-known-place : tie.Need-enum-known-place Inv-loop μ-loop
-enum-known-place c = search needs
+enum-known-last : tie.Need-enum-known-last Inv-loop μ-loop
+enum-known-last c = search needs
 
 enum-told : tie.Need-enum-told Inv-loop μ-loop
 enum-told c = search needs
@@ -68,7 +68,7 @@ list-log-spec =
     returns
     loop-holds
     list-stretch-requires
-    enum-known-place
+    enum-known-last
     enum-told
     same-length
     returns-2

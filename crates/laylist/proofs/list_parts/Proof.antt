@@ -1,18 +1,21 @@
--- `laylist::list_parts` stays within the buffer and ends: what is left of the log falls.
+-- `laylist::list_parts` goes on from the place of the whole stretch: the place behind it is always that behind what is left of it, from
+-- the place carried. It ends: what is left falls.
 use Prim.Native.Nat.{_-_, _≤_}
-use mathlib.Core.Path.{_≡_, ap}
-use native.Mathlib.Omega.{arith}
+use mathlib.Core.Path.{_≡_, sym, _∙_}
 use borrow.Author.Needs.{needs}
-use lib.ListN.{length}
-use Rattle.laylist.specs.Bounds.{endOf}
+use lib.ListN.{length, drop}
+use Rattle.listing.specs.Listings.{listingFrom}
+use Rattle.laylist.proofs.WalkLaws.{nothing-left, goes-on}
 use Rattle.laylist.proofs.list_parts.Statement.{statement}
 use Rattle.laylist.proofs.list_parts.Tie as tie
 
 abbrev Inv-loop : tie.InvT-loop
-Inv-loop out₀ job table log carried₀ end₀ done₀ out carried end done = (end ≤ length out) × ((done ≤ length log) × (length out ≡ length out₀))
+Inv-loop out₀ job table log carried₀ done₀ out carried done =
+    (done ≤ length log) × ((length out ≡ length out₀)
+    × (listingFrom job table log carried₀ .carried ≡ listingFrom job table (drop done log) carried .carried))
 
 abbrev μ-loop : tie.MeasureT-loop
-μ-loop out₀ job table log carried₀ end₀ done₀ out carried end done = length log - done
+μ-loop out₀ job table log carried₀ done₀ out carried done = length log - done
 
 loop-holds : tie.Need-loop-holds Inv-loop μ-loop
 loop-holds c = search needs
@@ -20,20 +23,20 @@ loop-holds c = search needs
 part-end-requires : tie.Need-part-end-requires Inv-loop μ-loop
 part-end-requires c κs = search needs
 
-sub-list-part : tie.Need-sub-list-part Inv-loop μ-loop
-sub-list-part c = search needs
+sub-print-part : tie.Need-sub-print-part Inv-loop μ-loop
+sub-print-part c = search needs
 
-part-list-part-start : tie.Need-part-list-part-start Inv-loop μ-loop
-part-list-part-start c = search needs
+part-print-part-start : tie.Need-part-print-part-start Inv-loop μ-loop
+part-print-part-start c = search needs
 
-part-list-part-end : tie.Need-part-list-part-end Inv-loop μ-loop
-part-list-part-end c = search needs
+part-print-part-end : tie.Need-part-print-part-end Inv-loop μ-loop
+part-print-part-end c = search needs
 
-list-part-requires : tie.Need-list-part-requires Inv-loop μ-loop
-list-part-requires c κs = search needs
+print-part-requires : tie.Need-print-part-requires Inv-loop μ-loop
+print-part-requires c κs = search needs
 
-enum-known-s : tie.Need-enum-known-s Inv-loop μ-loop
-enum-known-s c = search needs
+enum-known-place : tie.Need-enum-known-place Inv-loop μ-loop
+enum-known-place c = search needs
 
 enum-told : tie.Need-enum-told Inv-loop μ-loop
 enum-told c = search needs
@@ -48,13 +51,30 @@ loop-less : tie.Need-loop-less Inv-loop μ-loop
 loop-less c = search needs
 
 loop-again : tie.Need-loop-again Inv-loop μ-loop
-loop-again c = (omega (arith, ap endOf (c .before .s .given .1)), search needs)
+loop-again c =
+    let told = c .before in
+    let call = told .before .before .before .before in
+    let end = call .before .before .before in
+    let loop = end .before .before in
+    let start = loop .before .before .before .before .before in
+    let a = start .args in (
+      search needs,
+      (
+        search needs,
+        (loop .loop .inv .1 .1
+            ∙ goes-on (a .job .now) (a .table .now) (start .pre .1) (a .log .now) (loop .loop .done) (end .part-end .result) (end .part-end .ensures) (loop .loop .carried) (call .print-part .ensures) (told .place .given .1)),
+      ),
+    )
 
 same-length-2 : tie.Need-same-length-2 Inv-loop μ-loop
 same-length-2 c = search needs
 
 returns-2 : tie.Need-returns-2 Inv-loop μ-loop
-returns-2 c = search needs
+returns-2 c =
+    let loop = c .before in
+    let start = loop .before .before .before .before .before in
+    let a = start .args in
+    sym (loop .loop .inv .1 .1 ∙ nothing-left (a .job .now) (a .table .now) (start .pre .1) (a .log .now) (loop .loop .done) (loop .loop .carried) (search needs))
 
 pub list-parts-spec : {M : Type 1} → statement M
 list-parts-spec =
@@ -64,11 +84,11 @@ list-parts-spec =
     μ-loop
     loop-holds
     part-end-requires
-    sub-list-part
-    part-list-part-start
-    part-list-part-end
-    list-part-requires
-    enum-known-s
+    sub-print-part
+    part-print-part-start
+    part-print-part-end
+    print-part-requires
+    enum-known-place
     enum-told
     same-length
     returns

@@ -1,9 +1,19 @@
--- `layshow::put_record` stays within the buffer: the line lies within the part of it that was lent to `shown::record`.
+-- `layshow::put_record` puts the line of a record into its room.
 use native.Mathlib.Omega.{arith}
 use borrow.Author.Needs.{needs}
 use Rattle.shown.proofs.Fitting.{text-fits}
+use Rattle.layshow.proofs.LineLaws.{line-put}
 use Rattle.layshow.proofs.put_record.Statement.{statement}
 use Rattle.layshow.proofs.put_record.Tie as tie
+
+add-most : tie.Need-add-most
+add-most c = search needs
+
+mul-most : tie.Need-mul-most
+mul-most c = search needs
+
+add-most-2 : tie.Need-add-most-2
+add-most-2 c = search needs
 
 sub-record : tie.Need-sub-record
 sub-record c = search needs
@@ -17,25 +27,31 @@ part-record-end c = search needs
 record-requires : tie.Need-record-requires
 record-requires c κs = search needs
 
-passed-on-requires : tie.Need-passed-on-requires
-passed-on-requires c κs =
-    let call = c .before .before .before .record in
-    omega (arith, text-fits _ _ (call .ensures .0) (call .ensures .1), call .kept .0)
+after-requires : tie.Need-after-requires
+after-requires c κs =
+    let call = c .before .before in
+    omega (arith, text-fits _ _ (call .record .ensures .0) (call .record .ensures .1), call .record .kept .0)
 
 same-length : tie.Need-same-length
 same-length c = search needs
 
 returns : tie.Need-returns
-returns c = search needs
+returns c =
+    let call = c .before .before .before in
+    let start = call .before .before .before .before in
+    line-put (start .args .out .now) (start .args .at) _ (start .pre) _ (call .record .ensures .0) (call .record .ensures .1) (call .record .kept .0) (c .after .ensures)
 
 pub put-record-spec : {M : Type 1} → statement M
 put-record-spec =
     tie.close
     (tie.spec
+    add-most
+    mul-most
+    add-most-2
     sub-record
     part-record-start
     part-record-end
     record-requires
-    passed-on-requires
+    after-requires
     same-length
     returns)

@@ -1,21 +1,26 @@
--- `layshow::put_records` stays within the buffer and ends: what is left of the log falls.
-use Prim.Native.Nat.{_-_, _≤_}
-use mathlib.Core.Path.{_≡_, ap}
+-- `layshow::put_records` puts the lines of all records, in their order: those so far are put, and those of the rest are behind them. It ends:
+-- what is left of the log falls.
+use Prim.Native.Nat.{ℕ, _+_, _-_, _≤_}
 use native.Mathlib.Omega.{arith}
 use borrow.Author.Needs.{needs}
 use lib.ListN.{length}
-use Rattle.layshow.specs.Bounds.{endOf}
+use Rattle.records.specs.LogRecords.{logBytes}
+use Rattle.text.proofs.PutLaws.{put-length}
+use Rattle.layshow.specs.Walks.{recordLineAt}
+use Rattle.layshow.proofs.WalkLaws.{record-width, Reached, reached-none, next-room, reached-more, reached-all}
 use Rattle.layshow.proofs.put_records.Statement.{statement}
 use Rattle.layshow.proofs.put_records.Tie as tie
 
 abbrev Inv-loop : tie.InvT-loop
-Inv-loop out₀ log end₀ done₀ out end done = (end ≤ length out) × ((done ≤ length log) × (length out ≡ length out₀))
+Inv-loop out₀ log end₀ done₀ out end done =
+    (done ≤ length log) × ((number : ℕ) × Reached recordLineAt logBytes 0 log out₀ done number out end)
 
 abbrev μ-loop : tie.MeasureT-loop
 μ-loop out₀ log end₀ done₀ out end done = length log - done
 
 loop-holds : tie.Need-loop-holds Inv-loop μ-loop
-loop-holds c = search needs
+loop-holds c =
+    (search needs, (1, reached-none (omega (arith, c .before .before .pre))))
 
 piece-end-requires : tie.Need-piece-end-requires Inv-loop μ-loop
 piece-end-requires c κs = search needs
@@ -30,31 +35,33 @@ part-put-record-end : tie.Need-part-put-record-end Inv-loop μ-loop
 part-put-record-end c = search needs
 
 put-record-requires : tie.Need-put-record-requires Inv-loop μ-loop
-put-record-requires c κs = search needs
-
-enum-known-e : tie.Need-enum-known-e Inv-loop μ-loop
-enum-known-e c = search needs
-
-enum-told : tie.Need-enum-told Inv-loop μ-loop
-enum-told c = search needs
-
-same-length : tie.Need-same-length Inv-loop μ-loop
-same-length c = search needs
-
-returns : tie.Need-returns Inv-loop μ-loop
-returns c = search needs
+put-record-requires c κs =
+    let end = c .before .before in
+    let loop = end .before .before in
+    omega (arith, next-room record-width (loop .loop .inv .1 .1) (search needs) (end .piece-end .ensures))
 
 loop-less : tie.Need-loop-less Inv-loop μ-loop
 loop-less c = search needs
 
 loop-again : tie.Need-loop-again Inv-loop μ-loop
-loop-again c = (omega (arith, ap endOf (c .before .e .given .1)), search needs)
+loop-again c =
+    let call = c .before .before in
+    let end = call .before .before .before in
+    let loop = end .before .before in (
+      search needs,
+      (
+        loop .loop .inv .1 .0 + 1,
+        reached-more record-width (loop .loop .inv .1 .1) (search needs) (end .piece-end .ensures) (call .put-record .ensures),
+      ),
+    )
 
-same-length-2 : tie.Need-same-length-2 Inv-loop μ-loop
-same-length-2 c = search needs
+same-length : tie.Need-same-length Inv-loop μ-loop
+same-length c = put-length (c .before .loop .inv .1 .1 .put)
 
-returns-2 : tie.Need-returns-2 Inv-loop μ-loop
-returns-2 c = search needs
+returns : tie.Need-returns Inv-loop μ-loop
+returns c =
+    let loop = c .before in
+    reached-all record-width (loop .loop .inv .1 .1) (search needs)
 
 pub put-records-spec : {M : Type 1} → statement M
 put-records-spec =
@@ -68,11 +75,7 @@ put-records-spec =
     part-put-record-start
     part-put-record-end
     put-record-requires
-    enum-known-e
-    enum-told
-    same-length
-    returns
     loop-less
     loop-again
-    same-length-2
-    returns-2)
+    same-length
+    returns)

@@ -7,6 +7,9 @@ use Rattle.files.specs.Answers.{bytesOf}
 use Rattle.layshow.proofs.show.Statement.{statement}
 use Rattle.layshow.proofs.show.Tie as tie
 
+out-buffer-requires : tie.Need-out-buffer-requires
+out-buffer-requires c κs = search needs
+
 slice-aggregate-start : tie.Need-slice-aggregate-start
 slice-aggregate-start c = search needs
 
@@ -43,6 +46,9 @@ enum-told-2 c = search needs
 returns-2 : tie.Need-returns-2
 returns-2 c = search needs
 
+slice-aggregate-show-files : tie.Need-slice-aggregate-show-files
+slice-aggregate-show-files c = search needs
+
 sub-show-files : tie.Need-sub-show-files
 sub-show-files c = search needs
 
@@ -50,7 +56,7 @@ part-show-files-start : tie.Need-part-show-files-start
 part-show-files-start c = search needs
 
 part-show-files-end : tie.Need-part-show-files-end
-part-show-files-end c = omega (arith, ap bytesOf (c .before .before .before .before .before .before .before .before .before .j .given .1))
+part-show-files-end c = omega (arith, ap bytesOf (c .before .before .before .before .before .before .before .before .before .before .j .given .1))
 
 sub-show-files-2 : tie.Need-sub-show-files-2
 sub-show-files-2 c = search needs
@@ -59,10 +65,12 @@ part-show-files-start-2 : tie.Need-part-show-files-start-2
 part-show-files-start-2 c = search needs
 
 part-show-files-end-2 : tie.Need-part-show-files-end-2
-part-show-files-end-2 c = omega (arith, ap bytesOf (c .before .before .before .before .t .given .1))
+part-show-files-end-2 c = omega (arith, ap bytesOf (c .before .before .before .before .before .t .given .1))
 
 show-files-requires : tie.Need-show-files-requires
-show-files-requires c κs = simp length-take (omega arith)
+show-files-requires c κs =
+    let made = c .before .before .before .before .before .before .before .before .before .before .before .before .before .before .before .before .before .before .before .out-buffer in
+    (omega (arith, made .ok), simp length-take (omega arith), simp length-take (omega arith))
 
 returns-3 : tie.Need-returns-3
 returns-3 c = search needs
@@ -71,6 +79,7 @@ pub show-spec : {M : Type 1} → statement M
 show-spec =
     tie.close
     (tie.spec
+    out-buffer-requires
     slice-aggregate-start
     slice-aggregate-start-2
     start-requires
@@ -83,6 +92,7 @@ show-spec =
     enum-known-t
     enum-told-2
     returns-2
+    slice-aggregate-show-files
     sub-show-files
     part-show-files-start
     part-show-files-end

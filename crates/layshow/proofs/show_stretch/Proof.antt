@@ -2,6 +2,7 @@
 use mathlib.Core.Path.{ap}
 use native.Mathlib.Omega.{arith}
 use borrow.Author.Needs.{needs}
+use lib.ListN.{length-take}
 use Rattle.files.specs.Answers.{bytesOf}
 use Rattle.layshow.proofs.show_stretch.Statement.{statement}
 use Rattle.layshow.proofs.show_stretch.Tie as tie
@@ -27,20 +28,17 @@ enum-told c = search needs
 returns : tie.Need-returns
 returns c = search needs
 
-sub-put-records : tie.Need-sub-put-records
-sub-put-records c = search needs
+sub-show-records : tie.Need-sub-show-records
+sub-show-records c = search needs
 
-part-put-records-start : tie.Need-part-put-records-start
-part-put-records-start c = search needs
+part-show-records-start : tie.Need-part-show-records-start
+part-show-records-start c = search needs
 
-part-put-records-end : tie.Need-part-put-records-end
-part-put-records-end c = omega (arith, ap bytesOf (c .before .before .before .n .given .1))
+part-show-records-end : tie.Need-part-show-records-end
+part-show-records-end c = omega (arith, ap bytesOf (c .before .before .before .n .given .1))
 
-put-records-requires : tie.Need-put-records-requires
-put-records-requires c κs = search needs
-
-printed-requires : tie.Need-printed-requires
-printed-requires c κs = search needs
+show-records-requires : tie.Need-show-records-requires
+show-records-requires c κs = (search needs, simp length-take (omega arith))
 
 same-length : tie.Need-same-length
 same-length c = search needs
@@ -65,11 +63,10 @@ show-stretch-spec =
     enum-known-n
     enum-told
     returns
-    sub-put-records
-    part-put-records-start
-    part-put-records-end
-    put-records-requires
-    printed-requires
+    sub-show-records
+    part-show-records-start
+    part-show-records-end
+    show-records-requires
     same-length
     returns-2
     same-length-2

@@ -1,22 +1,26 @@
--- `laywrite::each_line` ends: the lines are counted. A line lies within its buffer, and the records that wait within theirs.
-use Prim.Native.Nat.{_-_, _≤_, _^_}
-use mathlib.Core.Path.{_≡_, subst}
+-- `laywrite::each_line` ends: the lines are counted. What waits are records of accepted drafts, line by line.
+use Prim.Native.Nat.{_-_, _^_}
+use mathlib.Core.Path.{_≡_, subst, subst⁻¹}
 use native.Mathlib.Omega.{arith}
 use borrow.Author.Needs.{needs}
-use lib.ListN.{length}
-use Rattle.lines.specs.Input.{IsLine, IsNext}
-use Rattle.laywrite.specs.Bounds.{waitingOf}
+use lib.ListN.{length, take, drop}
+use Rattle.typed.specs.Typed.{draftIn}
+use Rattle.lines.specs.Input.{IsNext}
+use Rattle.lines.proofs.LineLaws.{IsLine, line-next, holds-at-end}
+use Rattle.laywrite.specs.Waiting.{allDropped, HoldRecords}
+use Rattle.laywrite.proofs.WaitLaws.{hold-none, hold-inside, hold-taken}
 use Rattle.laywrite.proofs.each_line.Statement.{statement}
 use Rattle.laywrite.proofs.each_line.Tie as tie
 
 abbrev Inv-loop : tie.InvT-loop
-Inv-loop buffer₀ out₀ scratch from₀ to₀ records₀ line₀ buffer out from to records line = (waitingOf records ≤ length out) × ((length out ≡ length out₀) × (length buffer ≡ length buffer₀))
+Inv-loop buffer₀ out₀ scratch from₀ to₀ records₀ line₀ buffer out from to records line =
+    HoldRecords out records × ((length out ≡ length out₀) × (length buffer ≡ length buffer₀))
 
 abbrev μ-loop : tie.MeasureT-loop
 μ-loop buffer₀ out₀ scratch from₀ to₀ records₀ line₀ buffer out from to records line = 2 ^ 64 - line
 
 loop-holds : tie.Need-loop-holds Inv-loop μ-loop
-loop-holds c = search needs
+loop-holds c = (hold-none (c .before .before .args .out .now), (search needs, search needs))
 
 next-requires : tie.Need-next-requires Inv-loop μ-loop
 next-requires c κs = search needs
@@ -37,11 +41,16 @@ same-length-2 : tie.Need-same-length-2 Inv-loop μ-loop
 same-length-2 c = search needs
 
 returns : tie.Need-returns Inv-loop μ-loop
-returns c = search needs
+returns c =
+    let l = c .before .before .before .before .before .before .before .loop in
+    subst⁻¹ (HoldRecords (l .out)) (c .ended .ensures) (holds-at-end (HoldRecords (l .out)) (c .before .before .before .before .next .result) (l .records) allDropped (l .inv .0) tt)
 
 -- The line that comes next.
 found : (c : tie.After-input Inv-loop μ-loop) → IsLine (c .before .before .before .before .next .last .0) (c .input .given .0 .0) (c .input .given .0 .1 .0) (c .input .given .0 .1 .1 .0)
-found c = subst (IsNext (c .before .before .before .before .next .last .0)) (c .input .given .1) (c .before .before .before .before .next .ensures)
+found c =
+    let l = c .before .before .before .before .before .before .before .loop in
+    let call = c .before .before .before .before .next in
+    line-next (l .buffer) (l .from) (l .to) (call .last .0) (subst (IsNext (l .buffer) (l .from) (l .to) (call .last .0)) (c .input .given .1) (call .ensures))
 
 sub-take-line : tie.Need-sub-take-line Inv-loop μ-loop
 sub-take-line c = found (c .before .before) .rises
@@ -53,7 +62,9 @@ part-take-line-end : tie.Need-part-take-line-end Inv-loop μ-loop
 part-take-line-end c = omega (arith, found (c .before .before .before) .inside, found (c .before .before .before) .stands)
 
 take-line-requires : tie.Need-take-line-requires Inv-loop μ-loop
-take-line-requires c κs = search needs
+take-line-requires c κs =
+    let l = c .before .before .before .before .before .before .before .before .before .before .before .loop in
+    (omega (arith, hold-inside (l .out) (l .records) (l .inv .0)), omega arith)
 
 add-from : tie.Need-add-from Inv-loop μ-loop
 add-from c = omega (arith, found (c .before .before .before .before .before .before .before) .inside, found (c .before .before .before .before .before .before .before) .stands)
@@ -62,7 +73,12 @@ loop-less : tie.Need-loop-less Inv-loop μ-loop
 loop-less c = search needs
 
 loop-again : tie.Need-loop-again Inv-loop μ-loop
-loop-again c = search needs
+loop-again c =
+    let l = c .before .before .before .before .before .before .before .before .before .before .before .before .before .before .loop in
+    let call = c .before .before .take-line in
+    let start = c .before .before .before .before .before .before .before .input .given .0 .0 in
+    let text = take (c .before .before .before .before .before .before .before .input .given .0 .1 .0 - start) (drop start (c .before .before .before .before .before .before .before .before .before .before .before .next .last .0)) in
+    (hold-taken (l .records) (l .out) (call .last .0) (draftIn text) (call .result) (l .inv .0) (call .ensures), (search needs, search needs))
 
 same-length-3 : tie.Need-same-length-3 Inv-loop μ-loop
 same-length-3 c = search needs
@@ -71,7 +87,7 @@ same-length-4 : tie.Need-same-length-4 Inv-loop μ-loop
 same-length-4 c = search needs
 
 returns-2 : tie.Need-returns-2 Inv-loop μ-loop
-returns-2 c = search needs
+returns-2 c = tt
 
 pub each-line-spec : {M : Type 1} → statement M
 each-line-spec =

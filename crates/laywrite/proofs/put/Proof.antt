@@ -1,8 +1,7 @@
--- `laywrite::put` stays within the buffer, as `text::put` does.
-use native.Mathlib.Omega.{arith}
+-- `laywrite::put` puts all of the bytes, as `text::put` does where there is room.
 use borrow.Author.Needs.{needs}
-use lib.ListN.{length}
-use Rattle.text.proofs.PutLaws.{ends-inside}
+use native.Mathlib.Omega.{arith}
+use Rattle.text.proofs.PutLaws.{put-from, put-front, put-length}
 use Rattle.laywrite.proofs.put.Statement.{statement}
 use Rattle.laywrite.proofs.put.Tie as tie
 
@@ -15,12 +14,8 @@ same-length c = search needs
 returns : tie.Need-returns
 returns c =
     let a = c .before .before .before .before .before .before .args in
-    omega (
-      arith,
-      ends-inside (length (a .out .now)) (a .at) (a .bytes .now) (omega (arith, c .before .before .before .before .before .before .pre)),
-      c .before .before .put .ensures .0,
-      c .before .before .put .kept .0,
-    )
+    let put = put-from {o = a .out .now} {at = a .at} {x = a .bytes .now} (c .before .before .put .ensures) (c .before .before .before .before .before .before .pre) in
+    (omega (arith, put .end-is, put .fits, put-length put), put-front put)
 
 pub put-spec : {M : Type 1} → statement M
 put-spec = tie.close (tie.spec put-requires same-length returns)

@@ -1,8 +1,8 @@
 -- `laywrite::read_records` writes no more records than wait.
-use mathlib.Core.Path.{ap}
-use native.Mathlib.Omega.{arith}
 use borrow.Author.Needs.{needs}
-use Rattle.laywrite.specs.Bounds.{waitingOf}
+use mathlib.Core.Path.{subst}
+use native.Mathlib.Omega.{arith}
+use Rattle.laywrite.specs.Waiting.{HoldRecords}
 use Rattle.laywrite.proofs.read_records.Statement.{statement}
 use Rattle.laywrite.proofs.read_records.Tie as tie
 
@@ -31,7 +31,10 @@ part-written-start : tie.Need-part-written-start
 part-written-start c = search needs
 
 part-written-end : tie.Need-part-written-end
-part-written-end c = omega (arith, ap waitingOf (c .before .before .n .given .1))
+part-written-end c =
+    let call = c .before .before .before .before .before .before .each-line in
+    let held = subst (HoldRecords (call .last .1 .0)) (c .before .before .n .given .1) (call .ensures) in
+    omega (arith, held .0)
 
 written-requires : tie.Need-written-requires
 written-requires c κs = search needs

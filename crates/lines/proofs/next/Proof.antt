@@ -1,112 +1,77 @@
--- `lines::next` answers with a line that was found before more was read, or after it, in the buffer as it then is.
-use Prim.Native.Nat.{_≤_}
-use mathlib.Core.Path.{ap, subst}
+-- `lines::next` answers with what is there, or with what more is read.
+use mathlib.Core.Logic.{inl, inr}
+use mathlib.Core.Path.{sym, _∙_, subst}
 use native.Mathlib.Omega.{arith}
 use borrow.Author.Needs.{needs}
-use lib.ListN.{length}
-use Rattle.files.specs.Answers.{bytesOf}
-use Rattle.lines.specs.Input.{IsFound}
-use Rattle.lines.proofs.FrontLaws.{no-more}
+use denote.Enum.Declared.{tagOf}
+use mathlib.Core.List.{[], _∷_}
+use types.Run.{OneOf}
+use Rattle.lines.specs.declared.Input.{Input}
+use Rattle.lines.proofs.Input.{the-type}
+use Rattle.lines.proofs.LineLaws.{last-there, line-there, not-there, next-there, next-read}
 use Rattle.lines.proofs.next.Statement.{statement}
 use Rattle.lines.proofs.next.Tie as tie
 
-newline-requires : tie.Need-newline-requires
-newline-requires c κs = search needs
+least-requires : tie.Need-least-requires
+least-requires c κs = search needs
 
-enum-known-end : tie.Need-enum-known-end
-enum-known-end c = search needs
+next-in-requires : tie.Need-next-in-requires
+next-in-requires c κs = search needs
 
 same-length : tie.Need-same-length
 same-length c = search needs
 
 returns : tie.Need-returns
 returns c =
-    let a = c .before .before .before .before .before .before .args in
-    subst (IsFound (a .buffer .now) (a .from) (a .to)) (c .before .end .given .1) (c .before .before .before .newline .ensures)
+    let a = c .before .before .before .before .before .args in
+    let stop = c .before .before .before .least .result in
+    let same = c .before .before .before .least .ensures in
+    next-there (a .buffer .now) (a .from) (a .to) stop same (last-there (a .buffer .now) (a .from) stop (omega arith)) (c .before .next-in .ensures)
 
 enum-told : tie.Need-enum-told
 enum-told c = search needs
-
-last-requires : tie.Need-last-requires
-last-requires c κs = search needs
 
 same-length-2 : tie.Need-same-length-2
 same-length-2 c = search needs
 
 returns-2 : tie.Need-returns-2
-returns-2 c = c .last .ensures (c .before .before .before .before .before .before .before .args .buffer .now)
+returns-2 c =
+    let a = c .before .before .before .before .before .before .before .args in
+    let stop = c .before .before .before .before .before .least .result in
+    let call = c .before .before .before .next-in in
+    next-there (a .buffer .now) (a .from) (a .to) stop (c .before .before .before .before .before .least .ensures) (line-there (a .buffer .now) (a .from) stop (sym (c .enum-told .given .1) ∙ call .ensures)) (call .ensures)
 
-front-requires : tie.Need-front-requires
-front-requires c κs = search needs
-
-slice-aggregate-fill : tie.Need-slice-aggregate-fill
-slice-aggregate-fill c = search needs
-
-few : (c : tie.After-front) → c .front .result ≤ length (c .front .last .0)
-few c =
-    let a = c .before .before .before .before .before .before .before .before .args in
-    omega (arith, no-more (a .buffer .now) (a .from) (a .to), c .front .ensures .0, c .front .kept .0)
-
-sub-fill : tie.Need-sub-fill
-sub-fill c = few (c .before .before .before)
-
-part-fill-start : tie.Need-part-fill-start
-part-fill-start c = search (needs, few (c .before .before .before))
-
-part-fill-end : tie.Need-part-fill-end
-part-fill-end c = search needs
-
-fill-requires : tie.Need-fill-requires
-fill-requires c κs = search needs
-
-enum-known-more : tie.Need-enum-known-more
-enum-known-more c = search needs
-
-enum-told-2 : tie.Need-enum-told-2
-enum-told-2 c = search needs
+read-more-requires : tie.Need-read-more-requires
+read-more-requires c κs = search needs
 
 same-length-3 : tie.Need-same-length-3
 same-length-3 c = search needs
 
+-- A line is the first of four, and none of the three others.
+no-line : OneOf (1 ∷ 2 ∷ 3 ∷ []) 0 → ⊥
+no-line (inl e) = omega arith
+no-line (inr (inl e)) = omega arith
+no-line (inr (inr e)) = omega arith
+
 returns-3 : tie.Need-returns-3
-returns-3 c = search needs
-
-add-first : tie.Need-add-first
-add-first c =
-    omega (arith, few (c .before .before .before .before .before .before .before .before .before .before .before), ap bytesOf (c .before .before .more .given .1), c .before .before .before .before .before .before .fill .ensures, c .before .before .before .before .before .before .fill .kept .1 .1 .0)
-
-first-requires : tie.Need-first-requires
-first-requires c κs = search needs
-
-same-length-4 : tie.Need-same-length-4
-same-length-4 c = search needs
-
-returns-4 : tie.Need-returns-4
-returns-4 c = search needs
+returns-3 c =
+    let a = c .before .before .before .before .before .before .before .before .before .before .args in
+    let stop = c .before .before .before .before .before .before .before .before .least .result in
+    let call = c .before .before .before .before .before .before .next-in in
+    let none = not-there (a .buffer .now) (a .from) stop (omega arith) (λ end e. no-line (subst (λ (r : Input). OneOf (1 ∷ 2 ∷ 3 ∷ []) (tagOf the-type r)) (call .ensures ∙ e) (c .before .before .before .before .match .keys2))) in
+    next-read (a .buffer .now) (a .from) (a .to) stop (c .before .before .before .before .before .before .before .before .least .ensures) none (c .before .before .read-more .ensures)
 
 pub next-spec : {M : Type 1} → statement M
 next-spec =
     tie.close
     (tie.spec
-    newline-requires
-    enum-known-end
+    least-requires
+    next-in-requires
     same-length
     returns
     enum-told
-    last-requires
     same-length-2
     returns-2
-    front-requires
-    slice-aggregate-fill
-    sub-fill
-    part-fill-start
-    part-fill-end
-    fill-requires
-    enum-known-more
-    enum-told-2
+    read-more-requires
     same-length-3
-    returns-3
-    add-first
-    first-requires
-    same-length-4
-    returns-4)
+    returns-3)

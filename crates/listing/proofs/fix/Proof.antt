@@ -38,7 +38,7 @@ returns c =
 
 returns-2 : tie.Need-returns-2
 unfolding fixBy
-returns-2 c = tells-as (sym (ap (fixBy _ _ _) (c .before .before .chain2 .given .1))) (c .refused .ensures _)
+returns-2 c = tells-as (sym (ap (fixBy _ _) (c .before .before .chain2 .given .1))) (c .refused .ensures _)
 
 pub fix-spec : {M : Type 1} → statement M
 fix-spec =

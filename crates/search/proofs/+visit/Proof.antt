@@ -13,7 +13,7 @@ use Rattle.chart.specs.Places.{inRange}
 use Rattle.search.specs.Windows.{east, north, northEast}
 use Rattle.search.specs.Questions.{isKept}
 use Rattle.search.specs.Walk.{counted}
-use Rattle.search.specs.Holding.{questionBy, OnChart}
+use Rattle.search.specs.Holding.{ruleBy, questionBy, OnChart}
 use Rattle.search.proofs.HoldLaws.{after-holds, out-holds, count-holds, cell-holds, dropped-holds, quarters-hold}
 use Rattle.search.proofs.SquareLaws.{corner-in-range, k-is, half-is, middle-in-range, kept-is}
 use Rattle.search.proofs.visit.Reads as visit
@@ -24,7 +24,7 @@ use Rattle.search.proofs.east.Reads as east-reads
 use Rattle.search.proofs.near.Reads as near-reads
 use Rattle.search.proofs.north.Reads as north-reads
 use Rattle.search.proofs.north_east.Reads as north-east-reads
-use Rattle.search.proofs.range.Reads as range-reads
+use Rattle.search.proofs.distance.Reads as distance-reads
 use Rattle.search.proofs.+visit.{statement}
 use Rattle.search.proofs.+visit.Tie.{close}
 
@@ -45,8 +45,8 @@ claims t = (
   cell-reads.Learnt,
   north-east-reads.Asked,
   north-east-reads.Learnt,
-  range-reads.Asked,
-  range-reads.Learnt,
+  distance-reads.Asked,
+  distance-reads.Learnt,
   near-reads.Asked,
   near-reads.Learnt,
   east-reads.Asked,
@@ -74,12 +74,12 @@ middle-ok t c =
     let a = started t (c .before) .args in
     subst⁻¹ (λ (o : Place). inRange o ≡ true) (c .north-east .ensures) (middle-in-range (a .k) (a .side) (a .p) (started t (c .before) .pre .1 .1) (c .before .if3 .left))
 
-test-is : (t : ℕ) (c : lts.After-near (claims t) (visit-at t) visit.Post) → let a = started t (c .before .before .before .before) .args in c .near .result ≡ isKept (questionBy (a .h)) (a .k - 1) (a .p)
+test-is : (t : ℕ) (c : lts.After-near (claims t) (visit-at t) visit.Post) → let a = started t (c .before .before .before .before) .args in c .near .result ≡ isKept (ruleBy (a .h)) (a .k - 1) (a .p)
 test-is t c =
     let e = c .before .before .before .before in
     let a = started t e .args in
     c .near .ensures
-    ∙ kept-is (a .k) (a .side) (a .p) (started t e .pre .1 .1) (e .if3 .left) (questionBy (a .h)) _ (c .before .before .before .north-east .ensures)
+    ∙ kept-is (a .k) (a .side) (a .p) (started t e .pre .1 .1) (e .if3 .left) (ruleBy (a .h)) _ (c .before .before .before .north-east .ensures)
 
 -- Where the places of all four quarters are made.
 abbrev larger : (t : ℕ) → lts.After-north (claims t) (visit-at t) visit.Post → lts.Else3 (claims t) (visit-at t) visit.Post
@@ -141,8 +141,8 @@ visit-north-east-requires t c κs =
     let start = started t c in
     omega (arith, start .pre .1 .1 .side-is, start .pre .1 .1 .east, start .pre .1 .1 .north)
 
-visit-range-requires : (t : ℕ) → lts.Need-range-requires (claims t) (visit-at t) visit.Post
-visit-range-requires t c κs = (middle-ok t c, started t (c .before) .pre .1 .0 .master)
+visit-distance-requires : (t : ℕ) → lts.Need-distance-requires (claims t) (visit-at t) visit.Post
+visit-distance-requires t c κs = (middle-ok t c, started t (c .before) .pre .1 .0 .master)
 
 visit-mul-near : (t : ℕ) → lts.Need-mul-near (claims t) (visit-at t) visit.Post
 visit-mul-near t c = search needs
@@ -160,7 +160,7 @@ visit-add-near-3 t c =
 visit-near-requires : (t : ℕ) → lts.Need-near-requires (claims t) (visit-at t) visit.Post
 visit-near-requires t c κs =
     let start = started t (c .before .before .before) in
-    (start .pre .1 .0, middle-ok t (c .before .before), c .before .range .ensures .0, c .before .range .ensures .1, omega (arith, start .pre .1 .0 .tolerance, start .pre .1 .1 .east, start .pre .1 .1 .side-is))
+    (start .pre .1 .0, middle-ok t (c .before .before), c .before .distance .ensures .0, c .before .distance .ensures .1, omega (arith, start .pre .1 .0 .tolerance, start .pre .1 .1 .east, start .pre .1 .1 .side-is))
 
 visit-returns-4 : (t : ℕ) → lts.Need-returns-4 (claims t) (visit-at t) visit.Post
 visit-returns-4 t c = λ s h.
@@ -264,7 +264,7 @@ pub +visit-spec : {M : Type 1} → statement M
     (visit-same-length t)
     (visit-returns-3 t)
     (visit-north-east-requires t)
-    (visit-range-requires t)
+    (visit-distance-requires t)
     (visit-mul-near t)
     (visit-add-near-2 t)
     (visit-add-near-3 t)

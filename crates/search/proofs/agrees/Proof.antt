@@ -8,7 +8,8 @@ use lib.Dec.{leb}
 use lib.IntN.{subℕ}
 use mir.Syntax.{w64}
 use mir.Val.{Fits}
-use Rattle.chart.specs.Readings.{rangeOf, differ}
+use Rattle.chart.specs.Places.{distanceOf}
+use Rattle.chart.specs.Readings.{differ}
 use Rattle.search.proofs.Agreeing.{miss, miss-is, none-near, too-far, not-far, by-low}
 use Rattle.search.proofs.agrees.Statement.{statement}
 use Rattle.search.proofs.agrees.Tie as tie
@@ -18,7 +19,7 @@ square-fits : (x : ℕ) → x ≤ 4294967295 → Fits w64 (x * x)
 square-fits x h = record { fits = omega (arith, mul-le-mul h h) }
 
 -- The statement's test, in terms of the squared distance.
-told : (c : tie.After-squared) → let a = c .before .args in leb (differ (subℕ (rangeOf (a .p) (a .w .slave)) (a .m)) (subℕ (a .w .above) (a .w .below))) (a .slack) ≡ leb (miss (c .squared .result) (a .m) (a .w .above) (a .w .below)) (a .slack)
+told : (c : tie.After-squared) → let a = c .before .args in leb (differ (subℕ (distanceOf (a .p) (a .w .slave)) (a .m)) (subℕ (a .w .above) (a .w .below))) (a .slack) ≡ leb (miss (c .squared .result) (a .m) (a .w .above) (a .w .below)) (a .slack)
 told c =
     let a = c .before .args in
     ap (λ (n : ℕ). leb n (a .slack)) (miss-is (a .p) (a .w .slave) (c .squared .result) (a .m) (a .w .above) (a .w .below) (c .squared .ensures .0))

@@ -9,8 +9,8 @@ use Rattle.search.proofs.HoldLaws.{missed-holds, full-holds, listed-hol
 use Rattle.search.proofs.cell.Statement.{statement}
 use Rattle.search.proofs.cell.Tie as tie
 
-range-requires : tie.Need-range-requires
-range-requires c κs = search needs
+distance-requires : tie.Need-distance-requires
+distance-requires c κs = search needs
 
 near-requires : tie.Need-near-requires
 near-requires c κs = search needs
@@ -64,7 +64,7 @@ pub cell-spec : {M : Type 1} → statement M
 cell-spec =
     tie.close
     (tie.spec
-    range-requires
+    distance-requires
     near-requires
     returns
     returns-2

@@ -1,40 +1,52 @@
--- `search::near` meets its contract: a first slave that misses decides, and the second otherwise.
+-- `search::near` meets its contract: a first slave that misses decides, and the second otherwise. What the code compares are
+-- distances, which the ranges of the definition are.
 use Prim.Native.Nat.{ℕ}
-use mathlib.Core.Path.{_≡_, sym, ap, _∙_}
+use mathlib.Core.Path.{_≡_, sym, ap₂, _∙_}
 use mathlib.Core.Bool.{and-true}
 use borrow.Author.Needs.{needs}
 use borrow.Author.Tests.{not-true, not-false}
 use lib.Dec.{leb}
-use lib.IntN.{subℕ}
-use Rattle.chart.specs.Readings.{rangeOf, readingOf, differ, within}
+use lib.IntN.{ℤ, subℕ}
+use Rattle.chart.specs.declared.Place.{Place}
+use Rattle.chart.specs.declared.Chain.{Chain}
+use Rattle.chart.specs.Places.{distanceOf}
+use Rattle.chart.specs.Readings.{readingOf, differ, within}
+use Rattle.chart.proofs.RangeLaws.{range-is-distance}
+use Rattle.search.specs.Holding.{ruleBy, wantedBy}
 use Rattle.search.proofs.near.Statement.{statement}
 use Rattle.search.proofs.near.Tie as tie
 
 agrees-requires : tie.Need-agrees-requires
 agrees-requires c κs = search needs
 
--- The master's range at hand makes the definition's reading.
-first : (c : tie.After-agrees) → let a = c .before .args in c .agrees .result ≡ leb (differ (subℕ (rangeOf (a .p) (a .h .a .slave)) (rangeOf (a .p) (a .h .master))) (subℕ (a .h .a .above) (a .h .a .below))) (a .slack)
+-- The distances at hand make the definition's reading.
+by-distances : (chain : Chain) (slave p : Place) (m slack : ℕ) (wanted : ℤ) → m ≡ distanceOf p (chain .master) →
+    leb (differ (subℕ (distanceOf p slave) m) wanted) slack ≡ leb (differ (readingOf chain slave p) wanted) slack
+unfolding readingOf
+by-distances chain slave p m slack wanted e =
+    ap₂ (λ (s m : ℕ). leb (differ (subℕ s m) wanted) slack)
+    (sym (range-is-distance chain p slave)) (e ∙ sym (range-is-distance chain p (chain .master)))
+
+first : (c : tie.After-agrees) → let a = c .before .args in c .agrees .result ≡ leb (differ (readingOf (ruleBy (a .h) .chain) (a .h .a .slave) (a .p)) (wantedBy (a .h .a) .reading)) (a .slack)
 first c =
     let a = c .before .args in
-    c .agrees .ensures
-    ∙ ap (λ (m : ℕ). leb (differ (subℕ (rangeOf (a .p) (a .h .a .slave)) m) (subℕ (a .h .a .above) (a .h .a .below))) (a .slack)) (c .before .pre .2)
+    c .agrees .ensures ∙ by-distances (ruleBy (a .h) .chain) (a .h .a .slave) (a .p) (a .m) (a .slack) _ (c .before .pre .2)
 
-second : (c : tie.After-agrees2) → let a = c .before .before .before .args in c .agrees2 .result ≡ leb (differ (subℕ (rangeOf (a .p) (a .h .b .slave)) (rangeOf (a .p) (a .h .master))) (subℕ (a .h .b .above) (a .h .b .below))) (a .slack)
+second : (c : tie.After-agrees2) → let a = c .before .before .before .args in c .agrees2 .result ≡ leb (differ (readingOf (ruleBy (a .h) .chain) (a .h .b .slave) (a .p)) (wantedBy (a .h .b) .reading)) (a .slack)
 second c =
-    let a = c .before .before .before .args in
-    c .agrees2 .ensures
-    ∙ ap (λ (m : ℕ). leb (differ (subℕ (rangeOf (a .p) (a .h .b .slave)) m) (subℕ (a .h .b .above) (a .h .b .below))) (a .slack)) (c .before .before .before .pre .2)
+    let start = c .before .before .before in
+    let a = start .args in
+    c .agrees2 .ensures ∙ by-distances (ruleBy (a .h) .chain) (a .h .b .slave) (a .p) (a .m) (a .slack) _ (start .pre .2)
 
 returns : tie.Need-returns
-unfolding within readingOf
+unfolding within
 returns c = rw (sym (first (c .before)) ∙ not-true _ (c .if1 .taken))
 
 agrees-requires-2 : tie.Need-agrees-requires-2
 agrees-requires-2 c κs = search needs
 
 returns-2 : tie.Need-returns-2
-unfolding within readingOf
+unfolding within
 returns-2 c = rw (sym (first (c .before .before)) ∙ not-false _ (c .before .if1 .left), and-true) (second c)
 
 pub near-spec : {M : Type 1} → statement M

@@ -1,6 +1,7 @@
 -- `search::search` meets its contract: the first test that fails is told with the list cleared, and else the walk's end.
 use mathlib.Core.Path.{_≡_, refl, sym, ap, ap₂, _∙_, subst}
 use mathlib.Core.Bool.{true}
+use mathlib.Core.List.{[], _∷_}
 use native.Mathlib.Omega.{arith}
 use borrow.Author.Needs.{needs}
 use borrow.Author.Tests.{not-true, not-false}
@@ -30,17 +31,17 @@ back-b o = toZ-ofZ w64 (o .args .rb) (o .fits .rb)
 
 -- The question asked.
 abbrev asked : tie.Start → Question
-asked o = let a = o .args in questionOf (a .c) (a .ra) (a .rb) (a .tolerance) (a .allowance) (length (a .list .now))
+asked o = let a = o .args in questionOf (a .c) (a .ra ∷ a .rb ∷ []) (a .tolerance) (a .allowance) (length (a .list .now))
 
 -- The three tests, as the definitions have them.
 abbrev from : tie.After-is-window → tie.Start
 from c = c .before .before .before .before
 
-first : (c : tie.After-is-window) → c .before .before .none-too-large .result ≡ noneTooLarge (asked (from c) .wanted)
+first : (c : tie.After-is-window) → c .before .before .none-too-large .result ≡ noneTooLarge (asked (from c) .rule .wanted)
 first c =
     let a = from c .args in
     c .before .before .none-too-large .ensures (a .c)
-    ∙ ap₂ (λ (x y : ℤ). noneTooLarge (wantedOf (a .c) x y)) (back-a (from c)) (back-b (from c))
+    ∙ ap₂ (λ (x y : ℤ). noneTooLarge (wantedOf (a .c) (x ∷ y ∷ []))) (back-a (from c)) (back-b (from c))
 
 none-too-large-requires : tie.Need-none-too-large-requires
 none-too-large-requires c κs = search needs
@@ -63,7 +64,7 @@ returns c =
     let o = from (then .before) in
     refusal-told _ _ _ (o .args .list .now) _ refl (search-3 (asked o) (o .args .w) (sym (first (then .before)) ∙ not-true _ (then .if1 .taken))) (c .before .before .clear .ensures)
 
-small : (c : tie.Else1) → noneTooLarge (asked (from (c .before)) .wanted) ≡ true
+small : (c : tie.Else1) → noneTooLarge (asked (from (c .before)) .rule .wanted) ≡ true
 small c = sym (first (c .before)) ∙ not-false _ (c .if1 .left)
 
 clear-requires-2 : tie.Need-clear-requires-2
@@ -123,7 +124,7 @@ wished-requires-2 c κs = search needs
 abbrev begun : tie.Else4 → tie.Start
 begun c = from (c .before .before .before .before)
 
-accepted : (c : tie.Else4) → Accepted (asked (begun c)) (begun c .args .w)
+accepted : (c : tie.Else4) → Accepted (asked (begun c) .rule) (begun c .args .w)
 accepted c =
     record {
       readings = small (c .before .before .before);

@@ -1,18 +1,18 @@
 -- `shown::expected` meets its contract: why there are no readings, or a line for each slave.
-use Prim.Native.Nat.{_≤_}
-use mathlib.Core.Path.{sym, ap, _∙_, subst}
-use native.Mathlib.Omega.{arith}
+use mathlib.Core.Path.{_≡_, sym, ap, ap₂, _∙_}
+use mathlib.Core.Bool.{true}
+use mathlib.Core.List.{[], _∷_}
+use borrow.Author.Needs.{needs}
 use borrow.Author.Tests.{not-true, not-false}
 use lib.IntN.{ℤ}
-use lib.ListN.{length, length-append}
+use lib.ListN.{length}
 use mir.Syntax.{w64}
 use mir.ValLaws.{toZ-ofZ}
-use Rattle.text.specs.Texts.{bytesIn}
-use Rattle.text.proofs.PutLaws.{put-both}
-use Rattle.shown.specs.Expected.{slaveLine, expectedText}
-use Rattle.shown.specs.Rooms.{Reply, lineFor, bufferFor, inRoom, replyOf}
-use Rattle.shown.proofs.ShownLaws.{puts-as, with-room, without-room, answered, reply-refused, reply-told}
-use borrow.Author.Needs.{needs}
+use Rattle.chart.specs.declared.Expected.{Expected}
+use Rattle.chart.specs.Readings.{saidBy}
+use Rattle.shown.specs.Expected.{expectedText}
+use Rattle.shown.specs.Rooms.{Reply, Says, lineFor, bufferFor, hasRoom, inRoom, replyOf}
+use Rattle.shown.proofs.ShownLaws.{with-room, without-room, answered}
 use Rattle.shown.proofs.expected.Statement.{statement}
 use Rattle.shown.proofs.expected.Tie as tie
 
@@ -27,52 +27,42 @@ returns c =
 readings-requires : tie.Need-readings-requires
 readings-requires c κs = search needs
 
-returns-2 : tie.Need-returns-2
-unfolding lineFor bufferFor
-returns-2 c =
-    let told = c .before .before in
-    let room = told .before in
-    let a = room .before .before .before .before .args in
-    let refused = reply-refused (told .readings .result) (c .if2 .taken) ∙ ap replyOf (told .readings .ensures) in
-    let reply = refused ∙ with-room (length (a .out .now)) 0 _ (sym (room .before .has-room .ensures) ∙ not-false _ (room .if1 .left)) in
-    (ap lineFor reply, ap (bufferFor (a .out .now)) reply)
+room : (c : tie.Else1) → hasRoom (length (c .before .before .before .before .args .out .now)) 0 ≡ true
+room c = sym (c .before .has-room .ensures) ∙ not-false _ (c .if1 .left)
 
-slice-aggregate-put-slave : tie.Need-slice-aggregate-put-slave
-slice-aggregate-put-slave c = search needs
+enum-known-a : tie.Need-enum-known-a
+enum-known-a c = search needs
 
-put-slave-requires : tie.Need-put-slave-requires
-put-slave-requires c κs = search needs
+put-slaves-requires : tie.Need-put-slaves-requires
+put-slaves-requires c κs = search needs
 
-slice-aggregate-put-slave-2 : tie.Need-slice-aggregate-put-slave-2
-slice-aggregate-put-slave-2 c = search needs
-
-put-slave-requires-2 : tie.Need-put-slave-requires-2
-put-slave-requires-2 c κs = search needs
+enum-known-number : tie.Need-enum-known-number
+enum-known-number c = search needs
 
 same-length : tie.Need-same-length
 same-length c = search needs
 
+returns-2 : tie.Need-returns-2
+unfolding saidBy replyOf
+returns-2 c =
+    let put = c .before .before in
+    let told = put .before .before in
+    let known = told .before in
+    let read = known .before .before in
+    let out = read .before .before .before .before .before .args .out .now in
+    let back = ap₂ (λ (x y : ℤ). Says (expectedText (x ∷ y ∷ []))) (toZ-ofZ w64 _ (record { sfits = told .known-told .given .0 .1 })) (toZ-ofZ w64 _ (record { sfits = told .known-told .given .1 .0 .1 })) in
+    let reply = back ∙ ap (λ (e : Expected). replyOf (saidBy e)) (sym (known .a .given .1)) ∙ ap replyOf (read .readings .ensures) in
+    let text = answered out 0 _ (room (read .before)) (put .put-slaves .ensures .0) (put .put-slaves .ensures .1) in
+    (text .0 ∙ ap (λ (r : Reply). lineFor (inRoom (length out) 0 r)) reply, text .1 ∙ ap (λ (r : Reply). bufferFor out (inRoom (length out) 0 r)) reply)
+
 returns-3 : tie.Need-returns-3
-unfolding expectedText bytesIn
+unfolding saidBy replyOf lineFor bufferFor
 returns-3 c =
-    let second = c .before .before in
-    let first = second .before .before .before .before .before .before in
-    let left = first .before .before .before .before in
-    let told = left .before .before in
-    let room = told .before in
-    let a = room .before .before .before .before .args in
-    let f = told .readings .result in
-    let back-a = toZ-ofZ w64 (f .a) (record { sfits = first .before .struct-told .given .1 .0 .1 }) in
-    let back-b = toZ-ofZ w64 (f .b) (record { sfits = second .before .struct-told2 .given .1 .1 .0 .1 }) in
-    let line-a = puts-as (ap (slaveLine (bytesIn "A")) back-a) (first .put-slave .ensures .0) in
-    let line-b = puts-as (ap (slaveLine (bytesIn "B")) back-b) (second .put-slave2 .ensures .0) in
-    let few-a = subst (λ (z : ℤ). length (slaveLine (bytesIn "A") z) ≤ 96) back-a (first .put-slave .ensures .1) in
-    let few-b = subst (λ (z : ℤ). length (slaveLine (bytesIn "B") z) ≤ 96) back-b (second .put-slave2 .ensures .1) in
-    let both = length-append (slaveLine (bytesIn "A") (f .a)) (slaveLine (bytesIn "B") (f .b)) in
-    let reply = reply-told f (left .if2 .left) ∙ ap replyOf (told .readings .ensures) in
-    let text = answered (a .out .now) 0 (expectedText (f .a) (f .b)) (sym (room .before .has-room .ensures) ∙ not-false _ (room .if1 .left)) (put-both line-a line-b) (omega (arith, both, few-a, few-b)) in
-    let bytes = length (a .out .now) in
-    (text .0 ∙ ap (λ (r : Reply). lineFor (inRoom bytes 0 r)) reply, text .1 ∙ ap (λ (r : Reply). bufferFor (a .out .now) (inRoom bytes 0 r)) reply)
+    let number = c .before in
+    let read = number .before .before in
+    let out = read .before .before .before .before .before .args .out .now in
+    let reply = ap (λ (e : Expected). replyOf (saidBy e)) (sym (number .number .given .1)) ∙ ap replyOf (read .readings .ensures) ∙ with-room (length out) 0 _ (room (read .before)) in
+    (ap lineFor reply, ap (bufferFor out) reply)
 
 pub expected-spec : {M : Type 1} → statement M
 expected-spec =
@@ -81,10 +71,9 @@ expected-spec =
     has-room-requires
     returns
     readings-requires
-    returns-2
-    slice-aggregate-put-slave
-    put-slave-requires
-    slice-aggregate-put-slave-2
-    put-slave-requires-2
+    enum-known-a
+    put-slaves-requires
+    enum-known-number
     same-length
+    returns-2
     returns-3)

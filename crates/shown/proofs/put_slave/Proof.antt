@@ -22,11 +22,14 @@ use Rattle.shown.proofs.put_slave.Tie as tie
 same : (c : tie.Start) → toZ w64 (ofZ w64 (c .args .z)) ≡ c .args .z
 same c = toZ-ofZ w64 (c .args .z) (c .fits .z)
 
+slice-aggregate-put : tie.Need-slice-aggregate-put
+slice-aggregate-put c = search needs
+
 put-requires : tie.Need-put-requires
 put-requires c κs = search needs
 
-slice-aggregate-put : tie.Need-slice-aggregate-put
-slice-aggregate-put c = search needs
+slice-aggregate-put-2 : tie.Need-slice-aggregate-put-2
+slice-aggregate-put-2 c = search needs
 
 put-requires-2 : tie.Need-put-requires-2
 put-requires-2 c κs = search needs
@@ -37,8 +40,8 @@ put-whole-requires c κs = search needs
 put-written-requires : tie.Need-put-written-requires
 put-written-requires c κs = search needs
 
-slice-aggregate-put-2 : tie.Need-slice-aggregate-put-2
-slice-aggregate-put-2 c = search needs
+slice-aggregate-put-3 : tie.Need-slice-aggregate-put-3
+slice-aggregate-put-3 c = search needs
 
 put-requires-3 : tie.Need-put-requires-3
 put-requires-3 c κs = search needs
@@ -53,26 +56,27 @@ returns c =
     let written = newline .before .before .before .before .before in
     let whole = written .before .before .before .before in
     let space = whole .before .before .before .before in
-    let name = space .before .before .before .before .before in
-    let start = name .before .before .before .before in
+    let letter = space .before .before .before .before .before in
+    let start = letter .before .before .before .before in
     let z = start .args .z in
     let first = puts-as (ap wholeText (same start)) (put-from (whole .put-whole .ensures)) in
     let second = puts-as (ap writtenText (same start)) (written .put-written .ensures .0) in
     let few = subst (λ (y : ℤ). length (writtenText y) ≤ 73) (same start) (written .put-written .ensures .1) in (
-      put-both (put-from (name .put .ensures)) (put-both (put-both (put-from (space .put2 .ensures)) first) (put-both second (put-from (newline .put3 .ensures)))),
-      omega (arith, length-append (start .args .name .now) ((32 ∷ wholeText z) ++ (writtenText z ++ bytesIn "\n")), length-append (32 ∷ wholeText z) (writtenText z ++ bytesIn "\n"), length-append (writtenText z) (bytesIn "\n"), whole-64 z (natAbs-le z (start .fits .z .sfits)), few),
+      put-both (put-from (letter .put .ensures)) (put-both (put-both (put-from (space .put2 .ensures)) first) (put-both second (put-from (newline .put3 .ensures)))),
+      omega (arith, length-append (32 ∷ wholeText z) (writtenText z ++ bytesIn "\n"), length-append (writtenText z) (bytesIn "\n"), whole-64 z (natAbs-le z (start .fits .z .sfits)), few),
     )
 
 pub put-slave-spec : {M : Type 1} → statement M
 put-slave-spec =
     tie.close
     (tie.spec
-    put-requires
     slice-aggregate-put
+    put-requires
+    slice-aggregate-put-2
     put-requires-2
     put-whole-requires
     put-written-requires
-    slice-aggregate-put-2
+    slice-aggregate-put-3
     put-requires-3
     same-length
     returns)

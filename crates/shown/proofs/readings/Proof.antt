@@ -1,11 +1,12 @@
 -- `shown::readings` meets its contract: the table, the place, then the chain.
 use mathlib.Core.Path.{_≡_, sym, ap, _∙_}
+use borrow.Author.Needs.{needs}
 use borrow.Author.Tests.{not-true, not-false}
+use Rattle.chart.specs.Readings.{saidBy}
 use Rattle.records.specs.declared.ChainCount.{ChainCount}
 use Rattle.records.specs.declared.ChainCount.the-variants.{Chains}
 use Rattle.records.specs.declared.NamedChain.{NamedChain}
 use Rattle.shown.specs.Expected.{byChain, byTable, expectedIn}
-use borrow.Author.Needs.{needs}
 use Rattle.shown.proofs.ShownLaws.{far-away, on-grid}
 use Rattle.shown.proofs.readings.Statement.{statement}
 use Rattle.shown.proofs.readings.Tie as tie
@@ -19,16 +20,13 @@ chain-count-requires c κs = search needs
 enum-known-number : tie.Need-enum-known-number
 enum-known-number c = search needs
 
-no-readings-requires : tie.Need-no-readings-requires
-no-readings-requires c κs = search needs
-
 returns : tie.Need-returns
-unfolding byTable
+unfolding byTable saidBy
 returns c =
-    let number = c .before .before in
+    let number = c .before in
     let count = number .before .before in
     let a = count .before .before .before .args in
-    c .no-readings .ensures ∙ ap (λ (n : ChainCount). byTable n (a .table .now) (a .chain) (a .place)) (sym (number .number .given .1) ∙ count .chain-count .ensures)
+    ap (λ (n : ChainCount). byTable n (a .table .now) (a .chain) (a .place)) (sym (number .number .given .1) ∙ count .chain-count .ensures)
 
 enum-told : tie.Need-enum-told
 enum-told c = search needs
@@ -39,16 +37,13 @@ by-count c =
     let a = c .before .before .before .before .before .args in
     ap (λ (n : ChainCount). byTable n (a .table .now) (a .chain) (a .place)) (sym (c .enum-told .given .1) ∙ c .before .before .chain-count .ensures)
 
-no-readings-requires-2 : tie.Need-no-readings-requires-2
-no-readings-requires-2 c κs = search needs
-
 returns-2 : tie.Need-returns-2
+unfolding saidBy
 returns-2 c =
-    let told = c .before .before in
+    let told = c .before in
     let count = told .before .before in
     let a = count .before .before .before .args in
-    c .no-readings2 .ensures
-    ∙ far-away _ (a .table .now) (a .chain) (a .place) (sym (count .before .in-range .ensures) ∙ not-true _ (c .before .if1 .taken))
+    far-away _ (a .table .now) (a .chain) (a .place) (sym (count .before .in-range .ensures) ∙ not-true _ (c .if1 .taken))
     ∙ by-count told
 
 chain-of-requires : tie.Need-chain-of-requires
@@ -75,10 +70,8 @@ readings-spec =
     in-range-requires
     chain-count-requires
     enum-known-number
-    no-readings-requires
     returns
     enum-told
-    no-readings-requires-2
     returns-2
     chain-of-requires
     by-chain-requires

@@ -1,0 +1,112 @@
+-- A chain put behind those that are there makes one more; and what is counted at the end.
+use Prim.Native.Nat.{ℕ, _+_, _-_, _*_, _≤_, _<_}
+use mathlib.Core.Bool.{Bool, true, false, cond}
+use mathlib.Core.List.{List, [], _∷_, _++_, append-nil, append-assoc}
+use mathlib.Core.Path.{_≡_, refl, sym, ap, ap₂, _∙_}
+use native.Mathlib.Omega.{arith}
+use borrow.Author.Tests.{ltb-true, lt-ltb, le-ltb}
+use borrow.Rule.Slice.PartMut.{putMid, post-is}
+use lib.Dec.{ltb}
+use lib.ListN.{length, take, drop, length-append}
+use Rattle.chart.specs.declared.Chain.{Chain}
+use Rattle.chart.specs.Chains.{isSound}
+use Rattle.chart.proofs.PlaceLaws.{both, and-both}
+use Rattle.records.specs.Bytes.{unless}
+use Rattle.records.specs.ChainTables.{chainBytes, mostChains}
+use Rattle.writing.specs.ChainWriting.{chainRefusalOf, chainBufferOf, allSound, tableOf}
+use Rattle.writing.proofs.ChainWriteLaws.{chain-same-length}
+use Rattle.text.specs.Puts.{Put, endAfter}
+use Rattle.text.proofs.PutLaws.{put-front, put-from, put-promised, nothing-promised}
+use Rattle.typed.specs.Numbers.{isLine}
+use Rattle.typed.specs.Typed.{chainIn}
+use Rattle.typed.specs.declared.TypedChain.the-variants as typed
+use Rattle.laychain.specs.Tables.{lineRefusal, tableWith, HoldsChains}
+
+-- The table and its soundness with one chain more.
+table-behind : (cs : List Chain) (c : Chain) → tableOf (cs ++ (c ∷ [])) ≡ tableOf cs ++ chainBufferOf chainBytes c
+unfolding tableOf
+table-behind [] c = append-nil (chainBufferOf chainBytes c)
+table-behind (x ∷ cs) c =
+    ap (λ (l : List ℕ). chainBufferOf chainBytes x ++ l) (table-behind cs c)
+    ∙ sym (append-assoc (chainBufferOf chainBytes x) (tableOf cs) (chainBufferOf chainBytes c))
+
+sound-behind : (cs : List Chain) (c : Chain) → allSound cs ≡ true → isSound c ≡ true → allSound (cs ++ (c ∷ [])) ≡ true
+unfolding allSound
+sound-behind [] c all one = and-both one refl
+sound-behind (x ∷ cs) c all one =
+    let p = both (isSound x) (allSound cs) all in
+    and-both (p .0) (sound-behind cs c (p .1) one)
+
+-- A chain that is not refused has a place, and is sound.
+has-place : (before : ℕ) (c : Chain) → lineRefusal before (typed.Chain c) ≡ 0 → (before < mostChains) × (chainRefusalOf chainBytes c ≡ 0)
+has-place before c e = go (ltb before mostChains) refl e
+  where
+    go : (t : Bool) → ltb before mostChains ≡ t → unless t 1 (chainRefusalOf chainBytes c) ≡ 0 → (before < mostChains) × (chainRefusalOf chainBytes c ≡ 0)
+    go true room e = (ltb-true before mostChains room, e)
+    go false room e = absurd (omega arith)
+
+is-sound : (c : Chain) → chainRefusalOf chainBytes c ≡ 0 → isSound c ≡ true
+unfolding chainRefusalOf
+is-sound c e = go (isSound c) e
+  where
+    go : (t : Bool) → _≡_ {A = ℕ} (unless t 5 0) 0 → t ≡ true
+    go true e = refl
+    go false e = absurd (omega arith)
+
+-- What is put where there is no place, and where there is one.
+pub no-place : (table : List ℕ) (before : ℕ) (c : Chain) → length table ≡ chainBytes * mostChains → mostChains ≤ before →
+    (1 ≡ lineRefusal before (typed.Chain c)) × (table ≡ tableWith table before (typed.Chain c))
+no-place table before c size many =
+    let none : ltb before mostChains ≡ false = le-ltb before mostChains many in
+    (ap (λ (t : Bool). unless t 1 (chainRefusalOf chainBytes c)) (sym none), nothing-promised table (chainBytes * before) (chainBufferOf chainBytes c) (omega (arith, chain-same-length chainBytes c)) .1)
+
+pub placed : (table : List ℕ) (before : ℕ) (c : Chain) (bytes r : ℕ) (written : List ℕ) → length table ≡ chainBytes * mostChains → before < mostChains →
+    bytes ≡ chainBytes → r ≡ chainRefusalOf bytes c → written ≡ chainBufferOf bytes c →
+    (r ≡ lineRefusal before (typed.Chain c)) × (putMid (chainBytes * before) (chainBytes * before + chainBytes - chainBytes * before) table written ≡ tableWith table before (typed.Chain c))
+placed table before c bytes r written size few same answer made =
+    let room : ltb before mostChains ≡ true = lt-ltb before mostChains few in
+    let at = chainBytes * before in
+    let text = chainBufferOf chainBytes c in
+    let behind : at + chainBytes ≡ at + length text = omega (arith, chain-same-length chainBytes c) in
+    let put : Put table at text (putMid at (at + chainBytes - at) table written) (at + length text) =
+    record {
+      fits = omega (arith, chain-same-length chainBytes c);
+      end-is = refl;
+      now-is =
+          ap₂ (λ (x y : List ℕ). take at table ++ (x ++ y)) (made ∙ ap (λ (n : ℕ). chainBufferOf n c) same)
+          (post-is at (at + chainBytes) table (omega arith) ∙ ap (λ (n : ℕ). drop n table) behind);
+    } in
+    (answer ∙ ap (λ (n : ℕ). chainRefusalOf n c) same ∙ ap (λ (t : Bool). unless t 1 (chainRefusalOf chainBytes c)) (sym room), put-promised put .1)
+
+-- No chain, and one more.
+pub no-chains : (table : List ℕ) → HoldsChains table 0
+unfolding allSound tableOf
+no-chains table = record { few = omega arith; chains = []; size = refl; sound = refl; bytes = refl }
+
+one-more : (table now : List ℕ) (before : ℕ) (c : Chain) → length table ≡ chainBytes * mostChains → HoldsChains table before → lineRefusal before (typed.Chain c) ≡ 0 → now ≡ tableWith table before (typed.Chain c) → HoldsChains now (before + 1)
+one-more table now before c size held accepted same =
+    let place = has-place before c accepted in
+    let written = chainBufferOf chainBytes c in
+    let last = endAfter (length table) (chainBytes * before) written in
+    let put = put-from {o = table} {at = chainBytes * before} {x = written} {o′ = now} {end = last} (refl, same) (omega (arith, chain-same-length chainBytes c)) in
+    let ends : chainBytes * (before + 1) ≡ last = omega (arith, put .end-is, chain-same-length chainBytes c) in
+    record {
+      few = omega arith;
+      chains = held .chains ++ (c ∷ []);
+      size = length-append (held .chains) (c ∷ []) ∙ ap (λ (n : ℕ). n + 1) (held .size);
+      sound = sound-behind (held .chains) c (held .sound) (is-sound c (place .1));
+      bytes = ap (λ (n : ℕ). take n now) ends ∙ put-front put ∙ ap (λ (l : List ℕ). l ++ written) (held .bytes) ∙ sym (table-behind (held .chains) c);
+    }
+
+pub one-more-line : (table now line : List ℕ) (before : ℕ) → length table ≡ chainBytes * mostChains → HoldsChains table before → lineRefusal before (chainIn line) ≡ 0 → now ≡ tableWith table before (chainIn line) → HoldsChains now (before + 1)
+unfolding chainIn
+one-more-line table now line before size held accepted same = go (isLine 6 line) _ accepted same
+  where
+    go : (t : Bool) (c : Chain) → lineRefusal before (unless t (typed.Refused 12) (typed.Chain c)) ≡ 0 → now ≡ tableWith table before (unless t (typed.Refused 12) (typed.Chain c)) → HoldsChains now (before + 1)
+    go true c e s = one-more table now before c size held e s
+    go false c e s = absurd (omega arith)
+
+-- What is counted is held.
+pub held-if : (table : List ℕ) (lines : ℕ) (well : Bool) → (well ≡ true → HoldsChains table lines) → HoldsChains table (cond well lines 0)
+held-if table lines true held = held refl
+held-if table lines false held = no-chains table

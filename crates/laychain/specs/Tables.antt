@@ -1,0 +1,33 @@
+-- The table as it is made, a chain a line.
+use Prim.Native.Nat.{ℕ, _*_, _≤_}
+use mathlib.Core.Bool.{true}
+use mathlib.Core.List.{List}
+use mathlib.Core.Path.{_≡_}
+use lib.Dec.{ltb}
+use lib.ListN.{length, take}
+use Rattle.chart.specs.declared.Chain.{Chain}
+use Rattle.records.specs.Bytes.{unless}
+use Rattle.records.specs.ChainTables.{chainBytes, mostChains}
+use Rattle.writing.specs.ChainWriting.{chainRefusalOf, chainBufferOf, allSound, tableOf}
+use Rattle.text.specs.Puts.{withText}
+use Rattle.typed.specs.declared.TypedChain.{TypedChain}
+use Rattle.typed.specs.declared.TypedChain.the-variants as typed
+
+-- Why what a line stands for is not put behind so many others, 0 where it is: 1 where there are as many as a table has.
+abbrev pub lineRefusal : ℕ → TypedChain → ℕ
+lineRefusal before (typed.Chain c) = unless (ltb before mostChains) 1 (chainRefusalOf chainBytes c)
+lineRefusal before (typed.Refused number) = number
+
+-- The table then: the chain's bytes behind those of the others, where there is room. Nothing else of it changes.
+abbrev pub tableWith : List ℕ → ℕ → TypedChain → List ℕ
+tableWith table before (typed.Chain c) = withText table (chainBytes * before) (chainBufferOf chainBytes c)
+tableWith table before (typed.Refused number) = table
+
+-- So many chains stand at the start of the table, one behind the other, each of them sound: those of some lines. Which lines
+-- were read is the outside's.
+pub record HoldsChains (table : List ℕ) (count : ℕ) : Type 0 where
+  pub few : count ≤ mostChains
+  pub chains : List Chain
+  pub size : length chains ≡ count
+  pub sound : allSound chains ≡ true
+  pub bytes : take (chainBytes * count) table ≡ tableOf chains

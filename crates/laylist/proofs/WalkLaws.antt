@@ -1,0 +1,107 @@
+-- A part's listing has its room, and the listing of what follows goes on from its place.
+use Prim.Native.Nat.{ℕ, _+_, _-_, _/_, _≤_, min}
+use mathlib.Core.Bool.{true, true≢false}
+use mathlib.Core.List.{List, _++_}
+use mathlib.Core.Path.{_≡_, refl, sym, ap, _∙_, subst}
+use native.Mathlib.Decide.{decLe}
+use native.Mathlib.Nat.{lt-of-not-le}
+use native.Mathlib.Omega.{arith}
+use borrow.Author.Tests.{lt-ltb}
+use lib.ListN.{length, take, drop, take-append-drop, length-append, drop-of-length-le}
+use lib.Seq.{length-take-le, take-append-seam, take-all}
+use Rattle.records.specs.declared.Job.{Job}
+use Rattle.records.specs.declared.JobAnswer.{JobAnswer}
+use Rattle.records.specs.declared.JobAnswer.the-variants as job
+use Rattle.records.specs.declared.ChainCount.{ChainCount}
+use Rattle.records.specs.declared.ChainCount.the-variants as count
+use Rattle.records.specs.LogRecords.{logBytes}
+use Rattle.records.specs.ChainTables.{chainCountOf}
+use Rattle.records.specs.Jobs.{jobOf}
+use Rattle.records.proofs.Pieces.{piece-is, behind-is}
+use Rattle.listing.specs.declared.Carried.{Carried}
+use Rattle.listing.specs.declared.Listed.the-variants as listed
+use Rattle.listing.specs.Listings.{Part, linesFrom, listingBy, listingFrom, hasRoom, listedIn, bufferWith}
+use Rattle.listing.proofs.Theorems.{in-parts}
+use Rattle.laylist.specs.declared.Next.{Next}
+use Rattle.laylist.specs.declared.Next.the-variants as follows
+use Rattle.laylist.specs.Walks.{acceptsJob, acceptsTable, BothGood, partBytes, outBytes, BeginsWith, GoesOn}
+
+-- A part in its buffer.
+module _ (out part : List ℕ) (size : length out ≡ outBytes) (few : length part ≤ partBytes) (p : Part) where
+  roomy : hasRoom (length out) part ≡ true
+  roomy = lt-ltb (length part / logBytes) (length out / _) (omega arith)
+
+  -- It is listed: the buffer then begins with the text.
+  pub held : {n : ℕ} {k : Carried} {after : List ℕ} → listed.Text n k ≡ listedIn (length out) part p → after ≡ bufferWith out part p →
+      BeginsWith after p (record { length = n; carried = k })
+  unfolding listedIn bufferWith
+  held {n} {k} {after} answer buffer =
+      let told : listed.Text n k ≡ listed.Text (length (p .text)) (p .carried) = rw roomy at answer in
+      let put : after ≡ p .text ++ drop (length (p .text)) out = rw roomy at buffer in
+      let size : n ≡ length (p .text) = cc in
+      record {
+        fits = omega (arith, simp length-append at (ap length put));
+        text-is = rw (size, put, take-append-seam);
+        carried-is = cc;
+      }
+
+  -- It is not refused.
+  pub not-refused : {number : ℕ} → listed.Refused number ≡ listedIn (length out) part p → ⊥
+  unfolding listedIn
+  not-refused {number} answer =
+      let told : listed.Refused number ≡ listed.Text (length (p .text)) (p .carried) = rw roomy at answer in
+      let z : _≡_ {A = ℕ} 0 1 = cc in
+      omega arith
+
+-- The job that is accepted, and the count of the chains.
+job-of : (a : JobAnswer) → acceptsJob a ≡ true → (j : Job) × (a ≡ job.Job j)
+unfolding acceptsJob
+job-of (job.Job j) h = (j, refl)
+job-of (job.Refused number) h = absurd (true≢false (sym h))
+
+count-of : (a : ChainCount) → acceptsTable a ≡ true → (n : ℕ) × (a ≡ count.Chains n)
+unfolding acceptsTable
+count-of (count.Chains n) h = (n, refl)
+count-of (count.Refused number) h = absurd (true≢false (sym h))
+
+-- Nothing is left of a log: the place carried is that behind it.
+pub nothing-left : (job table : List ℕ) → BothGood job table → (log : List ℕ) (done : ℕ) (place : Carried) → length log ≤ done →
+    listingFrom job table (drop done log) place .carried ≡ place
+unfolding linesFrom listingBy listingFrom
+nothing-left job table ok log done place all =
+    rw (drop-of-length-le log {i = done} all, job-of (jobOf job) (ok .by-job) .1, count-of (chainCountOf table) (ok .by-table) .1)
+
+module _ (job table : List ℕ) (ok : BothGood job table) where
+  -- The place behind a log is that behind the rest of it, from the place that its first part carries on.
+  rest-carries : (log : List ℕ) (place : Carried) →
+      listingFrom job table log place .carried
+      ≡ listingFrom job table (drop partBytes log) (listingFrom job table (take partBytes log) place .carried) .carried
+  rest-carries log place = go (decLe partBytes (length log))
+    where
+      part : List ℕ
+      part = take partBytes log
+
+      after : Carried
+      after = listingFrom job table part place .carried
+
+      go : Dec (partBytes ≤ length log) → listingFrom job table log place .carried ≡ listingFrom job table (drop partBytes log) after .carried
+      go (yes h) =
+          let j = job-of (jobOf job) (ok .by-job) in
+          let n = count-of (chainCountOf table) (ok .by-table) in
+          ap (λ (l : List ℕ). listingFrom job table l place .carried) (sym (take-append-drop partBytes log))
+          ∙ ap (λ (p : Part). p .carried)
+          (in-parts job table (j .0) (n .0) (j .1) (n .1) place part (drop partBytes log) (omega (arith, length-take-le partBytes log h)))
+      go (no h) =
+          let all = lt-of-not-le h in
+          ap (λ (l : List ℕ). listingFrom job table l place .carried) (sym (take-all partBytes log (omega arith)))
+          ∙ sym (nothing-left job table ok log partBytes after (omega arith))
+
+  -- So what follows a part of a log goes on from the place that is carried on to the rest.
+  pub goes-on : (log : List ℕ) (done next : ℕ) → next ≡ min (done + partBytes) (length log) → (place : Carried) {n : Next} {after : Carried} →
+      GoesOn (listingFrom job table (take (next - done) (drop done log)) place) n → n ≡ follows.From after →
+      listingFrom job table (drop done log) place .carried ≡ listingFrom job table (drop next log) after .carried
+  goes-on log done next e place {n} {after} told is =
+      let handed : after ≡ listingFrom job table (take (next - done) (drop done log)) place .carried =
+      subst (GoesOn (listingFrom job table (take (next - done) (drop done log)) place)) is told in
+      rest-carries (drop done log) place
+      ∙ sym (rw (handed, piece-is partBytes log done next e, behind-is partBytes log done next e))

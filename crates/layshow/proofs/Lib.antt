@@ -1,0 +1,3 @@
+-- The laws on lines in a buffer, one behind the other.
+mod LineLaws
+mod WalkLaws

@@ -1,0 +1,2 @@
+-- The laws on records that wait in a buffer.
+mod WaitLaws
