@@ -53,12 +53,12 @@ use Rattle.text.proofs.put as text-put
 use Rattle.text.proofs.put_number as text-put-number
 use Rattle.text.proofs.put_whole as put-whole
 use Rattle.text.proofs.put_bytes as put-bytes
-use Rattle.typed.proofs.line_end as line-end
-use Rattle.typed.proofs.is_word as is-word
-use Rattle.typed.proofs.job as typed-job
-use Rattle.typed.proofs.chain as typed-chain
-use Rattle.typed.proofs.draft as typed-draft
-use Rattle.typed.proofs.question as typed-question
+use Rattle.parsing.proofs.line_end as line-end
+use Rattle.parsing.proofs.is_word as is-word
+use Rattle.parsing.proofs.job as parsed-job
+use Rattle.parsing.proofs.chain as parsed-chain
+use Rattle.parsing.proofs.draft as parsed-draft
+use Rattle.parsing.proofs.question as parsed-question
 use Rattle.shown.proofs.job as shown-job
 use Rattle.shown.proofs.chain as shown-chain
 use Rattle.shown.proofs.record as shown-record
@@ -238,29 +238,29 @@ module _ {M : Type 1} (𝓤 : URA M) (H : Heap 𝓤) (A : Atoms 𝓤) (mem : Mem
   pub put-bytes-only : OneAnswer 𝓤 put-bytes.ended (put-bytes.clauses 𝓤 H A mem run)
   put-bytes-only κs a g x y = only 𝓤 (same beside same) (λ (end, out). end & out & refl)
 
-  -- typed::line_end, by `ensures-1`.
+  -- parsing::line_end, by `ensures-1`.
   pub line-end-only : OneAnswer 𝓤 line-end.ended (line-end.clauses 𝓤 H A mem run)
   line-end-only κs a g x y = only 𝓤 same (λ answer. answer & refl)
 
-  -- typed::is_word, by `ensures-1`.
+  -- parsing::is_word, by `ensures-1`.
   pub is-word-only : OneAnswer 𝓤 is-word.ended (is-word.clauses 𝓤 H A mem run)
   is-word-only κs a g x y = only 𝓤 same (λ answer. answer & refl)
 
-  -- typed::job, by `ensures-1`.
-  pub typed-job-only : OneAnswer 𝓤 typed-job.ended (typed-job.clauses 𝓤 H A mem run)
-  typed-job-only κs a g x y = only 𝓤 same (λ answer. answer & refl)
+  -- parsing::job, by `ensures-1`.
+  pub parsed-job-only : OneAnswer 𝓤 parsed-job.ended (parsed-job.clauses 𝓤 H A mem run)
+  parsed-job-only κs a g x y = only 𝓤 same (λ answer. answer & refl)
 
-  -- typed::chain, by `ensures-1`.
-  pub typed-chain-only : OneAnswer 𝓤 typed-chain.ended (typed-chain.clauses 𝓤 H A mem run)
-  typed-chain-only κs a g x y = only 𝓤 same (λ answer. answer & refl)
+  -- parsing::chain, by `ensures-1`.
+  pub parsed-chain-only : OneAnswer 𝓤 parsed-chain.ended (parsed-chain.clauses 𝓤 H A mem run)
+  parsed-chain-only κs a g x y = only 𝓤 same (λ answer. answer & refl)
 
-  -- typed::draft, by `ensures-1`.
-  pub typed-draft-only : OneAnswer 𝓤 typed-draft.ended (typed-draft.clauses 𝓤 H A mem run)
-  typed-draft-only κs a g x y = only 𝓤 same (λ answer. answer & refl)
+  -- parsing::draft, by `ensures-1`.
+  pub parsed-draft-only : OneAnswer 𝓤 parsed-draft.ended (parsed-draft.clauses 𝓤 H A mem run)
+  parsed-draft-only κs a g x y = only 𝓤 same (λ answer. answer & refl)
 
-  -- typed::question, by `ensures-1`.
-  pub typed-question-only : OneAnswer 𝓤 typed-question.ended (typed-question.clauses 𝓤 H A mem run)
-  typed-question-only κs a g x y = only 𝓤 same (λ answer. answer & refl)
+  -- parsing::question, by `ensures-1`.
+  pub parsed-question-only : OneAnswer 𝓤 parsed-question.ended (parsed-question.clauses 𝓤 H A mem run)
+  parsed-question-only κs a g x y = only 𝓤 same (λ answer. answer & refl)
 
   -- shown::job, by `ensures-answer`, `ensures-out`.
   pub shown-job-only : OneAnswer 𝓤 shown-job.ended (shown-job.clauses 𝓤 H A mem run)

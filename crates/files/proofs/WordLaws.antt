@@ -9,7 +9,7 @@ use borrow.Author.Tests.{leb-true}
 use lib.Dec.{leb, eqb}
 use lib.ListN.{length, take, drop, set, length-append, length-take}
 use lib.Seq.{length-take-le, take-suc-set, take-add, append-snoc}
-use Rattle.typed.specs.Words.{run, isInWord, isOneWord}
+use Rattle.parsing.specs.Words.{run, isInWord, isOneWord}
 use Rattle.files.specs.Answers.{AreWords, none, one, more, IsLineOf, IsGiven, IsArguments, PutsWord}
 use Rattle.files.specs.declared.Words.{Words}
 use Rattle.files.specs.declared.Words.the-variants as words

@@ -7,7 +7,7 @@ use lib.Dec.{T, eqb}
 use lib.IntN.{ℤ, pos, negsuc}
 use lib.ListN.{length, take, drop}
 use lib.Signed.{nonNeg}
-use Rattle.typed.specs.Words.{isOneWord}
+use Rattle.parsing.specs.Words.{isOneWord}
 use Rattle.files.specs.declared.Opened.{Opened}
 use Rattle.files.specs.declared.Opened.the-variants as opened
 use Rattle.files.specs.declared.Filled.{Filled}
@@ -31,16 +31,16 @@ openedBy (pos n) error = opened.File (pos n)
 openedBy (negsuc n) error = notOpened error
 
 -- How many bytes were read.
-abbrev pub bytesOf : Filled → ℕ
-bytesOf (filled.Bytes n) = n
-bytesOf filled.Failed = 0
+abbrev pub filledBytes : Filled → ℕ
+filledBytes (filled.Bytes n) = n
+filledBytes filled.Failed = 0
 
 abbrev pub noBytes : Filled
 noBytes = filled.Bytes 0
 
 -- The start of a file, by how opening it went, in a buffer of so many bytes.
 abbrev pub IsStarted : Opened → ℕ → Filled → Type 0
-IsStarted (opened.File descriptor) room r = bytesOf r ≤ room
+IsStarted (opened.File descriptor) room r = filledBytes r ≤ room
 IsStarted opened.Missing room r = r ≡ noBytes
 IsStarted opened.Failed room r = r ≡ filled.Failed
 

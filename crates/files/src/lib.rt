@@ -5,7 +5,7 @@ ghost use mathlib.Core.Bool.{true, false};
 ghost use mathlib.Core.Path.{_≡_};
 ghost use Prim.Native.Nat.{ℕ, _+_, _-_, _≤_};
 ghost use lib.ListN.{length, take};
-ghost use Rattle.files.specs.Answers.{openedBy, IsOpen, bytesOf, noBytes, IsStarted, AreWords, IsLineOf, IsGiven, IsArguments, PutsWord};
+ghost use Rattle.files.specs.Answers.{openedBy, IsOpen, filledBytes, noBytes, IsStarted, AreWords, IsLineOf, IsGiven, IsArguments, PutsWord};
 use libc::STDERR_FILENO;
 use libc::STDOUT_FILENO;
 
@@ -56,7 +56,7 @@ fn opened_by(name: &[u8], file: i32, error: i32) -> Opened
 
 // Fills a buffer from a file, wholly unless the file ends.
 pub fn fill(name: &[u8], file: i32, buffer: &mut [u8]) -> Filled
-    ensures room { λ r. ⌜ bytesOf r ≤ length (now (buffer .exit)) ⌝ }
+    ensures room { λ r. ⌜ filledBytes r ≤ length (now (buffer .exit)) ⌝ }
     ensures none { λ r. ⌜ (length (now (buffer .entry)) ≡ 0 → r ≡ noBytes) ⌝ }
 {
     let mut done = 0;
@@ -77,7 +77,7 @@ pub fn fill(name: &[u8], file: i32, buffer: &mut [u8]) -> Filled
 
 // The start of a file, as much as the buffer takes. A file that is missing counts as empty.
 pub fn start(name: &[u8], buffer: &mut [u8]) -> Filled
-    ensures { λ r. ⌜ bytesOf r ≤ length (now (buffer .exit)) ⌝ }
+    ensures { λ r. ⌜ filledBytes r ≤ length (now (buffer .exit)) ⌝ }
 {
     start_of(open(name), name, buffer)
 }
@@ -206,7 +206,7 @@ fn put_argument(line: &mut [u8], at: usize, i: usize) -> Words
         return Words::Unfit;
     }
     let end = at + n;
-    if !typed::is_word(&line[at..end]) {
+    if !parsing::is_word(&line[at..end]) {
         return Words::Unfit;
     }
     Words::Line(end)

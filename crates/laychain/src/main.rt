@@ -6,17 +6,17 @@ ghost use Prim.Native.Nat.{_*_, _≤_};
 ghost use lib.Dec.{eqb};
 ghost use lib.ListN.{length};
 ghost use Rattle.records.specs.ChainTables.{chainBytes, mostChains};
-ghost use Rattle.typed.specs.Typed.{chainIn};
-ghost use Rattle.typed.specs.declared.TypedChain.the-variants as typed;
+ghost use Rattle.parsing.specs.Parsed.{parsedChain};
+ghost use Rattle.parsing.specs.declared.ParsedChain.the-variants as parsed;
 ghost use Rattle.lines.specs.Input.{atEnd};
 ghost use Rattle.laychain.specs.Tables.{lineRefusal, tableWith, HoldsChains};
 use chart::Chain;
 use files::Words;
 use lines::Input;
+use parsing::ParsedChain;
 use records::CHAIN_BYTES;
 use records::MOST_CHAINS;
 use records::TABLE_BYTES;
-use typed::TypedChain;
 
 fn main() {
     // Any argument is one too many.
@@ -137,19 +137,19 @@ fn told(line: usize, number: u32) -> usize
 // Puts the chain of a line into the table, behind so many others, and answers with the number of its refusal, 0 for none.
 fn put_line(table: &mut [u8], before: usize, line: &[u8]) -> u32
     requires { ⌜ length (now table) ≡ chainBytes * mostChains ⌝ }
-    ensures answer { λ r. ⌜ r ≡ lineRefusal before (chainIn (now (line .entry))) ⌝ }
-    ensures table { λ r. ⌜ now (table .exit) ≡ tableWith (now (table .entry)) before (chainIn (now (line .entry))) ⌝ }
+    ensures answer { λ r. ⌜ r ≡ lineRefusal before (parsedChain (now (line .entry))) ⌝ }
+    ensures table { λ r. ⌜ now (table .exit) ≡ tableWith (now (table .entry)) before (parsedChain (now (line .entry))) ⌝ }
 {
-    match typed::chain(line) {
-        TypedChain::Chain(c) => put_chain(table, before, c),
-        TypedChain::Refused(number) => number,
+    match parsing::chain(line) {
+        ParsedChain::Chain(c) => put_chain(table, before, c),
+        ParsedChain::Refused(number) => number,
     }
 }
 
 fn put_chain(table: &mut [u8], before: usize, c: Chain) -> u32
     requires { ⌜ length (now table) ≡ chainBytes * mostChains ⌝ }
-    ensures answer { λ r. ⌜ r ≡ lineRefusal before (typed.Chain c) ⌝ }
-    ensures table { λ r. ⌜ now (table .exit) ≡ tableWith (now (table .entry)) before (typed.Chain c) ⌝ }
+    ensures answer { λ r. ⌜ r ≡ lineRefusal before (parsed.Chain c) ⌝ }
+    ensures table { λ r. ⌜ now (table .exit) ≡ tableWith (now (table .entry)) before (parsed.Chain c) ⌝ }
 {
     if before >= MOST_CHAINS {
         return 1;

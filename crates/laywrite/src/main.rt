@@ -5,8 +5,8 @@ ghost use mathlib.Core.List.{_++_};
 ghost use mathlib.Core.Path.{_≡_};
 ghost use lib.ListN.{length, take};
 ghost use Rattle.records.specs.LogRecords.{logBytes};
-ghost use Rattle.typed.specs.Typed.{draftIn};
-ghost use Rattle.typed.specs.declared.TypedDraft.the-variants as typed;
+ghost use Rattle.parsing.specs.Parsed.{parsedDraft};
+ghost use Rattle.parsing.specs.declared.ParsedDraft.the-variants as parsed;
 ghost use Rattle.lines.specs.Input.{atEnd};
 ghost use Rattle.laywrite.specs.Waiting.{waitingOf, allDropped, Wait, IsKept, IsTaken, HoldRecords};
 use files::Filled;
@@ -14,8 +14,8 @@ use files::Words;
 use libc::SEEK_END;
 use libc::SEEK_SET;
 use lines::Input;
+use parsing::ParsedDraft;
 use records::LOG_BYTES;
-use typed::TypedDraft;
 use writing::Draft;
 
 // The log that is there, open to append to, and how long it is. Why there is none to append to has been told.
@@ -195,18 +195,18 @@ fn dropped(line: u64, number: u32) -> Records
 fn take_line(out: &mut [u8], before: Records, scratch: i32, line: u64, text: &[u8]) -> Records
     requires { ⌜ waitingOf before ≤ length (now out) ⌝ }
     requires { ⌜ logBytes ≤ length (now out) ⌝ }
-    ensures { λ r. ⌜ IsTaken before (now (out .entry)) (draftIn (now (text .entry))) (now (out .exit)) r ⌝ }
+    ensures { λ r. ⌜ IsTaken before (now (out .entry)) (parsedDraft (now (text .entry))) (now (out .exit)) r ⌝ }
 {
-    match typed::draft(text) {
-        TypedDraft::Draft(d) => take_draft(out, before, scratch, line, d),
-        TypedDraft::Refused(number) => dropped(line, number),
+    match parsing::draft(text) {
+        ParsedDraft::Draft(d) => take_draft(out, before, scratch, line, d),
+        ParsedDraft::Refused(number) => dropped(line, number),
     }
 }
 
 fn take_draft(out: &mut [u8], before: Records, scratch: i32, line: u64, d: Draft) -> Records
     requires { ⌜ waitingOf before ≤ length (now out) ⌝ }
     requires { ⌜ logBytes ≤ length (now out) ⌝ }
-    ensures { λ r. ⌜ IsTaken before (now (out .entry)) (typed.Draft d) (now (out .exit)) r ⌝ }
+    ensures { λ r. ⌜ IsTaken before (now (out .entry)) (parsed.Draft d) (now (out .exit)) r ⌝ }
 {
     let mut bytes = [0u8; LOG_BYTES];
     let refusal = writing::write(&mut bytes, d);

@@ -11,7 +11,7 @@ use lib.Dec.{ltb}
 use lib.ListN.{length, take, drop, length-take, length-drop}
 use lib.Seq.{take-at}
 use types.Run.{OneOf}
-use Rattle.typed.specs.Words.{run, isInLine}
+use Rattle.parsing.specs.Words.{run, isInLine}
 use Rattle.lines.specs.Input.{between, hasNewline, nextIn, atEnd, Comes, failed, read, IsRead, isThere, NextBy, IsNext}
 use Rattle.lines.specs.declared.Input.{Input}
 use Rattle.lines.specs.declared.Input.the-variants as input

@@ -46,7 +46,7 @@ fn next_in(buffer: &[u8], from: usize, to: usize) -> Input
     if from >= to {
         return Input::End;
     }
-    let n = typed::line_end(&buffer[from..to]);
+    let n = parsing::line_end(&buffer[from..to]);
     if n >= to - from {
         return Input::Cut;
     }

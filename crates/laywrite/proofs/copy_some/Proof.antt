@@ -2,7 +2,7 @@
 use mathlib.Core.Path.{ap}
 use native.Mathlib.Omega.{arith}
 use borrow.Author.Needs.{needs}
-use Rattle.files.specs.Answers.{bytesOf}
+use Rattle.files.specs.Answers.{filledBytes}
 use Rattle.laywrite.proofs.copy_some.Statement.{statement}
 use Rattle.laywrite.proofs.copy_some.Tie as tie
 
@@ -37,7 +37,7 @@ part-write-all-start : tie.Need-part-write-all-start
 part-write-all-start c = search needs
 
 part-write-all-end : tie.Need-part-write-all-end
-part-write-all-end c = omega (arith, ap bytesOf (c .before .before .before .n .given .1))
+part-write-all-end c = omega (arith, ap filledBytes (c .before .before .before .n .given .1))
 
 write-all-requires : tie.Need-write-all-requires
 write-all-requires c κs = search needs

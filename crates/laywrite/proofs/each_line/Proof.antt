@@ -4,7 +4,7 @@ use mathlib.Core.Path.{_≡_, subst, subst⁻¹}
 use native.Mathlib.Omega.{arith}
 use borrow.Author.Needs.{needs}
 use lib.ListN.{length, take, drop}
-use Rattle.typed.specs.Typed.{draftIn}
+use Rattle.parsing.specs.Parsed.{parsedDraft}
 use Rattle.lines.specs.Input.{IsNext}
 use Rattle.lines.proofs.LineLaws.{IsLine, line-next, holds-at-end}
 use Rattle.laywrite.specs.Waiting.{allDropped, HoldRecords}
@@ -78,7 +78,7 @@ loop-again c =
     let call = c .before .before .take-line in
     let start = c .before .before .before .before .before .before .before .input .given .0 .0 in
     let text = take (c .before .before .before .before .before .before .before .input .given .0 .1 .0 - start) (drop start (c .before .before .before .before .before .before .before .before .before .before .before .next .last .0)) in
-    (hold-taken (l .records) (l .out) (call .last .0) (draftIn text) (call .result) (l .inv .0) (call .ensures), (search needs, search needs))
+    (hold-taken (l .records) (l .out) (call .last .0) (parsedDraft text) (call .result) (l .inv .0) (call .ensures), (search needs, search needs))
 
 same-length-3 : tie.Need-same-length-3 Inv-loop μ-loop
 same-length-3 c = search needs

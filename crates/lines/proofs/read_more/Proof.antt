@@ -4,7 +4,7 @@ use mathlib.Core.Path.{ap, refl}
 use native.Mathlib.Omega.{arith}
 use borrow.Author.Needs.{needs}
 use lib.ListN.{length}
-use Rattle.files.specs.Answers.{bytesOf}
+use Rattle.files.specs.Answers.{filledBytes}
 use Rattle.lines.specs.Input.{failed, read}
 use Rattle.lines.proofs.LineLaws.{text-size, is-read}
 use Rattle.lines.proofs.read_more.Statement.{statement}
@@ -54,7 +54,7 @@ inside c =
     omega (
       arith,
       few (c .before .before .before .before .before .before .before .before .before .before .before),
-      ap bytesOf (c .before .before .more .given .1),
+      ap filledBytes (c .before .before .more .given .1),
       c .before .before .before .before .before .before .fill .ensures,
       c .before .before .before .before .before .before .fill .kept .1 .1 .0,
       c .before .before .before .before .before .before .before .before .before .before .before .front .kept .0,
