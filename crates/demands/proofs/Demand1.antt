@@ -46,7 +46,7 @@ use Rattle.listing.specs.Answers.{Refused, answerOf}
 use Rattle.text.specs.Texts.{spaced, bytesIn}
 use Rattle.listing.specs.Listings.{Part, listingOf, hasRoom, listedIn, bufferWith}
 use Rattle.listing.proofs.Theorems.{job-first, then-chain}
-use Rattle.desk.specs.Figures.{chainBy, windowBy, recordFigures, countFigures, chainFigures, jobFigures, heldFigures, listedFigures}
+use Rattle.lay.specs.Figures.{chainBy, windowBy, recordFigures, countFigures, chainFigures, jobFigures, heldFigures, listedFigures}
 use Rattle.demands.specs.Numbers.{recordRefusal, listedRefusal, NoneOr, Refuses, Leaves}
 use Rattle.demands.proofs.NumberLaws.{some-number, whole-number, length-number, readings-number, listed-number, search-number, refused-lists, refused-early, answered-lists, room-kept, list-length, job-good, answer-number}
 use Rattle.demands.proofs.LibraryLaws.{record-told, count-told, chain-told, job-told, listing-told}

@@ -17,7 +17,7 @@ use Rattle.records.specs.Refusals.{rawRefusal, entryRefusal, countRefusal, chai
 use Rattle.listing.specs.declared.Listed.{Listed}
 use Rattle.listing.specs.declared.Listed.the-variants as listed
 use Rattle.listing.specs.declared.Carried.the-variants as carried
-use Rattle.desk.specs.Figures.{chainBy, windowBy, entryFigures, recordBy, countFigures, chainFigures, jobFigures, heldFigures, listedFigures}
+use Rattle.lay.specs.Figures.{chainBy, windowBy, entryFigures, recordBy, countFigures, chainFigures, jobFigures, heldFigures, listedFigures}
 use Rattle.demands.specs.Numbers.{listedRefusal, NoneOr, Refuses}
 use Rattle.demands.proofs.NumberLaws.{wider}
 

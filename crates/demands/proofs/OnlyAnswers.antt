@@ -65,16 +65,16 @@ use Rattle.shown.proofs.record as shown-record
 use Rattle.shown.proofs.expected as shown-expected
 use Rattle.files.proofs.refused as refused
 use Rattle.listing.proofs.list as list
-use Rattle.desk.proofs.desk_centimetres as desk-centimetres
-use Rattle.desk.proofs.desk_metres as desk-metres
-use Rattle.desk.proofs.desk_expected as desk-expected
-use Rattle.desk.proofs.desk_search as desk-search
-use Rattle.desk.proofs.desk_log_record as desk-log-record
-use Rattle.desk.proofs.desk_write as desk-write
-use Rattle.desk.proofs.desk_job as desk-job
-use Rattle.desk.proofs.desk_chain_count as desk-chain-count
-use Rattle.desk.proofs.desk_chain as desk-chain
-use Rattle.desk.proofs.desk_list as desk-list
+use Rattle.lay.proofs.lay_centimetres as lay-centimetres
+use Rattle.lay.proofs.lay_metres as lay-metres
+use Rattle.lay.proofs.lay_expected as lay-expected
+use Rattle.lay.proofs.lay_search as lay-search
+use Rattle.lay.proofs.lay_log_record as lay-log-record
+use Rattle.lay.proofs.lay_write as lay-write
+use Rattle.lay.proofs.lay_job as lay-job
+use Rattle.lay.proofs.lay_chain_count as lay-chain-count
+use Rattle.lay.proofs.lay_chain as lay-chain
+use Rattle.lay.proofs.lay_list as lay-list
 
 -- The logic in which the contracts are stated, any.
 module _ {M : Type 1} (𝓤 : URA M) (H : Heap 𝓤) (A : Atoms 𝓤) (mem : Memory → SProp 𝓤) (run : Routine → Fun 𝓤) where
@@ -286,42 +286,42 @@ module _ {M : Type 1} (𝓤 : URA M) (H : Heap 𝓤) (A : Atoms 𝓤) (mem : Mem
   pub list-only : OneAnswer 𝓤 list.ended (list.clauses 𝓤 H A mem run)
   list-only κs a g x y = only 𝓤 (same beside same) (λ (answer, out). answer & out & refl)
 
-  -- desk::desk_centimetres, by `ensures-answer`, `ensures-centimetres`.
-  pub desk-centimetres-only : OneAnswer 𝓤 desk-centimetres.ended (desk-centimetres.clauses 𝓤 H A mem run)
-  desk-centimetres-only κs a g x y = only 𝓤 (same beside same) (λ (answer, centimetres). answer & refl & centimetres & refl)
+  -- lay::lay_centimetres, by `ensures-answer`, `ensures-centimetres`.
+  pub lay-centimetres-only : OneAnswer 𝓤 lay-centimetres.ended (lay-centimetres.clauses 𝓤 H A mem run)
+  lay-centimetres-only κs a g x y = only 𝓤 (same beside same) (λ (answer, centimetres). answer & refl & centimetres & refl)
 
-  -- desk::desk_metres, by `ensures-answer`, `ensures-metres`.
-  pub desk-metres-only : OneAnswer 𝓤 desk-metres.ended (desk-metres.clauses 𝓤 H A mem run)
-  desk-metres-only κs a g x y = only 𝓤 (same beside same) (λ (answer, metres). answer & refl & metres & refl)
+  -- lay::lay_metres, by `ensures-answer`, `ensures-metres`.
+  pub lay-metres-only : OneAnswer 𝓤 lay-metres.ended (lay-metres.clauses 𝓤 H A mem run)
+  lay-metres-only κs a g x y = only 𝓤 (same beside same) (λ (answer, metres). answer & refl & metres & refl)
 
-  -- desk::desk_expected, by `ensures-answer`, `ensures-a`, `ensures-b`.
-  pub desk-expected-only : OneAnswer 𝓤 desk-expected.ended (desk-expected.clauses 𝓤 H A mem run)
-  desk-expected-only κs a g x y = only 𝓤 (same beside same beside same) (λ (answer, (ra, rb)). answer & refl & refl & refl & refl & refl & refl & refl & refl & ra & rb & refl)
+  -- lay::lay_expected, by `ensures-answer`, `ensures-a`, `ensures-b`.
+  pub lay-expected-only : OneAnswer 𝓤 lay-expected.ended (lay-expected.clauses 𝓤 H A mem run)
+  lay-expected-only κs a g x y = only 𝓤 (same beside same beside same) (λ (answer, (ra, rb)). answer & refl & refl & refl & refl & refl & refl & refl & refl & ra & rb & refl)
 
-  -- desk::desk_search, by `ensures-answer`, `ensures-list`, `ensures-count`, `ensures-visits`.
-  pub desk-search-only : OneAnswer 𝓤 desk-search.ended (desk-search.clauses 𝓤 H A mem run)
-  desk-search-only κs a g x y = only 𝓤 (same beside same beside same beside same) (λ (answer, (list, (count, visits))). answer & list & refl & refl & refl & refl & refl & refl & refl & refl & refl & refl & refl & refl & refl & count & visits & refl)
+  -- lay::lay_search, by `ensures-answer`, `ensures-list`, `ensures-count`, `ensures-visits`.
+  pub lay-search-only : OneAnswer 𝓤 lay-search.ended (lay-search.clauses 𝓤 H A mem run)
+  lay-search-only κs a g x y = only 𝓤 (same beside same beside same beside same) (λ (answer, (list, (count, visits))). answer & list & refl & refl & refl & refl & refl & refl & refl & refl & refl & refl & refl & refl & refl & count & visits & refl)
 
-  -- desk::desk_log_record, by `ensures-answer`, `ensures-kind`, `ensures-chain`, `ensures-line`, `ensures-x`, `ensures-y`.
-  pub desk-log-record-only : OneAnswer 𝓤 desk-log-record.ended (desk-log-record.clauses 𝓤 H A mem run)
-  desk-log-record-only κs a g x y = only 𝓤 (same beside same beside same beside same beside same beside same) (λ (answer, (kind, (chain, (line, (first, second))))). answer & refl & kind & chain & line & first & second & refl)
+  -- lay::lay_log_record, by `ensures-answer`, `ensures-kind`, `ensures-chain`, `ensures-line`, `ensures-x`, `ensures-y`.
+  pub lay-log-record-only : OneAnswer 𝓤 lay-log-record.ended (lay-log-record.clauses 𝓤 H A mem run)
+  lay-log-record-only κs a g x y = only 𝓤 (same beside same beside same beside same beside same beside same) (λ (answer, (kind, (chain, (line, (first, second))))). answer & refl & kind & chain & line & first & second & refl)
 
-  -- desk::desk_write, by `ensures-answer`, `ensures-buffer`.
-  pub desk-write-only : OneAnswer 𝓤 desk-write.ended (desk-write.clauses 𝓤 H A mem run)
-  desk-write-only κs a g x y = only 𝓤 (same beside same) (λ (answer, buffer). answer & buffer & refl)
+  -- lay::lay_write, by `ensures-answer`, `ensures-buffer`.
+  pub lay-write-only : OneAnswer 𝓤 lay-write.ended (lay-write.clauses 𝓤 H A mem run)
+  lay-write-only κs a g x y = only 𝓤 (same beside same) (λ (answer, buffer). answer & buffer & refl)
 
-  -- desk::desk_job, by `ensures-answer`, `ensures-e`, `ensures-n`, `ensures-k`, `ensures-tolerance`, `ensures-allowance`.
-  pub desk-job-only : OneAnswer 𝓤 desk-job.ended (desk-job.clauses 𝓤 H A mem run)
-  desk-job-only κs a g x y = only 𝓤 (same beside same beside same beside same beside same beside same) (λ (answer, (easting, (northing, (k, (tolerance, allowance))))). answer & refl & easting & northing & k & tolerance & allowance & refl)
+  -- lay::lay_job, by `ensures-answer`, `ensures-e`, `ensures-n`, `ensures-k`, `ensures-tolerance`, `ensures-allowance`.
+  pub lay-job-only : OneAnswer 𝓤 lay-job.ended (lay-job.clauses 𝓤 H A mem run)
+  lay-job-only κs a g x y = only 𝓤 (same beside same beside same beside same beside same beside same) (λ (answer, (easting, (northing, (k, (tolerance, allowance))))). answer & refl & easting & northing & k & tolerance & allowance & refl)
 
-  -- desk::desk_chain_count, by `ensures-answer`, `ensures-count`.
-  pub desk-chain-count-only : OneAnswer 𝓤 desk-chain-count.ended (desk-chain-count.clauses 𝓤 H A mem run)
-  desk-chain-count-only κs a g x y = only 𝓤 (same beside same) (λ (answer, count). answer & refl & count & refl)
+  -- lay::lay_chain_count, by `ensures-answer`, `ensures-count`.
+  pub lay-chain-count-only : OneAnswer 𝓤 lay-chain-count.ended (lay-chain-count.clauses 𝓤 H A mem run)
+  lay-chain-count-only κs a g x y = only 𝓤 (same beside same) (λ (answer, count). answer & refl & count & refl)
 
-  -- desk::desk_chain, by `ensures-answer`, `ensures-me`, `ensures-mn`, `ensures-ae`, `ensures-an`, `ensures-be`, `ensures-bn`.
-  pub desk-chain-only : OneAnswer 𝓤 desk-chain.ended (desk-chain.clauses 𝓤 H A mem run)
-  desk-chain-only κs a g x y = only 𝓤 (same beside same beside same beside same beside same beside same beside same) (λ (answer, (me, (mn, (ae, (an, (be, bn)))))). answer & refl & refl & me & mn & ae & an & be & bn & refl)
+  -- lay::lay_chain, by `ensures-answer`, `ensures-me`, `ensures-mn`, `ensures-ae`, `ensures-an`, `ensures-be`, `ensures-bn`.
+  pub lay-chain-only : OneAnswer 𝓤 lay-chain.ended (lay-chain.clauses 𝓤 H A mem run)
+  lay-chain-only κs a g x y = only 𝓤 (same beside same beside same beside same beside same beside same beside same) (λ (answer, (me, (mn, (ae, (an, (be, bn)))))). answer & refl & refl & me & mn & ae & an & be & bn & refl)
 
-  -- desk::desk_list, by `ensures-answer`, `ensures-text`, `ensures-size`, `ensures-next`, `ensures-easting`, `ensures-northing`.
-  pub desk-list-only : OneAnswer 𝓤 desk-list.ended (desk-list.clauses 𝓤 H A mem run)
-  desk-list-only κs a g x y = only 𝓤 (same beside same beside same beside same beside same beside same) (λ (answer, (text, (size, (next, (easting, northing))))). answer & text & refl & refl & refl & refl & refl & refl & size & next & easting & northing & refl)
+  -- lay::lay_list, by `ensures-answer`, `ensures-text`, `ensures-size`, `ensures-next`, `ensures-easting`, `ensures-northing`.
+  pub lay-list-only : OneAnswer 𝓤 lay-list.ended (lay-list.clauses 𝓤 H A mem run)
+  lay-list-only κs a g x y = only 𝓤 (same beside same beside same beside same beside same beside same) (λ (answer, (text, (size, (next, (easting, northing))))). answer & text & refl & refl & refl & refl & refl & refl & size & next & easting & northing & refl)

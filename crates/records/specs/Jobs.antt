@@ -30,6 +30,12 @@ jobIn s =
 unfoldable pub rawJobOf : List ℕ → JobAnswer
 rawJobOf s = unless (eqb (length s) jobBytes) (answer.Refused 1) (answer.Job (jobIn s))
 
+-- The same, then 2 for a byte that must be zero and is not.
+unfoldable pub formedJobOf : List ℕ → JobAnswer
+formedJobOf s =
+    unless (eqb (length s) jobBytes) (answer.Refused 1)
+    (unless (areZero 3 s 9 && areZero 8 s 24) (answer.Refused 2) (answer.Job (jobIn s)))
+
 -- A job: 1, then 2 for a byte that must be zero and is not, 6 for the window, 7 for the tolerance.
 unfoldable pub jobOf : List ℕ → JobAnswer
 jobOf s =

@@ -10,7 +10,7 @@ ghost use Rattle.records.specs.declared.LogEntry.the-variants as entry;
 ghost use Rattle.records.specs.Bytes.{byteAt, numberIn, areZero};
 ghost use Rattle.records.specs.LogRecords.{logBytes, rawRecordOf, isHyperbolic, isGrid, isHold, logRecordOf, isPlace, placed, logEntryOf};
 ghost use Rattle.records.specs.ChainTables.{chainBytes, isTable, oneTo, chainCountOf, placeAt, chainAt, rawChainOf, chainOf};
-ghost use Rattle.records.specs.Jobs.{jobBytes, jobIn, rawJobOf, jobOf};
+ghost use Rattle.records.specs.Jobs.{jobBytes, jobIn, rawJobOf, formedJobOf, jobOf};
 ghost use Rattle.records.specs.Gathered.{IsRaw, pairOf, given};
 use chart::Chain;
 use chart::Place;
@@ -196,6 +196,19 @@ pub fn raw_job(s: &[u8]) -> JobAnswer
         return JobAnswer::Job(job_in(s));
     }
     JobAnswer::Refused(1)
+}
+
+// The same where the bytes that must be zero are. Window and tolerance are not looked at.
+pub fn formed_job(s: &[u8]) -> JobAnswer
+    ensures { λ r. ⌜ r ≡ formedJobOf (now (s .entry)) ⌝ }
+{
+    if s.len() != JOB_BYTES {
+        return JobAnswer::Refused(1);
+    }
+    if !job_zeros(s) {
+        return JobAnswer::Refused(2);
+    }
+    JobAnswer::Job(job_in(s))
 }
 
 // The job in 32 bytes.

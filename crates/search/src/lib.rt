@@ -236,7 +236,7 @@ fn north_east(p: Place, d: u32) -> Place
 }
 
 // Every entry from a place on becomes zero.
-fn clear(list: &mut [u32], from: usize)
+pub fn clear(list: &mut [u32], from: usize)
     ensures { λ _. ⌜ now (list .exit) ≡ take from (now (list .entry)) ++ replicate (length (now (list .entry)) - from) 0 ⌝ }
 {
     let mut i = from;

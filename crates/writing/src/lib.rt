@@ -160,7 +160,8 @@ fn used(d: Draft) -> Draft
     }
 }
 
-fn clear(buffer: &mut [u8])
+// Every byte of a buffer becomes zero.
+pub fn clear(buffer: &mut [u8])
     ensures { λ _. ⌜ now (buffer .exit) ≡ replicate (length (now (buffer .entry))) 0 ⌝ }
 {
     let mut i = 0;

@@ -8,13 +8,13 @@ use Rattle.search.proofs.clear.Statement.{statement}
 use Rattle.search.proofs.clear.Tie as tie
 
 abbrev Inv-loop : tie.InvT-loop
-Inv-loop list₀ from i₀ list i = Cleared from i list₀ list
+Inv-loop list₀ from i₀ list i = Cleared 0 from i list₀ list
 
 abbrev μ-loop : tie.MeasureT-loop
 μ-loop list₀ from i₀ list i = length list - i
 
 loop-holds : tie.Need-loop-holds Inv-loop μ-loop
-loop-holds c = cleared-none (c .args .from) (c .args .list .now)
+loop-holds c = cleared-none 0 (c .args .from) (c .args .list .now)
 
 mul-list : tie.Need-mul-list Inv-loop μ-loop
 mul-list c = search needs
@@ -29,13 +29,13 @@ loop-less : tie.Need-loop-less Inv-loop μ-loop
 loop-less c = simp length-set (omega arith)
 
 loop-again : tie.Need-loop-again Inv-loop μ-loop
-loop-again c = cleared-more _ _ _ _ (omega arith) (c .before .loop .inv)
+loop-again c = cleared-more 0 _ _ _ _ (omega arith) (c .before .loop .inv)
 
 same-length : tie.Need-same-length Inv-loop μ-loop
 same-length c = c .before .loop .inv .same
 
 returns : tie.Need-returns Inv-loop μ-loop
-returns c = cleared-all _ _ _ _ (omega arith) (c .before .loop .inv)
+returns c = cleared-all 0 _ _ _ _ (omega arith) (c .before .loop .inv)
 
 pub clear-spec : {M : Type 1} → statement M
 clear-spec =

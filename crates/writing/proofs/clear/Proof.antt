@@ -10,13 +10,13 @@ use Rattle.writing.proofs.clear.Statement.{statement}
 use Rattle.writing.proofs.clear.Tie as tie
 
 abbrev Inv-loop : tie.InvT-loop
-Inv-loop buffer₀ i₀ buffer i = Cleared 0 i buffer₀ buffer
+Inv-loop buffer₀ i₀ buffer i = Cleared 0 0 i buffer₀ buffer
 
 abbrev μ-loop : tie.MeasureT-loop
 μ-loop buffer₀ i₀ buffer i = length buffer - i
 
 loop-holds : tie.Need-loop-holds Inv-loop μ-loop
-loop-holds c = cleared-none 0 (c .args .buffer .now)
+loop-holds c = cleared-none 0 0 (c .args .buffer .now)
 
 slice-write-buffer : tie.Need-slice-write-buffer Inv-loop μ-loop
 slice-write-buffer c = search needs
@@ -28,7 +28,7 @@ loop-less : tie.Need-loop-less Inv-loop μ-loop
 loop-less c = simp length-set (omega arith)
 
 loop-again : tie.Need-loop-again Inv-loop μ-loop
-loop-again c = cleared-more _ _ _ _ (omega arith) (c .before .loop .inv)
+loop-again c = cleared-more 0 _ _ _ _ (omega arith) (c .before .loop .inv)
 
 same-length : tie.Need-same-length Inv-loop μ-loop
 same-length c = c .before .loop .inv .same
@@ -36,7 +36,7 @@ same-length c = c .before .loop .inv .same
 returns : tie.Need-returns Inv-loop μ-loop
 returns c =
     let s = c .before .before .args .buffer .now in
-    cleared-all 0 _ s _ (omega arith) (c .before .loop .inv) ∙ ap (λ (n : ℕ). replicate n 0) (sub-zero (length s))
+    cleared-all 0 0 _ s _ (omega arith) (c .before .loop .inv) ∙ ap (λ (n : ℕ). replicate n 0) (sub-zero (length s))
 
 pub clear-spec : {M : Type 1} → statement M
 clear-spec =
