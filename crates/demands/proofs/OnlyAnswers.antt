@@ -37,6 +37,7 @@ use Rattle.chart.proofs.ReadingLaws.{said-once}
 use Rattle.search.proofs.is_window as is-window
 use Rattle.search.proofs.search as search
 use Rattle.search.proofs.as_figures as search-as-figures
+use Rattle.search.proofs.clear as search-clear
 use Rattle.records.proofs.raw_record as raw-record
 use Rattle.records.proofs.log_record as log-record
 use Rattle.records.proofs.log_entry as log-entry
@@ -45,10 +46,12 @@ use Rattle.records.proofs.chain_count as chain-count
 use Rattle.records.proofs.chain_of as chain-of
 use Rattle.records.proofs.raw_chain as raw-chain
 use Rattle.records.proofs.raw_job as raw-job
+use Rattle.records.proofs.formed_job as formed-job
 use Rattle.records.proofs.job_of as job-of
 use Rattle.writing.proofs.write as write
 use Rattle.writing.proofs.write_chain as write-chain
 use Rattle.writing.proofs.write_job as write-job
+use Rattle.writing.proofs.clear as writing-clear
 use Rattle.text.proofs.put as text-put
 use Rattle.text.proofs.put_number as text-put-number
 use Rattle.text.proofs.put_whole as put-whole
@@ -65,15 +68,19 @@ use Rattle.shown.proofs.record as shown-record
 use Rattle.shown.proofs.expected as shown-expected
 use Rattle.files.proofs.refused as refused
 use Rattle.listing.proofs.list as list
+use Rattle.lay.proofs.lay_version as lay-version
 use Rattle.lay.proofs.lay_centimetres as lay-centimetres
 use Rattle.lay.proofs.lay_metres as lay-metres
 use Rattle.lay.proofs.lay_expected as lay-expected
 use Rattle.lay.proofs.lay_search as lay-search
-use Rattle.lay.proofs.lay_log_record as lay-log-record
-use Rattle.lay.proofs.lay_write as lay-write
-use Rattle.lay.proofs.lay_job as lay-job
-use Rattle.lay.proofs.lay_chain_count as lay-chain-count
+use Rattle.lay.proofs.lay_read_record as lay-read-record
+use Rattle.lay.proofs.lay_write_record as lay-write-record
+use Rattle.lay.proofs.lay_read_job as lay-read-job
+use Rattle.lay.proofs.lay_write_job as lay-write-job
+use Rattle.lay.proofs.lay_count_chains as lay-count-chains
 use Rattle.lay.proofs.lay_chain as lay-chain
+use Rattle.lay.proofs.lay_read_chain as lay-read-chain
+use Rattle.lay.proofs.lay_write_chain as lay-write-chain
 use Rattle.lay.proofs.lay_list as lay-list
 
 -- The logic in which the contracts are stated, any.
@@ -174,6 +181,10 @@ module _ {M : Type 1} (𝓤 : URA M) (H : Heap 𝓤) (A : Atoms 𝓤) (mem : Mem
   pub search-as-figures-only : OneAnswer 𝓤 search-as-figures.ended (search-as-figures.clauses 𝓤 H A mem run)
   search-as-figures-only κs a g x y = only 𝓤 same (λ answer. answer & refl)
 
+  -- search::clear, by `ensures-1`.
+  pub search-clear-only : OneAnswer 𝓤 search-clear.ended (search-clear.clauses 𝓤 H A mem run)
+  search-clear-only κs a g x y = only 𝓤 same (λ list. refl & list & refl)
+
   -- records::raw_record, by `ensures-1`.
   pub raw-record-only : OneAnswer 𝓤 raw-record.ended (raw-record.clauses 𝓤 H A mem run)
   raw-record-only κs a g x y = only 𝓤 same (λ answer. answer & refl)
@@ -206,6 +217,10 @@ module _ {M : Type 1} (𝓤 : URA M) (H : Heap 𝓤) (A : Atoms 𝓤) (mem : Mem
   pub raw-job-only : OneAnswer 𝓤 raw-job.ended (raw-job.clauses 𝓤 H A mem run)
   raw-job-only κs a g x y = only 𝓤 same (λ answer. answer & refl)
 
+  -- records::formed_job, by `ensures-1`.
+  pub formed-job-only : OneAnswer 𝓤 formed-job.ended (formed-job.clauses 𝓤 H A mem run)
+  formed-job-only κs a g x y = only 𝓤 same (λ answer. answer & refl)
+
   -- records::job_of, by `ensures-1`.
   pub job-of-only : OneAnswer 𝓤 job-of.ended (job-of.clauses 𝓤 H A mem run)
   job-of-only κs a g x y = only 𝓤 same (λ answer. answer & refl)
@@ -221,6 +236,10 @@ module _ {M : Type 1} (𝓤 : URA M) (H : Heap 𝓤) (A : Atoms 𝓤) (mem : Mem
   -- writing::write_job, by `ensures-answer`, `ensures-buffer`.
   pub write-job-only : OneAnswer 𝓤 write-job.ended (write-job.clauses 𝓤 H A mem run)
   write-job-only κs a g x y = only 𝓤 (same beside same) (λ (answer, buffer). answer & buffer & refl)
+
+  -- writing::clear, by `ensures-1`.
+  pub writing-clear-only : OneAnswer 𝓤 writing-clear.ended (writing-clear.clauses 𝓤 H A mem run)
+  writing-clear-only κs a g x y = only 𝓤 same (λ buffer. refl & buffer & refl)
 
   -- text::put, by `ensures-end`, `ensures-out`.
   pub text-put-only : OneAnswer 𝓤 text-put.ended (text-put.clauses 𝓤 H A mem run)
@@ -286,42 +305,58 @@ module _ {M : Type 1} (𝓤 : URA M) (H : Heap 𝓤) (A : Atoms 𝓤) (mem : Mem
   pub list-only : OneAnswer 𝓤 list.ended (list.clauses 𝓤 H A mem run)
   list-only κs a g x y = only 𝓤 (same beside same) (λ (answer, out). answer & out & refl)
 
-  -- lay::lay_centimetres, by `ensures-answer`, `ensures-centimetres`.
+  -- lay::lay_version, by its clauses.
+  pub lay-version-only : OneAnswer 𝓤 lay-version.ended (lay-version.clauses 𝓤 H A mem run)
+  lay-version-only κs a g x y = only 𝓤 same (λ answer. answer & refl)
+
+  -- lay::lay_centimetres, by its clauses.
   pub lay-centimetres-only : OneAnswer 𝓤 lay-centimetres.ended (lay-centimetres.clauses 𝓤 H A mem run)
   lay-centimetres-only κs a g x y = only 𝓤 (same beside same) (λ (answer, centimetres). answer & refl & centimetres & refl)
 
-  -- lay::lay_metres, by `ensures-answer`, `ensures-metres`.
+  -- lay::lay_metres, by its clauses.
   pub lay-metres-only : OneAnswer 𝓤 lay-metres.ended (lay-metres.clauses 𝓤 H A mem run)
   lay-metres-only κs a g x y = only 𝓤 (same beside same) (λ (answer, metres). answer & refl & metres & refl)
 
-  -- lay::lay_expected, by `ensures-answer`, `ensures-a`, `ensures-b`.
+  -- lay::lay_expected, by its clauses.
   pub lay-expected-only : OneAnswer 𝓤 lay-expected.ended (lay-expected.clauses 𝓤 H A mem run)
-  lay-expected-only κs a g x y = only 𝓤 (same beside same beside same) (λ (answer, (ra, rb)). answer & refl & refl & refl & refl & refl & refl & refl & refl & ra & rb & refl)
+  lay-expected-only κs a g x y = only 𝓤 (same beside same) (λ (answer, readings). answer & readings & refl & refl & refl & refl)
 
-  -- lay::lay_search, by `ensures-answer`, `ensures-list`, `ensures-count`, `ensures-visits`.
+  -- lay::lay_search, by its clauses.
   pub lay-search-only : OneAnswer 𝓤 lay-search.ended (lay-search.clauses 𝓤 H A mem run)
-  lay-search-only κs a g x y = only 𝓤 (same beside same beside same beside same) (λ (answer, (list, (count, visits))). answer & list & refl & refl & refl & refl & refl & refl & refl & refl & refl & refl & refl & refl & refl & count & visits & refl)
+  lay-search-only κs a g x y = only 𝓤 (same beside same beside same) (λ (answer, (list, found)). answer & list & refl & refl & refl & found & refl)
 
-  -- lay::lay_log_record, by `ensures-answer`, `ensures-kind`, `ensures-chain`, `ensures-line`, `ensures-x`, `ensures-y`.
-  pub lay-log-record-only : OneAnswer 𝓤 lay-log-record.ended (lay-log-record.clauses 𝓤 H A mem run)
-  lay-log-record-only κs a g x y = only 𝓤 (same beside same beside same beside same beside same beside same) (λ (answer, (kind, (chain, (line, (first, second))))). answer & refl & kind & chain & line & first & second & refl)
+  -- lay::lay_read_record, by its clauses.
+  pub lay-read-record-only : OneAnswer 𝓤 lay-read-record.ended (lay-read-record.clauses 𝓤 H A mem run)
+  lay-read-record-only κs a g x y = only 𝓤 (same beside same beside same beside same beside same beside same) (λ (answer, (kind, (chain, (line, (first, second))))). answer & refl & kind & chain & line & first & second & refl)
 
-  -- lay::lay_write, by `ensures-answer`, `ensures-buffer`.
-  pub lay-write-only : OneAnswer 𝓤 lay-write.ended (lay-write.clauses 𝓤 H A mem run)
-  lay-write-only κs a g x y = only 𝓤 (same beside same) (λ (answer, buffer). answer & buffer & refl)
+  -- lay::lay_write_record, by its clauses.
+  pub lay-write-record-only : OneAnswer 𝓤 lay-write-record.ended (lay-write-record.clauses 𝓤 H A mem run)
+  lay-write-record-only κs a g x y = only 𝓤 (same beside same) (λ (answer, buffer). answer & buffer & refl)
 
-  -- lay::lay_job, by `ensures-answer`, `ensures-e`, `ensures-n`, `ensures-k`, `ensures-tolerance`, `ensures-allowance`.
-  pub lay-job-only : OneAnswer 𝓤 lay-job.ended (lay-job.clauses 𝓤 H A mem run)
-  lay-job-only κs a g x y = only 𝓤 (same beside same beside same beside same beside same beside same) (λ (answer, (easting, (northing, (k, (tolerance, allowance))))). answer & refl & easting & northing & k & tolerance & allowance & refl)
+  -- lay::lay_read_job, by its clauses.
+  pub lay-read-job-only : OneAnswer 𝓤 lay-read-job.ended (lay-read-job.clauses 𝓤 H A mem run)
+  lay-read-job-only κs a g x y = only 𝓤 (same beside same beside same beside same beside same beside same) (λ (answer, (easting, (northing, (k, (tolerance, allowance))))). answer & refl & easting & northing & k & tolerance & allowance & refl)
 
-  -- lay::lay_chain_count, by `ensures-answer`, `ensures-count`.
-  pub lay-chain-count-only : OneAnswer 𝓤 lay-chain-count.ended (lay-chain-count.clauses 𝓤 H A mem run)
-  lay-chain-count-only κs a g x y = only 𝓤 (same beside same) (λ (answer, count). answer & refl & count & refl)
+  -- lay::lay_write_job, by its clauses.
+  pub lay-write-job-only : OneAnswer 𝓤 lay-write-job.ended (lay-write-job.clauses 𝓤 H A mem run)
+  lay-write-job-only κs a g x y = only 𝓤 (same beside same) (λ (answer, buffer). answer & buffer & refl)
 
-  -- lay::lay_chain, by `ensures-answer`, `ensures-me`, `ensures-mn`, `ensures-ae`, `ensures-an`, `ensures-be`, `ensures-bn`.
+  -- lay::lay_count_chains, by its clauses.
+  pub lay-count-chains-only : OneAnswer 𝓤 lay-count-chains.ended (lay-count-chains.clauses 𝓤 H A mem run)
+  lay-count-chains-only κs a g x y = only 𝓤 (same beside same) (λ (answer, count). answer & refl & count & refl)
+
+  -- lay::lay_chain, by its clauses.
   pub lay-chain-only : OneAnswer 𝓤 lay-chain.ended (lay-chain.clauses 𝓤 H A mem run)
-  lay-chain-only κs a g x y = only 𝓤 (same beside same beside same beside same beside same beside same beside same) (λ (answer, (me, (mn, (ae, (an, (be, bn)))))). answer & refl & refl & me & mn & ae & an & be & bn & refl)
+  lay-chain-only κs a g x y = only 𝓤 (same beside same) (λ (answer, buffer). answer & buffer & refl & refl)
 
-  -- lay::lay_list, by `ensures-answer`, `ensures-text`, `ensures-size`, `ensures-next`, `ensures-easting`, `ensures-northing`.
+  -- lay::lay_read_chain, by its clauses.
+  pub lay-read-chain-only : OneAnswer 𝓤 lay-read-chain.ended (lay-read-chain.clauses 𝓤 H A mem run)
+  lay-read-chain-only κs a g x y = only 𝓤 (same beside same) (λ (answer, stations). answer & refl & stations & refl)
+
+  -- lay::lay_write_chain, by its clauses.
+  pub lay-write-chain-only : OneAnswer 𝓤 lay-write-chain.ended (lay-write-chain.clauses 𝓤 H A mem run)
+  lay-write-chain-only κs a g x y = only 𝓤 (same beside same) (λ (answer, buffer). answer & buffer & refl & refl)
+
+  -- lay::lay_list, by its clauses.
   pub lay-list-only : OneAnswer 𝓤 lay-list.ended (lay-list.clauses 𝓤 H A mem run)
-  lay-list-only κs a g x y = only 𝓤 (same beside same beside same beside same beside same beside same) (λ (answer, (text, (size, (next, (easting, northing))))). answer & text & refl & refl & refl & refl & refl & refl & size & next & easting & northing & refl)
+  lay-list-only κs a g x y = only 𝓤 (same beside same beside same) (λ (answer, (text, part)). answer & text & refl & refl & refl & part & refl)
