@@ -1,5 +1,5 @@
 #!/usr/bin/env bash
-# What laylist prints of folders, against document 01's listing and limits, byte by byte, and against a lister of its own
+# What laylist prints of folders, against document 01's listing and limits, byte by byte, and against the rule's listing
 # (listing.py); how it ends where a file cannot be read or its listing not be written; and the examples, by `list`. A seed
 # other than the gate's may be given.
 cd "$(dirname "$0")/.." && . tests/common.bash
