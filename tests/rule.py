@@ -271,6 +271,7 @@ def chart_number(corner, cell):
 
 
 def expected(table, number, place):
+    """4 precedes 5; a table that is none comes before both."""
     chains_in(table)
     refuse(4, not in_range(place))
     return readings(chain_in(table, number), place)
@@ -290,7 +291,8 @@ def refused(number, visits=0):
 
 
 def answer(job, table, held, s, find):
-    """A record's word, its figure, the visits and the places. `held` has the place that a hold repeats, or nothing."""
+    """A record's word, the count of its places or the number of its refusal, the visits and the places. `held` has the place
+    that a hold repeats, or nothing."""
     refusal, record = tried(log_record, s)
     if refusal:
         return refused(refusal)

@@ -120,7 +120,7 @@ def checked(chain, wanted, job, room):
 
 
 def answer(r):
-    """The refusal, the visits and the places."""
+    """The refusal, the visits and the places. Half a place is no room."""
     return checked(r.chain, r.wanted, r.job, r.entries // 2)
 
 
