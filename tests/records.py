@@ -1,6 +1,5 @@
 #!/usr/bin/env python3
-"""Requests about records read and written in the words of desk.c, and their answers, worked out from document 01 in exact
-fractions and whole numbers.
+"""Requests about records read and written in the words of desk.c, and their answers by rule.py.
 
     records.py named        the requests that have a reason, one to a line
     records.py sweep        sound records with each byte set to each other value
@@ -10,10 +9,13 @@ fractions and whole numbers.
 import random
 import struct
 import sys
-from fractions import Fraction
-from math import inf, isfinite, nextafter
+from math import inf, nextafter
 
-EAST, NORTH = 100_000_000, 1_000_000_000
+# The rule beside this would else leave compiled files in the tree.
+sys.dont_write_bytecode = True
+import rule
+from rule import EAST, NORTH
+
 NAN = 0x7FF8000000000000
 INFINITY = 0x7FF0000000000000
 MINUS = 1 << 63
@@ -48,120 +50,36 @@ def told(request):
     return in_words(ANSWERS[verb](*rest))
 
 
-# A number of metres
-
-
-def number_in(eight):
-    return struct.unpack("<d", eight)[0]
-
-
-def centimetres(x):
-    """The whole number nearest to exactly 100 times a number, a tie to the even one; None where it is refused."""
-    if not isfinite(x) or abs(x) > 10_000_000:
-        return None
-    return round(100 * Fraction(x))
-
-
-def metres(c):
-    return struct.pack("<d", float(Fraction(c, 100)))
-
-
-# A log record
-
-
-def zero_bytes(s):
-    """The bytes that must be zero in a record of a known kind."""
-    unused = {1: s[24:], 2: s[1:2] + s[24:], 3: s[1:2] + s[8:]}
-    return s[2:4] + unused[s[0]]
-
-
-def kind_refusal(s):
-    if len(s) != 32:
-        return 1
-    return 2 if s[0] not in (1, 2, 3) or any(zero_bytes(s)) else 0
-
-
-def in_range(place):
-    return 0 <= place[0] <= EAST and 0 <= place[1] <= NORTH
+# The answers: the number of the refusal, and behind it what the rule gives, or as many zeros
 
 
 def record_answer(s):
     """The line number is told of any whole record, what else it holds of a good one alone."""
-    line = int.from_bytes(s[4:8], "little") if len(s) == 32 else 0
-    refusal, x, y = numbers_in(s)
+    refusal, record = rule.tried(rule.log_record, s)
     if refusal:
-        return refusal, 0, 0, line, 0, 0
-    return 0, s[0], s[1], line, x, y
-
-
-def numbers_in(s):
-    """The refusal, then readings or a place in centimetres."""
-    refusal = kind_refusal(s)
-    if refusal or s[0] == 3:
-        return refusal, 0, 0
-    numbers = centimetres(number_in(s[8:16])), centimetres(number_in(s[16:24]))
-    if None in numbers:
-        return 3, 0, 0
-    return (4, 0, 0) if s[0] == 2 and not in_range(numbers) else (0, *numbers)
-
-
-# A chain table and a job
+        return refusal, 0, 0, rule.raw_record(s).line if len(s) == 32 else 0, 0, 0
+    return 0, record.kind, record.chain, record.line, *(record.numbers or (0, 0))
 
 
 def count_answer(s):
-    count, rest = divmod(len(s), 24)
-    return (1, 0) if rest or not 1 <= count <= 16 else (0, count)
+    refusal, chains = rule.tried(rule.chains_in, s)
+    return refusal, 0 if refusal else len(chains)
 
 
 def chain_answer(number, s):
-    refusal, count = count_answer(s)
-    if refusal:
-        return refusal, *[0] * 6
-    if not 1 <= number <= count:
-        return 5, *[0] * 6
-    n = struct.unpack_from("<6I", s, 24 * (number - 1))
-    stations = n[0:2], n[2:4], n[4:6]
-    sound = len(set(stations)) == 3 and all(map(in_range, stations))
-    return (0, *n) if sound else (5, *[0] * 6)
+    refusal, chain = rule.tried(rule.chain_in, s, number)
+    return refusal, *([0] * 6 if refusal else rule.flat(rule.stations(chain)))
 
 
 def job_answer(s):
-    refusal, *numbers = numbers_of_job(s)
-    return (refusal, *[0] * 5) if refusal else (0, *numbers)
+    refusal, job = rule.tried(rule.job_in, s)
+    return refusal, *([0] * 5 if refusal else (*job.corner, *job[1:]))
 
 
-def numbers_of_job(s):
-    if len(s) != 32:
-        return (1,)
-    easting, northing, k, *zeros, tolerance, allowance, last = struct.unpack("<IIBBBBIQQ", s)
-    if any(zeros) or last:
-        return (2,)
-    if k > 24 or not in_range((easting + 2**k - 1, northing + 2**k - 1)):
-        return (6,)
-    return (7,) if tolerance > 100_000 else (0, easting, northing, k, tolerance, allowance)
-
-
-# The writer
-
-
-def write_refusal(length, kind, chain, x, y):
-    if length != 32:
-        return 1
-    if kind not in (1, 2, 3):
-        return 2
-    if kind != 3 and max(abs(x), abs(y)) > 1_000_000_000:
-        return 3
-    if kind == 2 and not in_range((x, y)):
-        return 4
-    return 5 if kind == 1 and not 1 <= chain <= 16 else 0
-
-
-def write_answer(length, held, kind, chain, line, x, y):
-    refusal = write_refusal(length, kind, chain, x, y)
-    if refusal:
-        return refusal, bytes(length)
-    numbers = bytes(16) if kind == 3 else metres(x) + metres(y)
-    return 0, struct.pack("<BBHI", kind, chain if kind == 1 else 0, 0, line) + numbers + bytes(8)
+def write_answer(length, held, kind, chain, line, *numbers):
+    """A refused write leaves its whole buffer zero."""
+    refusal, s = rule.tried(rule.record_bytes, rule.Record(kind, chain, line, numbers), length)
+    return refusal, bytes(length) if refusal else s
 
 
 ANSWERS = {"record": record_answer, "count": count_answer, "chain": chain_answer, "job": job_answer, "write": write_answer}
@@ -191,7 +109,7 @@ def job(easting=30000, northing=40000, k=1, zeros=(0, 0, 0), tolerance=0, allowa
 
 
 def chain_of(*stations):
-    return struct.pack("<6I", *(number for station in stations for number in station))
+    return rule.chain_bytes(rule.chain_of(rule.flat(stations)))
 
 
 def draft(length=32, held=0x5A, kind=1, chain=1, line=1, x=-10000, y=-20000):

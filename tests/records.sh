@@ -1,6 +1,6 @@
 #!/usr/bin/env bash
-# What the library makes of records read and written, against document 01's examples and limits, and against a reading and a
-# writing of its own (records.py). A seed other than the gate's may be given.
+# What the library makes of records read and written, against document 01's examples and limits, and against the rule
+# (records.py, rule.py). A seed other than the gate's may be given.
 cd "$(dirname "$0")/.." && . tests/common.bash && . tests/library.bash
 seed=${1:-20261115}
 

@@ -1,6 +1,6 @@
 #!/usr/bin/env bash
 # What the library answers to searches, against document 01's examples, against crossings worked out apart from this, and
-# against the rule in whole numbers (search.py). A seed other than the gate's may be given.
+# against the rule in whole numbers (search.py, rule.py). A seed other than the gate's may be given.
 cd "$(dirname "$0")/.." && . tests/common.bash && . tests/library.bash
 seed=${1:-20261115}
 

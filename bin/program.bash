@@ -1,4 +1,4 @@
-# How a program for x86-64 runs on this machine. The tests and bin/ take it from here.
+# How a program for x86-64 runs on this machine. bin/lay, the tests and the bench take it from here.
 repository=$(CDPATH= cd "$(dirname "${BASH_SOURCE[0]}")/.." && pwd -P)
 
 # Programs of target/bin run under the toolchain's own loader and C library, which `rt doc` leads to, and where the machine is
