@@ -1,27 +1,33 @@
-/* Puts requests to the functions of desk.h: one to a line on standard input, and the answer a line on standard output.
+/* Puts requests to the functions of lay.h: one to a line on standard input, and the answer a line on standard output. A verb is
+ * the name of its function without `lay_`.
  *
- * Words stand apart by single spaces. Numbers are decimal; BYTES are lower-case hexadecimal, `-` for none; a PATTERN is that
- * of a binary64 number in 16 such digits, the highest first. R is the number of the refusal, 0 for none. DIRT is what each
- * element of a lent buffer holds before the call.
+ * Words stand apart by single spaces. Numbers are decimal; BYTES, CHAIN, JOB, TABLE and LOG are lower-case hexadecimal, `-` for
+ * none; a chain or a job may be its numbers with commas between instead, as in 0,0,30000,0,0,40000 and 30000,40000,1,0,100; a
+ * PATTERN is that of a binary64 number in 16 such digits, the highest first; N.. are any number of numbers. R is the number of
+ * the refusal, 0 for none. LENGTH is how many elements a lent buffer or list has, and DIRT what each holds before the call.
  *
- *   centimetres PATTERN                                            ->  R C
- *   metres C                                                       ->  R PATTERN
- *   expected ME MN AE AN BE BN E N                                 ->  R A B
- *   search ENTRIES DIRT ME MN AE AN BE BN RA RB E N K T ALLOWANCE  ->  R COUNT VISITS and every entry of the list
- *   record BYTES                                                   ->  R KIND CHAIN LINE X Y
- *   write LENGTH DIRT KIND CHAIN LINE X Y                          ->  R BYTES, the whole buffer
- *   job BYTES                                                      ->  R E N K T ALLOWANCE
- *   count BYTES                                                    ->  R COUNT
- *   chain NUMBER BYTES                                             ->  R ME MN AE AN BE BN
- *   list LENGTH DIRT HELD E N JOB TABLE LOG                        ->  R TEXTLENGTH HELD E N TEXT, and `kept` where every
- *                                                                      byte behind the text holds DIRT, else `touched`
+ *   version                                      ->  R
+ *   centimetres PATTERN                          ->  R C
+ *   metres C                                     ->  R PATTERN
+ *   expected LENGTH DIRT CHAIN E N               ->  R and every entry of the list
+ *   search LENGTH DIRT CHAIN JOB READING..       ->  R COUNT VISITS and every entry of the list
+ *   read_record BYTES                            ->  R KIND CHAIN LINE X Y
+ *   write_record LENGTH DIRT KIND CHAIN LINE X Y ->  R BYTES, the whole buffer
+ *   read_job BYTES                               ->  R E N K T ALLOWANCE
+ *   write_job LENGTH DIRT E N K T ALLOWANCE      ->  R BYTES
+ *   count_chains BYTES                           ->  R COUNT
+ *   chain LENGTH DIRT NUMBER TABLE               ->  R BYTES
+ *   read_chain LENGTH DIRT BYTES                 ->  R and every entry of the list
+ *   write_chain LENGTH DIRT N..                  ->  R BYTES
+ *   list LENGTH DIRT HELD E N JOB TABLE LOG      ->  R TEXTLENGTH HELD E N TEXT, and `kept` where every byte behind the text
+ *                                                    holds DIRT, else `touched`
  *
  * What a call is lent, results as well as buffers, has exactly its length and stands between guards; a result holds dirt
  * before the call. Where a guard has changed after it, or bytes that were to be read only, the answer ends with `damaged`.
  * A request that is none of these ends the program with 2.
  */
 #define _POSIX_C_SOURCE 200809L
-#include "desk.h"
+#include "lay.h"
 #include <inttypes.h>
 #include <stdbool.h>
 #include <stdio.h>
@@ -33,13 +39,13 @@ enum { GUARD = 64, GUARD_BYTE = 0xC3, RESULT_DIRT = 0xA5, MOST_LENT = 8 };
 static const char HEX[] = "0123456789abcdef";
 
 /* The request's number, and its words not read so far, each ended by a zero byte. */
-static size_t request_number;
+static size_t request_number, words_left;
 static const char *next_word;
 
 static _Noreturn void ill_formed(const char *why)
 {
     fflush(stdout);
-    fprintf(stderr, "desk: request %zu: %s\n", request_number, why);
+    fprintf(stderr, "lay: request %zu: %s\n", request_number, why);
     exit(2);
 }
 
@@ -51,6 +57,7 @@ static const char *word(void)
     if (*start == '\0')
         ill_formed("a word is empty");
     next_word += strlen(start) + 1;
+    words_left--;
     return start;
 }
 
@@ -115,25 +122,12 @@ struct place {
     uint32_t easting, northing;
 };
 
-struct chain {
-    struct place master, a, b;
-};
-
 static struct place place(void)
 {
     struct place p;
     p.easting = number32();
     p.northing = number32();
     return p;
-}
-
-static struct chain chain(void)
-{
-    struct chain c;
-    c.master = place();
-    c.a = place();
-    c.b = place();
-    return c;
 }
 
 /* What is lent to a call. `hex` has the digits of what must not change. */
@@ -174,9 +168,8 @@ struct bytes {
     size_t length;
 };
 
-static struct bytes bytes(void)
+static struct bytes bytes_in(const char *hex)
 {
-    const char *hex = word();
     size_t digits = strcmp(hex, "-") == 0 ? 0 : strlen(hex);
     if (digits % 2 != 0)
         ill_formed("a byte has one digit");
@@ -185,6 +178,57 @@ static struct bytes bytes(void)
         at[i] = byte_in(hex + 2 * i);
     loans[loan_count - 1].hex = hex;
     return (struct bytes){at, digits / 2};
+}
+
+static struct bytes bytes(void) { return bytes_in(word()); }
+
+/* Where a number stands in a record, the lowest byte first, and in how many bytes. */
+struct field {
+    size_t at, width;
+};
+
+/* Puts numbers with commas between into the digits of a record, which are all zero. */
+static void put_fields(const char *numbers, const struct field *fields, size_t count, char *hex)
+{
+    for (size_t i = 0; i < count; i++) {
+        char digits[21] = "";
+        size_t n = strcspn(numbers, ",");
+        if (n >= sizeof digits || (numbers[n] == ',') != (i + 1 < count))
+            ill_formed("numbers too many, too few or too long");
+        memcpy(digits, numbers, n);
+        uint64_t number = number_in(digits, UINT64_MAX >> (64 - 8 * fields[i].width));
+        for (size_t j = fields[i].at; j < fields[i].at + fields[i].width; j++, number >>= 8) {
+            hex[2 * j] = HEX[number >> 4 & 15];
+            hex[2 * j + 1] = HEX[number & 15];
+        }
+        numbers += n + 1;
+    }
+}
+
+/* Of a chain, or of a job, which has k in one byte. */
+
+static struct bytes chain_bytes(void)
+{
+    static const struct field fields[] = {{0, 4}, {4, 4}, {8, 4}, {12, 4}, {16, 4}, {20, 4}};
+    static char hex[2 * LAY_CHAIN_BYTES + 1];
+    const char *given = word();
+    if (strchr(given, ',') == NULL)
+        return bytes_in(given);
+    memset(hex, '0', sizeof hex - 1);
+    put_fields(given, fields, sizeof fields / sizeof *fields, hex);
+    return bytes_in(hex);
+}
+
+static struct bytes job_bytes(void)
+{
+    static const struct field fields[] = {{0, 4}, {4, 4}, {8, 1}, {12, 4}, {16, 8}};
+    static char hex[2 * LAY_JOB_BYTES + 1];
+    const char *given = word();
+    if (strchr(given, ',') == NULL)
+        return bytes_in(given);
+    memset(hex, '0', sizeof hex - 1);
+    put_fields(given, fields, sizeof fields / sizeof *fields, hex);
+    return bytes_in(hex);
 }
 
 static bool all(const uint8_t *at, size_t length, uint8_t value)
@@ -231,11 +275,13 @@ static void print_bytes(const uint8_t *at, size_t length)
 
 /* The verbs, each with the call that it stands for. */
 
+static void ask_version(void) { printf("%" PRIu32, lay_version()); }
+
 static void ask_centimetres(void)
 {
     double metres = pattern();
     int64_t *centimetres = result_signed();
-    uint32_t refusal = desk_centimetres(metres, centimetres);
+    uint32_t refusal = lay_centimetres(metres, centimetres);
     printf("%" PRIu32 " %" PRId64, refusal, *centimetres);
 }
 
@@ -243,60 +289,71 @@ static void ask_metres(void)
 {
     int64_t centimetres = signed64();
     double *metres = result(sizeof *metres);
-    uint32_t refusal = desk_metres(centimetres, metres);
+    uint32_t refusal = lay_metres(centimetres, metres);
     uint64_t bits;
     memcpy(&bits, metres, sizeof bits);
     printf("%" PRIu32 " %016" PRIx64, refusal, bits);
 }
 
+static void *lend_list(size_t entries, size_t size)
+{
+    return lend(entries > SIZE_MAX / size ? SIZE_MAX : entries * size, 0);
+}
+
 static void ask_expected(void)
 {
-    struct chain c = chain();
+    size_t length = size();
+    int64_t dirt = signed64();
+    int64_t *readings = lend_list(length, sizeof *readings);
+    for (size_t i = 0; i < length; i++)
+        readings[i] = dirt;
+    struct bytes chain = chain_bytes();
     struct place p = place();
-    int64_t *a = result_signed(), *b = result_signed();
-    uint32_t refusal = desk_expected(c.master.easting, c.master.northing, c.a.easting, c.a.northing, c.b.easting, c.b.northing,
-                                     p.easting, p.northing, a, b);
-    printf("%" PRIu32 " %" PRId64 " %" PRId64, refusal, *a, *b);
+    printf("%" PRIu32, lay_expected(readings, length, chain.at, chain.length, p.easting, p.northing));
+    for (size_t i = 0; i < length; i++)
+        printf(" %" PRId64, readings[i]);
 }
 
 static uint32_t *dirty_list(size_t entries, uint32_t dirt)
 {
-    uint32_t *list = lend(entries > SIZE_MAX / sizeof *list ? SIZE_MAX : entries * sizeof *list, 0);
+    uint32_t *list = lend_list(entries, sizeof *list);
     for (size_t i = 0; i < entries; i++)
         list[i] = dirt;
     return list;
 }
 
-static void ask_search(void)
+static void print_list(const uint32_t *list, size_t entries)
 {
-    size_t entries = size();
-    uint32_t *list = dirty_list(entries, number32());
-    struct chain c = chain();
-    int64_t a = signed64();
-    int64_t b = signed64();
-    struct place corner = place();
-    uint32_t k = number32();
-    uint32_t tolerance = number32();
-    uint64_t allowance = number64();
-    size_t *count = result_size();
-    uint64_t *visits = result64();
-    uint32_t refusal = desk_search(list, entries, c.master.easting, c.master.northing, c.a.easting, c.a.northing, c.b.easting,
-                                   c.b.northing, a, b, corner.easting, corner.northing, k, tolerance, allowance, count, visits);
-    printf("%" PRIu32 " %zu %" PRIu64, refusal, *count, *visits);
     for (size_t i = 0; i < entries; i++)
         printf(" %" PRIu32, list[i]);
 }
 
-static void ask_record(void)
+static void ask_search(void)
+{
+    size_t length = size();
+    uint32_t *list = dirty_list(length, number32());
+    struct bytes chain = chain_bytes(), job = job_bytes();
+    size_t count = words_left;
+    int64_t *readings = lend_list(count, sizeof *readings);
+    for (size_t i = 0; i < count; i++)
+        readings[i] = signed64();
+    struct lay_found *found = result(sizeof *found);
+    uint32_t refusal =
+        lay_search(list, length, chain.at, chain.length, readings, count, job.at, job.length, found);
+    printf("%" PRIu32 " %" PRIu64 " %" PRIu64, refusal, found->count, found->visits);
+    print_list(list, length);
+}
+
+static void ask_read_record(void)
 {
     struct bytes s = bytes();
     uint32_t *kind = result32(), *number = result32(), *line = result32();
     int64_t *x = result_signed(), *y = result_signed();
-    uint32_t refusal = desk_log_record(s.at, s.length, kind, number, line, x, y);
+    uint32_t refusal = lay_read_record(s.at, s.length, kind, number, line, x, y);
     printf("%" PRIu32 " %" PRIu32 " %" PRIu32 " %" PRIu32 " %" PRId64 " %" PRId64, refusal, *kind, *number, *line, *x, *y);
 }
 
-static void ask_write(void)
+static void ask_write_record(void)
 {
     size_t length = size();
     uint8_t *buffer = lend(length, byte());
@@ -305,38 +362,69 @@ static void ask_write(void)
     uint32_t line = number32();
     int64_t x = signed64();
     int64_t y = signed64();
-    printf("%" PRIu32, desk_write(buffer, length, kind, number, line, x, y));
+    printf("%" PRIu32, lay_write_record(buffer, length, kind, number, line, x, y));
     print_bytes(buffer, length);
 }
 
-static void ask_job(void)
+static void ask_read_job(void)
 {
     struct bytes s = bytes();
     uint32_t *easting = result32(), *northing = result32(), *k = result32(), *tolerance = result32();
     uint64_t *allowance = result64();
-    uint32_t refusal = desk_job(s.at, s.length, easting, northing, k, tolerance, allowance);
+    uint32_t refusal = lay_read_job(s.at, s.length, easting, northing, k, tolerance, allowance);
     printf("%" PRIu32 " %" PRIu32 " %" PRIu32 " %" PRIu32 " %" PRIu32 " %" PRIu64, refusal, *easting, *northing, *k,
            *tolerance, *allowance);
 }
 
-static void ask_count(void)
+static void ask_write_job(void)
+{
+    size_t length = size();
+    uint8_t *buffer = lend(length, byte());
+    struct place corner = place();
+    uint32_t k = number32();
+    uint32_t tolerance = number32();
+    uint64_t allowance = number64();
+    printf("%" PRIu32, lay_write_job(buffer, length, corner.easting, corner.northing, k, tolerance, allowance));
+    print_bytes(buffer, length);
+}
+
+static void ask_count_chains(void)
 {
     struct bytes table = bytes();
     size_t *count = result_size();
-    uint32_t refusal = desk_chain_count(table.at, table.length, count);
+    uint32_t refusal = lay_count_chains(table.at, table.length, count);
     printf("%" PRIu32 " %zu", refusal, *count);
 }
 
 static void ask_chain(void)
 {
+    size_t length = size();
+    uint8_t *buffer = lend(length, byte());
     uint32_t number = number32();
     struct bytes table = bytes();
-    uint32_t *n[6];
-    for (size_t i = 0; i < 6; i++)
-        n[i] = result32();
-    printf("%" PRIu32, desk_chain(table.at, table.length, number, n[0], n[1], n[2], n[3], n[4], n[5]));
-    for (size_t i = 0; i < 6; i++)
-        printf(" %" PRIu32, *n[i]);
+    printf("%" PRIu32, lay_chain(buffer, length, table.at, table.length, number));
+    print_bytes(buffer, length);
+}
+
+static void ask_read_chain(void)
+{
+    size_t length = size();
+    uint32_t *stations = dirty_list(length, number32());
+    struct bytes chain = chain_bytes();
+    printf("%" PRIu32, lay_read_chain(chain.at, chain.length, stations, length));
+    print_list(stations, length);
+}
+
+static void ask_write_chain(void)
+{
+    size_t length = size();
+    uint8_t *buffer = lend(length, byte());
+    size_t count = words_left;
+    uint32_t *stations = dirty_list(count, 0);
+    for (size_t i = 0; i < count; i++)
+        stations[i] = number32();
+    printf("%" PRIu32, lay_write_chain(buffer, length, stations, count));
+    print_bytes(buffer, length);
 }
 
 static void ask_list(void)
@@ -344,37 +432,44 @@ static void ask_list(void)
     size_t length = size();
     uint8_t dirt = byte();
     uint8_t *text = lend(length, dirt);
-    uint32_t held = number32();
-    struct place p = place();
+    struct lay_part *part = result(sizeof *part);
+    part->held = number32();
+    part->easting = number32();
+    part->northing = number32();
     struct bytes job = bytes(), table = bytes(), log = bytes();
-    size_t *text_length = result_size();
-    uint32_t *now_held = result32(), *easting = result32(), *northing = result32();
-    uint32_t refusal = desk_list(text, length, job.at, job.length, table.at, table.length, log.at, log.length, held, p.easting,
-                                 p.northing, text_length, now_held, easting, northing);
-    printf("%" PRIu32 " %zu %" PRIu32 " %" PRIu32 " %" PRIu32, refusal, *text_length, *now_held, *easting, *northing);
-    if (*text_length > length) {
+    uint32_t refusal =
+        lay_list(text, length, job.at, job.length, table.at, table.length, log.at, log.length, part);
+    printf("%" PRIu32 " %" PRIu64 " %" PRIu32 " %" PRIu32 " %" PRIu32, refusal, part->length, part->held, part->easting,
+           part->northing);
+    if (part->length > length) {
         fputs(" beyond", stdout);
         return;
     }
-    print_bytes(text, *text_length);
-    fputs(all(text + *text_length, length - *text_length, dirt) ? " kept" : " touched", stdout);
+    print_bytes(text, part->length);
+    fputs(all(text + part->length, length - part->length, dirt) ? " kept" : " touched", stdout);
 }
 
+/* `more` is that any number of words may follow. */
 static const struct verb {
     const char *name;
     size_t words;
+    bool more;
     void (*ask)(void);
 } VERBS[] = {
-    {"centimetres", 1, ask_centimetres},
-    {"metres", 1, ask_metres},
-    {"expected", 8, ask_expected},
-    {"search", 15, ask_search},
-    {"record", 1, ask_record},
-    {"write", 7, ask_write},
-    {"job", 1, ask_job},
-    {"count", 1, ask_count},
-    {"chain", 2, ask_chain},
-    {"list", 8, ask_list},
+    {"version", 0, false, ask_version},
+    {"centimetres", 1, false, ask_centimetres},
+    {"metres", 1, false, ask_metres},
+    {"expected", 5, false, ask_expected},
+    {"search", 4, true, ask_search},
+    {"read_record", 1, false, ask_read_record},
+    {"write_record", 7, false, ask_write_record},
+    {"read_job", 1, false, ask_read_job},
+    {"write_job", 7, false, ask_write_job},
+    {"count_chains", 1, false, ask_count_chains},
+    {"chain", 4, false, ask_chain},
+    {"read_chain", 3, false, ask_read_chain},
+    {"write_chain", 2, true, ask_write_chain},
+    {"list", 8, false, ask_list},
 };
 
 static const struct verb *verb(void)
@@ -406,8 +501,9 @@ static void answer(char *line, size_t length)
         ill_formed("a zero byte");
     size_t words = part(line);
     next_word = line;
+    words_left = words + 1;
     const struct verb *asked = verb();
-    if (words != asked->words)
+    if (asked->more ? words < asked->words : words != asked->words)
         ill_formed("words too many or too few");
     asked->ask();
     take_back();
