@@ -1,6 +1,6 @@
 #!/usr/bin/env bash
-# What the library lists into a buffer, at once and in parts, against document 01's listing and against a lister of its own
-# (listing.py); and that the harness answers no request that is ill-formed.
+# What the library lists into a buffer, at once and in parts, against document 01's listing and against the rule (listing.py,
+# rule.py); and that the harness answers no request that is ill-formed.
 cd "$(dirname "$0")/.." && . tests/common.bash && . tests/library.bash
 
 # digits TEXT: its bytes in hexadecimal
@@ -84,16 +84,24 @@ metres -9223372036854775809
 centimetres 0
 centimetres 3FC0000000000000
 centimetres 3fc00000000000000
-record 0
-record 0A
-record --
-count  
-chain 4294967296 -
-chain -1 -
-write 32 256 1 1 1 0 0
-write 18446744073709551615 0 1 1 1 0 0
-search 4611686018427387904 7 0 0 30000 0 0 40000 0 0 0 0 0 0 0
-search 1 7 0 0 30000 0 0 40000 0 0 0 0 0 0 18446744073709551616
+read_record 0
+read_record 0A
+read_record --
+count_chains  
+chain 24 90 4294967296 -
+chain 24 90 -1 -
+write_record 32 256 1 1 1 0 0
+write_record 18446744073709551615 0 1 1 1 0 0
+expected 2 7 0,0,30000,0,0 0 0
+expected 2 7 0,0,30000,0,0,40000,0 0 0
+expected 2 7 0,0,30000,0,,40000 0 0
+expected 2 7 0,0,30000,0,0,4294967296 0 0
+search 4611686018427387904 7 0,0,30000,0,0,40000 0,0,0,0,0 0 0
+search 1 7 0,0,30000,0,0,40000 0,0,0,0,18446744073709551616 0 0
+search 1 7 0,0,30000,0,0,40000 0,0,256,0,0 0 0
+search 1 7 0,0,30000,0,0,40000
+write_chain 24
+version 1
 list 5760 0 0 0 0 - -
 END
 done_testing

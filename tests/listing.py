@@ -8,7 +8,7 @@
     listing.py long FOLDER             writes folders of long logs, and of long lines
     listing.py random SEED FOLDER      writes 200 folders at random
     listing.py memory FOLDER PROGRAM   the most memory, in kilobytes, that a program held when it had listed most of a folder
-    listing.py requests                the folders that have a reason as requests in the words of desk.c, one to a line
+    listing.py requests                the folders that have a reason as requests in the words of lay.c, one to a line
     listing.py answers                 the answers to the requests on standard input
 
 A folder that is written has the three files, or those that its case has, and in `listing` what must be printed of them.
@@ -258,9 +258,9 @@ def numbers():
     yield "digits", three(log=b"".join(sized) + b"".join(records.hold(line=n) for n in edges))
     yield "same_line_number", three(log=(GRID + HOLD + FIX) * 3)
     parts = records.examples, records.kinds, records.numbers, records.zeros, records.limits, records.roundings
-    asked = (request[1] for part in parts for request in part() if request[0] == "record")
+    asked = (request[1] for part in parts for request in part() if request[0] == "read_record")
     yield "records", three(table=records.PAIR, log=b"".join(asked))
-    swept = (request[1] for request in records.sweep() if request[0] == "record")
+    swept = (request[1] for request in records.sweep() if request[0] == "read_record")
     yield "every_byte", three(table=records.PAIR, log=b"".join(swept))
 
 

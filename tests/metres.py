@@ -1,5 +1,5 @@
 #!/usr/bin/env python3
-"""Requests about metres and centimetres in the words of desk.c, and their answers by rule.py, which are also worked out here
+"""Requests about metres and centimetres in the words of lay.c, and their answers by rule.py, which are also worked out here
 in another way.
 
     metres.py named        the requests that have a reason, one to a line

@@ -214,9 +214,14 @@ def check_job(job):
     refuse(7, job.tolerance > 100_000)
 
 
+def job_zeros(s):
+    """The bytes that must be zero."""
+    return s[9:12] + s[24:]
+
+
 def job_in(s):
     refuse(1, len(s) != 32)
-    refuse(2, any(s[9:12] + s[24:]))
+    refuse(2, any(job_zeros(s)))
     check_job(raw_job(s))
     return raw_job(s)
 

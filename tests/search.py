@@ -1,5 +1,5 @@
 #!/usr/bin/env python3
-"""Requests for searches in the words of desk.c, and their answers by rule.py.
+"""Requests for searches in the words of lay.c, and their answers by rule.py.
 
     search.py named        the requests that have a reason, one to a line
     search.py random SEED  1,500 others at random
@@ -10,6 +10,7 @@ least and the greatest range of the cells of a box, in a small window also cell 
 numbers. Where the ways differ there is no answer.
 """
 import random
+import struct
 import sys
 from typing import NamedTuple
 
@@ -43,21 +44,36 @@ class Request(NamedTuple):
         return rule.Job(self.corner, self.k, self.tolerance, self.allowance)
 
 
+def commas(numbers):
+    return ",".join(map(str, numbers))
+
+
 def line_of(r):
-    numbers = r.entries, r.held, *r.master, *r.a, *r.b, *r.wanted, *r.corner, r.k, r.tolerance, r.allowance
-    return " ".join(map(str, ("search", *numbers)))
+    chain, job = rule.flat(rule.stations(r.chain)), (*r.corner, *r.job[1:])
+    return " ".join(map(str, ("search", r.entries, r.held, commas(chain), commas(job), *r.wanted)))
 
 
-def request_of(line):
-    entries, held, *n, k, tolerance, allowance = map(int, line.split()[1:])
-    return Request(*zip(n[0::2], n[1::2]), k, tolerance, allowance, entries, held)
+def bytes_of(word, made):
+    """The bytes that a word has, or those made of its numbers."""
+    return made(list(map(int, word.split(",")))) if "," in word else bytes.fromhex(word.strip("-"))
 
 
-def told(r):
-    refusal, visits, places = answer(r)
-    entries = rule.flat(places)
-    entries += [0] * (r.entries - len(entries))
-    return " ".join(map(str, (refusal, len(places), visits, *entries)))
+def told(line):
+    """The bytes are tested first: 1 for the lengths, and 2 for what must be zero in a job."""
+    _, entries, held, chain, job, *wanted = line.split()
+    chain = bytes_of(chain, lambda n: rule.chain_bytes(rule.chain_of(n)))
+    job = bytes_of(job, lambda n: rule.job_bytes(rule.Job((n[0], n[1]), *n[2:])))
+    refusal, asked = rule.tried(by_bytes, chain, job, wanted)
+    refusal, visits, places = (refusal, 0, []) if refusal else checked(*asked, int(entries) // 2)
+    list_of = rule.flat(places)
+    list_of += [0] * (int(entries) - len(list_of))
+    return " ".join(map(str, (refusal, len(places), visits, *list_of)))
+
+
+def by_bytes(chain, job, wanted):
+    rule.refuse(1, len(chain) != 24 or len(wanted) != 2 or len(job) != 32)
+    rule.refuse(2, any(rule.job_zeros(job)))
+    return rule.chain_of(struct.unpack("<6I", chain)), tuple(map(int, wanted)), rule.raw_job(job)
 
 
 def readings(r, p):
@@ -155,7 +171,7 @@ def examples():
 
 def limits():
     # a window of 2^24 whose middle is far off: one visit
-    for k in 24, 25, 31, 32, 33, 255, 2**32 - 1:
+    for k in 24, 25, 31, 32, 33, 255:
         yield p4(k=k, wanted=(1_000_000_000, 1_000_000_000))
     for tolerance in 100_000, 100_001, 2**32 - 1:
         yield p4(tolerance=tolerance)
@@ -354,6 +370,20 @@ def stations():
 NAMED = examples, limits, edges, refusals, chains, crossings, lists, allowances, orders, differences, close_errors, stations
 
 
+def by_their_bytes():
+    """Chains, jobs and readings of other lengths, and a job's byte that is not zero, each beside what is refused later."""
+    chain, unsound = rule.chain_bytes(P4.chain), bytes(24)
+    job, bad = rule.job_bytes(P4.job), rule.job_bytes(P4.job._replace(k=25, tolerance=100_001))
+    spoilt = [bad[:at] + b"\1" + bad[at + 1 :] for at in (9, 10, 11, 24, 31)] + [job[:31] + b"\x80"]
+    chains = chain, unsound, chain[:23], chain + bytes(1), chain + chain, b""
+    jobs = job, bad, *spoilt, job[:31], bad + bytes(1), spoilt[0] + bytes(1), b""
+    for stations in chains:
+        for asked in jobs:
+            for wanted in "-10000 -20000", "-10000 1000000001", "-10000", "", "-10000 -20000 0":
+                words = "search", "8", "7", stations.hex() or "-", asked.hex() or "-", wanted
+                yield " ".join(filter(None, words))
+
+
 def beside(draw, p, reach):
     """A place of the chart at most so far from another either way."""
     east = draw.randint(max(0, p[0] - reach), min(EAST, p[0] + reach))
@@ -414,11 +444,11 @@ def at_random(seed):
 
 def main(words):
     if words == ["named"]:
-        print("\n".join(dict.fromkeys(line_of(r) for part in NAMED for r in part())))
+        print("\n".join(dict.fromkeys(line_of(r) for part in NAMED for r in part()) | dict.fromkeys(by_their_bytes())))
     elif words[:1] == ["random"] and len(words) == 2:
         print("\n".join(line_of(r) for r in at_random(int(words[1]))))
     elif words == ["answers"]:
-        print("\n".join(told(request_of(line)) for line in sys.stdin.read().splitlines()))
+        print("\n".join(told(line) for line in sys.stdin.read().splitlines()))
     else:
         sys.exit(__doc__)
 
