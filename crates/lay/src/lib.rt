@@ -56,6 +56,9 @@ struct ListedFigures {
     carried: HeldFigures,
 }
 
+// The number of what lay.h declares.
+const VERSION: u32 = 1;
+
 // The numbers of a chain's stations, and its readings.
 const CHAIN_NUMBERS: usize = 6;
 
@@ -64,12 +67,12 @@ const CHAIN_READINGS: usize = 2;
 // What the lower half of 64 bits counts to.
 const HALF: usize = 1 << 32;
 
-// The number of what lay.h declares.
+// The version of lay.h that this is made for.
 #[no_mangle]
 pub extern "C" fn lay_version() -> u32
     ensures { λ r. ⌜ r ≡ version ⌝ }
 {
-    1
+    VERSION
 }
 
 // Metres to whole centimetres.
@@ -214,26 +217,26 @@ pub extern "C" fn lay_read_job(
 #[no_mangle]
 pub extern "C" fn lay_write_job(
     buffer: &mut [u8],
-    e: u32,
-    n: u32,
+    ce: u32,
+    cn: u32,
     k: u32,
-    tolerance: u32,
+    t: u32,
     allowance: u64,
 ) -> u32
-    ensures answer { λ r. ⌜ r ≡ jobRefusalOf (length (now (buffer .entry))) (jobBy e n k tolerance allowance) ⌝ }
-    ensures buffer { λ _. ⌜ now (buffer .exit) ≡ jobBufferOf (length (now (buffer .entry))) (jobBy e n k tolerance allowance) ⌝ }
+    ensures answer { λ r. ⌜ r ≡ jobRefusalOf (length (now (buffer .entry))) (jobBy ce cn k t allowance) ⌝ }
+    ensures buffer { λ _. ⌜ now (buffer .exit) ≡ jobBufferOf (length (now (buffer .entry))) (jobBy ce cn k t allowance) ⌝ }
 {
     writing::write_job(
         buffer,
         Job {
             window: Window {
                 corner: Place {
-                    easting: e,
-                    northing: n,
+                    easting: ce,
+                    northing: cn,
                 },
                 k,
             },
-            tolerance,
+            tolerance: t,
             allowance,
         },
     )
