@@ -1,5 +1,5 @@
-//! Requests on standard input, one answer a line: what the library for C promises, worked out from 01 here. What a request may
-//! be stands at the head of tests/lay.c.
+//! Requests on standard input, one answer a line: what the library for C promises, worked out from 01 here. What a request
+//! may be stands at the head of tests/lay.c.
 
 use std::fmt::Display;
 use std::str::FromStr;

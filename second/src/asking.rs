@@ -107,17 +107,13 @@ fn doubtful_chain_word(random: &mut Random, chain: &Chain) -> String {
 /// A job by its numbers or by its bytes.
 fn job_word(random: &mut Random, job: &Job) -> String {
     if random.once_in(2) {
-        return format!(
-            "{},{},{}",
-            joined(&[job.corner.easting, job.corner.northing, job.k], ","),
-            job.tolerance,
-            job.allowance
-        );
+        let Job { corner, k, tolerance, allowance } = job;
+        return format!("{},{},{k},{tolerance},{allowance}", corner.easting, corner.northing);
     }
     hex(&records::job_bytes(job))
 }
 
-/// Another length than the one that fits mostly, and near it mostly.
+/// A length that does not fit, mostly: beside the one that does, twice that, none or any.
 fn misfit_length(random: &mut Random, fitting: usize) -> usize {
     let any = random.below(2 * fitting as u64 + 1) as usize;
     random.pick(&[fitting - 1, fitting + 1, 2 * fitting, 0, any, any, any])
@@ -373,7 +369,7 @@ fn any_job(random: &mut Random) -> Job {
     Job { allowance: random.pick(&[0, 1, u64::MAX, 1 << 32, 1 << 63, any]), ..job }
 }
 
-/// An exponent beyond a byte would be allowed by its lowest byte, often.
+/// Once in twelve with an exponent beyond a byte, whose lowest byte would often be allowed.
 fn job_writing(random: &mut Random) -> String {
     let (length, dirt) = (length(random, RECORD), byte_dirt(random));
     let Job { corner, k, tolerance, allowance } = any_job(random);
