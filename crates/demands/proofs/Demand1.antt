@@ -44,7 +44,7 @@ use Rattle.listing.specs.declared.Carried.{Carried}
 use Rattle.listing.specs.declared.Carried.the-variants as carried
 use Rattle.listing.specs.Answers.{Refused, answerOf}
 use Rattle.text.specs.Texts.{spaced, bytesIn}
-use Rattle.listing.specs.Listings.{Part, listingOf, hasRoom, listedIn, bufferWith}
+use Rattle.listing.specs.Listings.{Part, listingOf, hasListingRoom, listedIn, bufferWith}
 use Rattle.listing.proofs.Theorems.{job-first, then-chain}
 use Rattle.desk.specs.Figures.{chainBy, windowBy, recordFigures, countFigures, chainFigures, jobFigures, heldFigures, listedFigures}
 use Rattle.demands.specs.Numbers.{recordRefusal, listedRefusal, NoneOr, Refuses, Leaves}
@@ -195,7 +195,7 @@ pub listing-answered : (out log : List ℕ) (p : Part) →
     let answer = listedIn (length out) log p in
     NoneOr (9 ∷ []) (listedRefusal answer) × (Refuses (listedRefusal answer) → bufferWith out log p ≡ out)
 unfolding listedIn bufferWith
-listing-answered out log p = listed-number (hasRoom (length out) log) p out (p .text ++ drop (length (p .text)) out)
+listing-answered out log p = listed-number (hasListingRoom (length out) log) p out (p .text ++ drop (length (p .text)) out)
 
 -- The library for C tells the same numbers in its figures. A log record: after 1 to 4 kind, chain number and both numbers
 -- are 0.

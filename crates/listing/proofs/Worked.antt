@@ -61,10 +61,10 @@ line-3 =
     ∷ 0 ∷ 0 ∷ 0 ∷ 0 ∷ 0 ∷ 0 ∷ 0 ∷ 0 ∷ []
 
 -- The whole listing.
-listed : listingOf job table (line-1 ++ (line-2 ++ line-3))
+whole-listing : listingOf job table (line-1 ++ (line-2 ++ line-3))
     ≡ bytesIn "1 FIX 2 5 30000 40000 30001 40001\n2 GRID 1 0 30001 40000\n3 HOLD 1 0 30001 40000\n"
 unfolding listingOf listingFrom listingBy linesFrom headOf placesText answerText answerOf answerBy fixBy holdOf searched
     placesOf only bytesIn digitsOf lastDigits jobOf chainCountOf chainOf logEntryOf logRecordOf inCentimetres placed
     isPlace allZero valueOf centimetresOf ofBits searchOf searchFigures ended visit visited cell noneTooLarge isWindow
     within differ readingOf rangeOf distanceOf isSound inRange samePlace root
-listed = refl
+whole-listing = refl

@@ -49,8 +49,8 @@ Readable nan = ⊥
 Readable (inf s) = ⊥
 Readable (fin s m e) = m * up e ≤ mostMetres * down e
 
-within : (a m : ℕ) (f e : ℤ) → a * up f ≤ mostMetres * down f → ltb (a * up f * down e) (m * up e * down f) ≡ false → m * up e ≤ mostMetres * down e
-within a m f e most h =
+within-most : (a m : ℕ) (f e : ℤ) → a * up f ≤ mostMetres * down f → ltb (a * up f * down e) (m * up e * down f) ≡ false → m * up e ≤ mostMetres * down e
+within-most a m f e most h =
     le-of-mul-le-mul-right
     (le-trans (ltb-false (a * up f * down e) (m * up e * down f) h)
     (le-trans (mul-le-mul-right (down e) most) (le-of-eq (mul-right-comm mostMetres (down f) (down e)))))
@@ -61,8 +61,8 @@ unfolding lt ne
 readable a b f g nan high low same above below = true≢false same
 readable a b f g (inf true) high low same above below = true≢false below
 readable a b f g (inf false) high low same above below = true≢false above
-readable a b f g (fin false m e) high low same above below = within a m f e high above
-readable a b f g (fin true m e) high low same above below = within b m g e low below
+readable a b f g (fin false m e) high low same above below = within-most a m f e high above
+readable a b f g (fin true m e) high low same above below = within-most b m g e low below
 
 -- A number that equals itself is not NaN.
 pub not-nan : (x : Float) → ne x x ≡ false → T (not (isNan x))

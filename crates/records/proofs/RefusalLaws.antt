@@ -17,9 +17,9 @@ abbrev pub Among : {A : Type 0} → (A → ℕ) → List ℕ → A → Type 0
 Among refusal numbers answer = isAmong (refusal answer) numbers ≡ true
 
 -- What holds of both answers holds of the one that a test leaves.
-pub either : {A : Type 0} (P : A → Type 0) (t : Bool) {refused rest : A} → P refused → P rest → P (unless t refused rest)
-either P true h k = k
-either P false h k = h
+pub unless-either : {A : Type 0} (P : A → Type 0) (t : Bool) {refused rest : A} → P refused → P rest → P (unless t refused rest)
+unless-either P true h k = k
+unless-either P false h k = h
 
 -- Where an answer is another than a refusal, its test has passed and the rest has given it.
 pub passed : {A : Type 0} (t : Bool) {refused rest answer : A} → (refused ≡ answer → ⊥) →

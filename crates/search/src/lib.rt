@@ -14,7 +14,7 @@ ghost use Rattle.search.specs.Questions.{noneTooLarge};
 ghost use Rattle.search.specs.Walk.{Standing, start};
 ghost use Rattle.search.specs.Walk as walk;
 ghost use Rattle.search.specs.Answers.{ended, listOf, searchLeft, searchFigures};
-ghost use Rattle.search.specs.Holding.{above, below, ruleBy, questionBy, Fair, Ready, OnChart, Holds};
+ghost use Rattle.search.specs.Holding.{aboveZero, belowZero, ruleBy, questionBy, Fair, Ready, OnChart, Holds};
 use chart::Chain;
 use chart::Place;
 
@@ -179,7 +179,7 @@ fn none_too_large(ra: i64, rb: i64) -> bool
 }
 
 fn wished(slave: Place, reading: i64) -> Wish
-    ensures { λ r. ⌜ r ≡ record { slave = slave; above = above reading; below = below reading } ⌝ }
+    ensures { λ r. ⌜ r ≡ record { slave = slave; above = aboveZero reading; below = belowZero reading } ⌝ }
 {
     let size = metres::size(reading);
     if reading < 0 {
