@@ -27,7 +27,7 @@ use Rattle.records.specs.declared.NamedChain.the-variants as named
 use Rattle.records.specs.declared.Job.{Job}
 use Rattle.records.specs.declared.JobAnswer.the-variants as job
 use Rattle.records.specs.Bytes.{areZero}
-use Rattle.records.specs.LogRecords.{logBytes, rawRecordOf, isHyperbolic, isGrid, isHold, logRecordOf, isPlace, placed, withBoth, inCentimetres, logEntryOf}
+use Rattle.records.specs.LogRecords.{logBytes, rawRecordOf, isHyperbolic, isGrid, isHold, logRecordOf, isPlace, placed, pairOf, withPair, inCentimetres, logEntryOf}
 use Rattle.records.specs.ChainTables.{chainBytes, oneTo, chainsIn, isTable, chainCountOf, chainAt, chainOf}
 use Rattle.records.specs.Jobs.{jobBytes, jobIn, jobOf}
 use Rattle.records.proofs.RefusalLaws.{unless-either, either-kind}
@@ -56,7 +56,7 @@ log-never s =
     (either-kind never (isGrid s) (λ e. absurd-equal cc)
     (either-kind never (isHold s) (λ e. absurd-equal cc) (λ e. absurd-equal cc))))
 
-both-never : (give : ℤ → ℤ → LogEntry) (x y : Whole) → ((a b : ℤ) → give a b ≡ entry.Refused 0 → ⊥) → withBoth give x y ≡ entry.Refused 0 → ⊥
+both-never : (give : ℤ → ℤ → LogEntry) (x y : Whole) → ((a b : ℤ) → give a b ≡ entry.Refused 0 → ⊥) → withPair give (pairOf x y) ≡ entry.Refused 0 → ⊥
 both-never give (whole.Centimetres x) (whole.Centimetres y) h e = h x y e
 both-never give (whole.Centimetres x) whole.Refused h e = absurd-equal cc
 both-never give whole.Refused y h e = absurd-equal cc

@@ -16,6 +16,7 @@ use Rattle.squares.proofs.root as root
 use Rattle.squares.proofs.root_near as root-near
 use Rattle.fields.proofs.four_at as four-at
 use Rattle.fields.proofs.eight_at as eight-at
+use Rattle.fields.proofs.lies_inside as lies-inside
 use Rattle.fields.proofs.put_four as put-four
 use Rattle.fields.proofs.put_eight as put-eight
 use Rattle.metres.proofs.centimetres as centimetres
@@ -41,6 +42,7 @@ use Rattle.records.proofs.raw_record as raw-record
 use Rattle.records.proofs.log_record as log-record
 use Rattle.records.proofs.log_entry as log-entry
 use Rattle.records.proofs.is_place as is-place
+use Rattle.records.proofs.one_to as one-to
 use Rattle.records.proofs.chain_count as chain-count
 use Rattle.records.proofs.chain_of as chain-of
 use Rattle.records.proofs.raw_chain as raw-chain
@@ -93,6 +95,10 @@ module _ {M : Type 1} (𝓤 : URA M) (H : Heap 𝓤) (A : Atoms 𝓤) (mem : Mem
   -- fields::eight_at, by `ensures-1`.
   pub eight-at-only : OneAnswer 𝓤 eight-at.ended (eight-at.clauses 𝓤 H A mem run)
   eight-at-only κs a g x y = only 𝓤 same (λ answer. answer & refl)
+
+  -- fields::lies_inside, by `ensures-1`.
+  pub lies-inside-only : OneAnswer 𝓤 lies-inside.ended (lies-inside.clauses 𝓤 H A mem run)
+  lies-inside-only κs a g x y = only 𝓤 same (λ answer. answer & refl)
 
   -- fields::put_four, by `ensures-answer`, `ensures-buffer`.
   pub put-four-only : OneAnswer 𝓤 put-four.ended (put-four.clauses 𝓤 H A mem run)
@@ -189,6 +195,10 @@ module _ {M : Type 1} (𝓤 : URA M) (H : Heap 𝓤) (A : Atoms 𝓤) (mem : Mem
   -- records::is_place, by `ensures-1`.
   pub is-place-only : OneAnswer 𝓤 is-place.ended (is-place.clauses 𝓤 H A mem run)
   is-place-only κs a g x y = only 𝓤 same (λ answer. answer & refl)
+
+  -- records::one_to, by `ensures-1`.
+  pub one-to-only : OneAnswer 𝓤 one-to.ended (one-to.clauses 𝓤 H A mem run)
+  one-to-only κs a g x y = only 𝓤 same (λ answer. answer & refl)
 
   -- records::chain_count, by `ensures-1`.
   pub chain-count-only : OneAnswer 𝓤 chain-count.ended (chain-count.clauses 𝓤 H A mem run)

@@ -7,13 +7,14 @@ use mathlib.Core.List.{List, [], _∷_, List·Memᴰ·not-nil}
 use borrow.Author.Tests.{eqb-false}
 use lib.Dec.{leb}
 use lib.ListN.{length}
+use Rattle.fields.specs.Choices.{whereSo}
 use Rattle.chart.specs.declared.Place.{Place}
 use Rattle.chart.specs.Chains.{isSound}
 use Rattle.search.specs.declared.Window.{Window}
 use Rattle.search.specs.declared.Answer.the-variants.{Places, ReadingTooLarge, Unsound, BadWindow, BadTolerance}
 use Rattle.search.specs.Windows.{isWindow, IsCellIn}
 use Rattle.search.specs.Questions.{Question, mostTolerance, noneTooLarge, matches}
-use Rattle.search.specs.Answers.{Outcome, gone, ended, unless, searchOf, searchFigures, figuresIn}
+use Rattle.search.specs.Answers.{Outcome, refused, gone, ended, searchOf, searchFigures, figuresIn}
 use Rattle.search.specs.Cells.{matchingIn, visitsIn, Listed}
 use Rattle.search.proofs.CellLaws.{matching-all}
 use Rattle.search.proofs.Outcomes.{walk, ample-complete}
@@ -39,7 +40,7 @@ number-by q w = go (noneTooLarge (q .rule .wanted)) (isSound (q .rule .chain)) (
     last (p ∷ ps) v = refl
 
     go : (a b c d : Bool) →
-        let o = unless a ReadingTooLarge (λ _. unless b Unsound (λ _. unless c BadWindow (λ _. unless d BadTolerance (λ _. ended (walk q w))))) in
+        let o = whereSo a (refused ReadingTooLarge) (λ _. whereSo b (refused Unsound) (λ _. whereSo c (refused BadWindow) (λ _. whereSo d (refused BadTolerance) (λ _. ended (walk q w))))) in
         Number a b c d (searchFigures (o .answer) .refusal)
     go false b c d = refl
     go true false c d = refl

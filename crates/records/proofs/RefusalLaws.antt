@@ -9,7 +9,7 @@ use Rattle.metres.specs.declared.Whole.the-variants.{Centimetres, Refused}
 use Rattle.records.specs.declared.LogEntry.{LogEntry}
 use Rattle.records.specs.declared.LogEntry.the-variants as entry
 use Rattle.records.specs.Bytes.{unless}
-use Rattle.records.specs.LogRecords.{withBoth}
+use Rattle.records.specs.LogRecords.{pairOf, withPair}
 use Rattle.records.specs.Refusals.{isAmong}
 
 -- The refusal of an answer is one of some numbers.
@@ -32,7 +32,7 @@ either-kind P true h k = h
 either-kind P false h k = k
 
 -- Two numbers give their entry, or 3.
-pub both-or-three : (P : LogEntry → Type 0) (give : ℤ → ℤ → LogEntry) (x y : Whole) → P (entry.Refused 3) → ((a b : ℤ) → P (give a b)) → P (withBoth give x y)
+pub both-or-three : (P : LogEntry → Type 0) (give : ℤ → ℤ → LogEntry) (x y : Whole) → P (entry.Refused 3) → ((a b : ℤ) → P (give a b)) → P (withPair give (pairOf x y))
 both-or-three P give (Centimetres x) (Centimetres y) h k = k x y
 both-or-three P give (Centimetres x) Refused h k = h
 both-or-three P give Refused y h k = h

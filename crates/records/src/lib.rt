@@ -8,10 +8,10 @@ ghost use Rattle.fields.specs.Fields.{fieldAt};
 ghost use Rattle.metres.specs.Metres.{centimetresOf};
 ghost use Rattle.records.specs.declared.LogEntry.the-variants as entry;
 ghost use Rattle.records.specs.Bytes.{byteAt, numberIn, areZero};
-ghost use Rattle.records.specs.LogRecords.{logBytes, rawRecordOf, isHyperbolic, isGrid, isHold, logRecordOf, isPlace, placed, logEntryOf};
+ghost use Rattle.records.specs.LogRecords.{logBytes, rawRecordOf, isHyperbolic, isGrid, isHold, logRecordOf, isPlace, placed, pairOf, withPair, logEntryOf};
 ghost use Rattle.records.specs.ChainTables.{chainBytes, isTable, oneTo, chainCountOf, placeAt, chainAt, rawChainOf, chainOf};
 ghost use Rattle.records.specs.Jobs.{jobBytes, jobIn, rawJobOf, jobOf};
-ghost use Rattle.records.specs.Gathered.{IsRaw, pairOf, given};
+ghost use Rattle.records.specs.Gathered.{IsRaw};
 use chart::Chain;
 use chart::Place;
 use fields::Eight;
@@ -149,6 +149,16 @@ pub fn is_place(x: i64, y: i64) -> bool
         easting: e as u32,
         northing: n as u32,
     })
+}
+
+// Whether a number is from 1 to another.
+pub fn one_to(most: usize, n: u32) -> bool
+    ensures { λ r. ⌜ r ≡ oneTo most n ⌝ }
+{
+    if n == 0 {
+        return false;
+    }
+    n as usize <= most
 }
 
 // How many chains there are in the bytes of a table.
@@ -340,7 +350,7 @@ fn both(x: f64, y: f64) -> Pair
 }
 
 fn readings(p: Pair) -> LogEntry
-    ensures { λ r. ⌜ r ≡ given entry.Readings p ⌝ }
+    ensures { λ r. ⌜ r ≡ withPair entry.Readings p ⌝ }
 {
     match p {
         Pair::Both { x, y } => LogEntry::Readings { a: x, b: y },
@@ -349,7 +359,7 @@ fn readings(p: Pair) -> LogEntry
 }
 
 fn place(p: Pair) -> LogEntry
-    ensures { λ r. ⌜ r ≡ given placed p ⌝ }
+    ensures { λ r. ⌜ r ≡ withPair placed p ⌝ }
 {
     let Pair::Both { x, y } = p else {
         return LogEntry::Refused(3);
@@ -374,15 +384,6 @@ fn is_table(s: &[u8]) -> bool
         return false;
     }
     s.len() / CHAIN_BYTES <= MOST_CHAINS
-}
-
-fn one_to(most: usize, n: u32) -> bool
-    ensures { λ r. ⌜ r ≡ oneTo most n ⌝ }
-{
-    if n == 0 {
-        return false;
-    }
-    n as usize <= most
 }
 
 fn chain_at(s: &[u8], at: usize) -> Chain

@@ -7,6 +7,7 @@ use native.Mathlib.Omega.{arith}
 use borrow.Author.Tests.{eqb-false}
 use lib.Dec.{leb, eqb}
 use lib.ListN.{length}
+use Rattle.fields.specs.Choices.{whereSo}
 use Rattle.chart.specs.Chains.{isSound}
 use Rattle.chart.specs.declared.Place.{Place}
 use Rattle.search.specs.declared.Window.{Window}
@@ -15,7 +16,7 @@ use Rattle.search.specs.declared.Answer.the-variants.{ReadingTooLarge, U
 use Rattle.search.specs.Windows.{isWindow, IsCellIn}
 use Rattle.search.specs.Questions.{Question, mostTolerance, noneTooLarge, matches}
 use Rattle.search.specs.Walk.{Standing, start, visit}
-use Rattle.search.specs.Answers.{Outcome, refused, gone, ended, unless, searchOf, searchFigures}
+use Rattle.search.specs.Answers.{Outcome, refused, gone, ended, searchOf, searchFigures}
 use Rattle.search.specs.Cells.{chartNumber, Rises, matchingIn, visitsIn, Listed}
 use Rattle.search.proofs.CellLaws.{matching-all}
 use Rattle.search.proofs.Order.{matching-rises}
@@ -55,7 +56,7 @@ either-counts : (b : Bool) (x y : Outcome) → Counts x → Counts y → Counts 
 either-counts true x y h k = h
 either-counts false x y h k = k
 
-test-counts : (b : Bool) (a : Answer) (rest : Unit {0} → Outcome) → Counts (refused a) → Counts (rest tt) → Counts (unless b a rest)
+test-counts : (b : Bool) (a : Answer) (rest : Unit {0} → Outcome) → Counts (refused a) → Counts (rest tt) → Counts (whereSo b (refused a) rest)
 test-counts true a rest h k = k
 test-counts false a rest h k = h
 

@@ -109,19 +109,19 @@ pub fn search(
     let chain = chart::sound(c);
     let window = is_window(w);
     if !readings {
-        clear(list, 0);
+        clear_entries(list, 0);
         return Answer::ReadingTooLarge;
     }
     if !chain {
-        clear(list, 0);
+        clear_entries(list, 0);
         return Answer::Unsound;
     }
     if !window {
-        clear(list, 0);
+        clear_entries(list, 0);
         return Answer::BadWindow;
     }
     if tolerance > MOST_TOLERANCE {
-        clear(list, 0);
+        clear_entries(list, 0);
         return Answer::BadTolerance;
     }
     let master = c.master;
@@ -236,7 +236,7 @@ fn north_east(p: Place, d: u32) -> Place
 }
 
 // Every entry from a place on becomes zero.
-fn clear(list: &mut [u32], from: usize)
+fn clear_entries(list: &mut [u32], from: usize)
     ensures { λ _. ⌜ now (list .exit) ≡ take from (now (list .entry)) ++ replicate (length (now (list .entry)) - from) 0 ⌝ }
 {
     let mut i = from;
@@ -267,19 +267,19 @@ fn walked(list: &mut [u32], h: Hunt, w: Window) -> Answer
     );
     let visits = t.visits;
     if t.stop == 10 {
-        clear(list, 0); // what was found so far is no answer
+        clear_entries(list, 0); // what was found so far is no answer
         return Answer::AllowanceUsed { visits };
     }
     if t.stop == 9 {
-        clear(list, 0); // and no part of one
+        clear_entries(list, 0); // and no part of one
         return Answer::NoRoom { visits };
     }
     let count = t.count;
     if count == 0 {
-        clear(list, 0); // nothing was put, but the list may have held something
+        clear_entries(list, 0); // nothing was put, but the list may have held something
         return Answer::NoMatch { visits };
     }
-    clear(list, 2 * count);
+    clear_entries(list, 2 * count);
     Answer::Places { count, visits }
 }
 
