@@ -17,7 +17,7 @@ use Rattle.search.specs.Windows.{isWindow, IsCellIn}
 use Rattle.search.specs.Questions.{Question, mostTolerance, noneTooLarge, matches}
 use Rattle.search.specs.Walk.{Standing, start, visit}
 use Rattle.search.specs.Answers.{Outcome, refused, gone, ended, searchOf, searchFigures}
-use Rattle.search.specs.Cells.{chartNumber, Rises, matchingIn, visitsIn, Listed}
+use Rattle.search.specs.Cells.{chartNumber, Rises, matchingIn, visitsIn, IsListed}
 use Rattle.search.proofs.CellLaws.{matching-all}
 use Rattle.search.proofs.Order.{matching-rises}
 use Rattle.search.proofs.Outcomes.{Ending, early, done, full, out}
@@ -81,9 +81,9 @@ search-counts q w =
 
 module _ (q : Question) (w : Window) where
   -- Whatever the end, what is listed is among the matching cells.
-  pub places-of : (o : Outcome) → Ending q w o → (p : Place) → Listed p (o .places) → Listed p (matchingIn (q .rule) w)
+  pub places-of : (o : Outcome) → Ending q w o → (p : Place) → IsListed p (o .places) → IsListed p (matchingIn (q .rule) w)
   places-of _ (early a f v) p m = absurd (List·Memᴰ·not-nil m)
-  places-of _ (done most) p m = subst (Listed p) (gone-places (matchingIn (q .rule) w) (visitsIn (q .rule) w)) m
+  places-of _ (done most) p m = subst (IsListed p) (gone-places (matchingIn (q .rule) w) (visitsIn (q .rule) w)) m
   places-of _ (full v most) p m = absurd (List·Memᴰ·not-nil m)
   places-of _ out p m = absurd (List·Memᴰ·not-nil m)
 
@@ -105,7 +105,7 @@ module _ (q : Question) (w : Window) where
 
   -- Where there is no matching cell, no cell matches.
   pub unmatched : (o : Place) → IsCellIn w o → matchingIn (q .rule) w ≡ [] → (b : Bool) → matches (q .rule) o ≡ b → b ≡ false
-  unmatched o i e true m = absurd (List·Memᴰ·not-nil (subst (Listed o) e (matching-all (q .rule) (w .k) (w .corner) o i m)))
+  unmatched o i e true m = absurd (List·Memᴰ·not-nil (subst (IsListed o) e (matching-all (q .rule) (w .k) (w .corner) o i m)))
   unmatched o i e false m = refl
 
   -- No end has more visits than allowed, and 10 has exactly as many.

@@ -68,8 +68,8 @@ abbrev pub IsMatch : Rule → Window → Place → Type 0
 IsMatch rule w p = IsCellIn w p × (matches rule p ≡ true)
 
 -- A place stands in a list.
-abbrev pub Listed : Place → List Place → Type 0
-Listed p ps = List·Memᴰ p ps
+abbrev pub IsListed : Place → List Place → Type 0
+IsListed p ps = List·Memᴰ p ps
 
 -- Ample room: for every matching cell. Ample allowance: for every visit that the window takes.
 abbrev pub AmpleRoom : Question → Window → Type 0

@@ -18,7 +18,7 @@ use Rattle.search.specs.Walk.{visit, start}
 use Rattle.search.specs.Answers.{Outcome, ended, Accepted}
 use Rattle.search.proofs.AnswerLaws.{search-3, search-5, search-6, search-7, search-walks}
 use Rattle.search.proofs.Asking.{wishOf, asks, ready}
-use Rattle.search.proofs.EndLaws.{Told, refusal-told}
+use Rattle.search.proofs.EndLaws.{IsTold, refusal-told}
 use Rattle.search.proofs.search.Statement.{statement}
 use Rattle.search.proofs.search.Tie as tie
 
@@ -164,7 +164,7 @@ returns-5 c =
     let o = begun tests in
     let a = o .args in
     let n = length (a .list .now) in
-    subst (λ (x : Outcome). Told n x (walked .walked .result) (walked .walked .last .0))
+    subst (λ (x : Outcome). IsTold n x (walked .walked .result) (walked .walked .last .0))
     (ap (λ (q : Question). ended (visit q (a .w .k) (a .w .corner) start)) (asks (a .c) (a .ra) (a .rb) (a .tolerance) (a .allowance) _ _ _ (wish-a (b .before)) (wish-b b) n refl)
     ∙ sym (search-walks (asked o) (a .w) (accepted tests)))
     (walked .walked .ensures)
