@@ -1,6 +1,6 @@
 #!/usr/bin/env bash
-# What a reader relies on: the layout, no proof among the definitions, and a full contract, with its row and its edits, for
-# every public function; and that the faults of every crate are those that its rows name.
+# What a reader relies on: the layout, no proof among the definitions, one meaning to a name, and a full contract, with its row
+# and its edits, for every public function; and that the faults of every crate are those that its rows name.
 cd "$(dirname "$0")/.." && . tests/common.bash
 
 pass_if 'every file is in the layout of rt fmt' rt fmt --check
@@ -10,6 +10,23 @@ no_proof() { ! grep -vE '^ *--' "$1" | grep -nwE 'omega|refl|rw|simp|cc|subst|ap
 while read -r file; do
     pass_if "$file holds no proof" no_proof "$file"
 done < <(find crates -path '*/specs/*.antt' | sort)
+
+# declared FILE...: the names that they declare: types, definitions, and laws at the top of a file; a line each, sorted.
+declared() {
+    awk '
+        { i = 1; while ($i ~ /^(pub|abbrev|unfoldable|opaque)$/) i++ }
+        $i ~ /^(record|data|struct|enum)$/ && $(i + 1) != "{" { print $(i + 1); next }
+        $(i + 1) == ":" && (/^[^ ]/ || $1 ~ /^(abbrev|unfoldable|opaque)$/) { print $i }
+    ' "$@" | sort
+}
+
+# none WORD...: that there is none; else they are told.
+none() { [ $# = 0 ] || { echo "$*"; false; }; }
+
+# A reader of a contract knows a definition by its name alone: it means one thing in the whole tree, and no law has it.
+definitions=$(declared crates/*/specs/*.antt crates/*/src/*.rt)
+pass_if 'no two definitions have one name' none $(uniq -d <<<"$definitions")
+pass_if 'no law has the name of a definition' none $(comm -12 <(uniq <<<"$definitions") <(declared crates/*/proofs/*.antt | uniq))
 
 # public FILE: a line for each public function, its name, and `full` where it has an ensures and no requires.
 public() {

@@ -44,9 +44,10 @@ use Rattle.listing.specs.declared.Carried.{Carried}
 use Rattle.listing.specs.declared.Carried.the-variants as carried
 use Rattle.listing.specs.Answers.{Refused, answerOf}
 use Rattle.text.specs.Texts.{spaced, bytesIn}
-use Rattle.listing.specs.Listings.{Part, listingOf, hasRoom, listedIn, bufferWith}
+use Rattle.listing.specs.Listings.{Part, listingOf, hasListingRoom, listedIn, bufferWith}
 use Rattle.listing.proofs.Theorems.{job-first, then-chain}
-use Rattle.lay.specs.Figures.{placeBy, jobBy, chainBy, chainTold, chainWritten, stationsTold, expectedTold, searchTold, recordFigures, countFigures, jobAnswered, heldFigures, listedFigures}
+use Rattle.chart.specs.Places.{placeOf}
+use Rattle.lay.specs.Figures.{jobBy, chainBy, chainTold, chainWritten, stationsTold, expectedTold, searchTold, recordFigures, countFigures, jobAnswered, heldFigures, listedFigures}
 use Rattle.demands.specs.Numbers.{recordRefusal, listedRefusal, NoneOr, Refuses, Leaves, SearchIsTold}
 use Rattle.demands.proofs.NumberLaws.{some-number, whole-number, length-number, readings-number, listed-number, search-number, refused-lists, refused-early, answered-lists, room-kept, list-length, job-good, answer-number}
 use Rattle.demands.proofs.LibraryLaws.{record-told, count-told, chain-told, stations-counted, bytes-counted, stations-told, expected-told, job-told, listing-told, search-told}
@@ -195,7 +196,7 @@ pub listing-answered : (out log : List ℕ) (p : Part) →
     let answer = listedIn (length out) log p in
     NoneOr (9 ∷ []) (listedRefusal answer) × (Refuses (listedRefusal answer) → bufferWith out log p ≡ out)
 unfolding listedIn bufferWith
-listing-answered out log p = listed-number (hasRoom (length out) log) p out (p .text ++ drop (length (p .text)) out)
+listing-answered out log p = listed-number (hasListingRoom (length out) log) p out (p .text ++ drop (length (p .text)) out)
 
 -- The library for C tells the same numbers in its figures. A log record: after 1 to 4 kind, chain number and both numbers
 -- are 0.
@@ -227,7 +228,7 @@ pub chain-figures-told : (chain : List ℕ) (entries e n : ℕ) →
     × (NoneOr (1 ∷ 4 ∷ 5 ∷ []) (x .refusal) × (Refuses (x .refusal) → x .holds ≡ replicate entries (pos 0)))
 chain-figures-told chain entries e n = (
   stations-told entries (rawChainOf chain) (bytes-counted chain),
-  expected-told entries (rawChainOf chain) (placeBy e n) (bytes-counted chain),
+  expected-told entries (rawChainOf chain) (placeOf e n) (bytes-counted chain),
 )
 
 -- A search by the bytes of a chain and of a job: 1 or 2 for the bytes, or what the search gets; after a refusal zeros and nought.

@@ -33,7 +33,7 @@ use Rattle.search.specs.declared.Window.{Window}
 use Rattle.search.specs.Windows.{isWindow, IsCellIn}
 use Rattle.search.specs.Questions.{ruleOf, questionOf}
 use Rattle.search.specs.Answers.{searchOf}
-use Rattle.search.specs.Cells.{matchingIn, Listed, AmpleRoom, AmpleAllowance}
+use Rattle.search.specs.Cells.{matchingIn, IsListed, AmpleRoom, AmpleAllowance}
 use Rattle.search.proofs.Theorems.{always-enough}
 use Rattle.records.specs.declared.RawAnswer.the-variants as raw
 use Rattle.records.specs.declared.LogEntry.the-variants as entry
@@ -204,7 +204,7 @@ pub readings-give-place : (c : Chain) (p : Place) (readings : List ℤ) (w : Win
     let q = questionOf c readings tolerance allowance entries in
     expectedAt c p ≡ Expects readings → EachSmall readings →
     isWindow w ≡ true → IsCellIn w p → tolerance ≤ 100_000 → AmpleRoom q w → AmpleAllowance q w →
-    Listed p (searchOf q w .places)
+    IsListed p (searchOf q w .places)
 readings-give-place c p readings w tolerance allowance entries e small window inside few room enough =
     found-by c p readings w tolerance allowance entries e inside
     (tests-pass c readings w tolerance small (own-readings c p readings e .1) window few)
@@ -219,11 +219,11 @@ pub place-to-place : (c : Chain) (p : Place) (x y : ℤ) (chain line : ℕ) (job
     1 ≤ chain → chain ≤ 16 → line < 2 ^ 32 → chainOf table chain ≡ named.Chain c →
     jobOf job ≡ answer.Job j → IsCellIn (j .window) p → (4 ^ (j .window .k + 1) - 1) / 3 ≤ j .allowance →
     length (matchingIn (ruleOf c (x ∷ y ∷ []) (j .tolerance)) (j .window)) ≤ 256 →
-    (logEntryOf s ≡ entry.Readings x y) × Listed p (placesOf (answerOf j table before s))
+    (logEntryOf s ≡ entry.Readings x y) × IsListed p (placesOf (answerOf j table before s))
 unfolding answerOf answerBy fixBy EachSmall
 place-to-place c p x y chain line job table j before e hx hy some few small known good inside enough room =
     let there = readings-there-and-back chain line x y some few small hx hy in
     let q = questionOf c (x ∷ y ∷ []) (j .tolerance) (j .allowance) 512 in
     let accepted = job-good job j good in
     let found = readings-give-place c p (x ∷ y ∷ []) (j .window) (j .tolerance) (j .allowance) 512 e (hx, (hy, tt)) (accepted .0) inside (leb-true _ _ (accepted .1)) room (always-enough q (j .window) enough) in
-    (there .1, rw (there .1, chain-byte chain line x y (there .0), known) (subst⁻¹ (Listed p) (fix-places q (j .window)) found))
+    (there .1, rw (there .1, chain-byte chain line x y (there .0), known) (subst⁻¹ (IsListed p) (fix-places q (j .window)) found))

@@ -16,6 +16,7 @@ use Rattle.squares.proofs.root as root
 use Rattle.squares.proofs.root_near as root-near
 use Rattle.fields.proofs.four_at as four-at
 use Rattle.fields.proofs.eight_at as eight-at
+use Rattle.fields.proofs.lies_inside as lies-inside
 use Rattle.fields.proofs.put_four as put-four
 use Rattle.fields.proofs.put_eight as put-eight
 use Rattle.metres.proofs.centimetres as centimetres
@@ -37,11 +38,12 @@ use Rattle.chart.proofs.ReadingLaws.{said-once}
 use Rattle.search.proofs.is_window as is-window
 use Rattle.search.proofs.search as search
 use Rattle.search.proofs.as_figures as search-as-figures
-use Rattle.search.proofs.clear as search-clear
+use Rattle.search.proofs.clear_entries as clear-entries
 use Rattle.records.proofs.raw_record as raw-record
 use Rattle.records.proofs.log_record as log-record
 use Rattle.records.proofs.log_entry as log-entry
 use Rattle.records.proofs.is_place as is-place
+use Rattle.records.proofs.one_to as one-to
 use Rattle.records.proofs.chain_count as chain-count
 use Rattle.records.proofs.chain_of as chain-of
 use Rattle.records.proofs.raw_chain as raw-chain
@@ -51,7 +53,7 @@ use Rattle.records.proofs.job_of as job-of
 use Rattle.writing.proofs.write as write
 use Rattle.writing.proofs.write_chain as write-chain
 use Rattle.writing.proofs.write_job as write-job
-use Rattle.writing.proofs.clear as writing-clear
+use Rattle.writing.proofs.clear_buffer as clear-buffer
 use Rattle.text.proofs.put as text-put
 use Rattle.text.proofs.put_number as text-put-number
 use Rattle.text.proofs.put_whole as put-whole
@@ -100,6 +102,10 @@ module _ {M : Type 1} (𝓤 : URA M) (H : Heap 𝓤) (A : Atoms 𝓤) (mem : Mem
   -- fields::eight_at, by `ensures-1`.
   pub eight-at-only : OneAnswer 𝓤 eight-at.ended (eight-at.clauses 𝓤 H A mem run)
   eight-at-only κs a g x y = only 𝓤 same (λ answer. answer & refl)
+
+  -- fields::lies_inside, by `ensures-1`.
+  pub lies-inside-only : OneAnswer 𝓤 lies-inside.ended (lies-inside.clauses 𝓤 H A mem run)
+  lies-inside-only κs a g x y = only 𝓤 same (λ answer. answer & refl)
 
   -- fields::put_four, by `ensures-answer`, `ensures-buffer`.
   pub put-four-only : OneAnswer 𝓤 put-four.ended (put-four.clauses 𝓤 H A mem run)
@@ -181,9 +187,9 @@ module _ {M : Type 1} (𝓤 : URA M) (H : Heap 𝓤) (A : Atoms 𝓤) (mem : Mem
   pub search-as-figures-only : OneAnswer 𝓤 search-as-figures.ended (search-as-figures.clauses 𝓤 H A mem run)
   search-as-figures-only κs a g x y = only 𝓤 same (λ answer. answer & refl)
 
-  -- search::clear, by `ensures-1`.
-  pub search-clear-only : OneAnswer 𝓤 search-clear.ended (search-clear.clauses 𝓤 H A mem run)
-  search-clear-only κs a g x y = only 𝓤 same (λ list. refl & list & refl)
+  -- search::clear_entries, by `ensures-1`.
+  pub clear-entries-only : OneAnswer 𝓤 clear-entries.ended (clear-entries.clauses 𝓤 H A mem run)
+  clear-entries-only κs a g x y = only 𝓤 same (λ list. refl & list & refl)
 
   -- records::raw_record, by `ensures-1`.
   pub raw-record-only : OneAnswer 𝓤 raw-record.ended (raw-record.clauses 𝓤 H A mem run)
@@ -200,6 +206,10 @@ module _ {M : Type 1} (𝓤 : URA M) (H : Heap 𝓤) (A : Atoms 𝓤) (mem : Mem
   -- records::is_place, by `ensures-1`.
   pub is-place-only : OneAnswer 𝓤 is-place.ended (is-place.clauses 𝓤 H A mem run)
   is-place-only κs a g x y = only 𝓤 same (λ answer. answer & refl)
+
+  -- records::one_to, by `ensures-1`.
+  pub one-to-only : OneAnswer 𝓤 one-to.ended (one-to.clauses 𝓤 H A mem run)
+  one-to-only κs a g x y = only 𝓤 same (λ answer. answer & refl)
 
   -- records::chain_count, by `ensures-1`.
   pub chain-count-only : OneAnswer 𝓤 chain-count.ended (chain-count.clauses 𝓤 H A mem run)
@@ -237,9 +247,9 @@ module _ {M : Type 1} (𝓤 : URA M) (H : Heap 𝓤) (A : Atoms 𝓤) (mem : Mem
   pub write-job-only : OneAnswer 𝓤 write-job.ended (write-job.clauses 𝓤 H A mem run)
   write-job-only κs a g x y = only 𝓤 (same beside same) (λ (answer, buffer). answer & buffer & refl)
 
-  -- writing::clear, by `ensures-1`.
-  pub writing-clear-only : OneAnswer 𝓤 writing-clear.ended (writing-clear.clauses 𝓤 H A mem run)
-  writing-clear-only κs a g x y = only 𝓤 same (λ buffer. refl & buffer & refl)
+  -- writing::clear_buffer, by `ensures-1`.
+  pub clear-buffer-only : OneAnswer 𝓤 clear-buffer.ended (clear-buffer.clauses 𝓤 H A mem run)
+  clear-buffer-only κs a g x y = only 𝓤 same (λ buffer. refl & buffer & refl)
 
   -- text::put, by `ensures-end`, `ensures-out`.
   pub text-put-only : OneAnswer 𝓤 text-put.ended (text-put.clauses 𝓤 H A mem run)

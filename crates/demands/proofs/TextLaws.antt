@@ -1,7 +1,7 @@
 -- What is shown of a record that was written: a line without a refusal, whose fields, typed, are what the record was written from.
 use Prim.Native.Nat.{ℕ, _^_, _≤_, _<_}
 use mathlib.Core.Path.{_≡_, refl, sym, ap, ap₂, _∙_}
-use mathlib.Core.Bool.{true, false≢true, _&&_}
+use mathlib.Core.Bool.{true, false≢true}
 use mathlib.Core.List.{List, [], _∷_, _++_, map, append-nil, append-assoc}
 use native.Mathlib.Omega.{arith}
 use borrow.Author.Tests.{lt-ltb}
@@ -21,7 +21,6 @@ use Rattle.records.specs.declared.Job.{Job}
 use Rattle.records.specs.declared.JobAnswer.the-variants as answer
 use Rattle.records.specs.declared.NamedChain.the-variants as named
 use Rattle.records.specs.declared.LogEntry.{LogEntry}
-use Rattle.records.specs.Bytes.{areZero}
 use Rattle.records.specs.LogRecords.{logEntryOf}
 use Rattle.records.specs.ChainTables.{oneTo, chainsIn, isTable, chainAt, rawChainOf, chainOf}
 use Rattle.records.specs.Jobs.{jobBytes, jobIn, rawJobOf, jobOf}
@@ -44,6 +43,7 @@ use Rattle.parsing.specs.Parsed.{parsedJob, parsedChain, isDraft, parsedDraft}
 use Rattle.parsing.proofs.WordLaws.{spacedWords, spaced-both, spaced-one, words-back}
 use Rattle.parsing.proofs.NumberLaws.{digits-word, digits-number, whole-word, whole-reading, whole-back, figures-spaced, figures-line, figures-back}
 use Rattle.records.proofs.RefusalLaws.{passed}
+use Rattle.records.proofs.JobLaws.{zerosKept, job-by-tests}
 use Rattle.parsing.proofs.HeldRecords.{used-fits}
 use Rattle.parsing.proofs.Fields.{jobTyped, chainTyped, draftTyped, job-taken, chain-taken, draft-taken}
 use Rattle.shown.specs.Fields.{wholeOr, centimetresText, refusedText}
@@ -57,10 +57,10 @@ plain-line word fields number s e = rw e
 
 -- A job.
 raw-job-back : (s : List ℕ) (j : Job) → jobOf s ≡ answer.Job j → rawJobOf s ≡ answer.Job j
-unfolding jobOf rawJobOf
+unfolding rawJobOf
 raw-job-back s j e =
-    let size = passed (eqb (length s) jobBytes) (λ f. false≢true (cc)) e in
-    let zeros = passed (areZero 3 s 9 && areZero 8 s 24) (λ f. false≢true (cc)) (size .1) in
+    let size = passed (eqb (length s) jobBytes) (λ f. false≢true (cc)) (sym (job-by-tests s) ∙ e) in
+    let zeros = passed (zerosKept s) (λ f. false≢true (cc)) (size .1) in
     let window = passed (isWindow (jobIn s .window)) (λ f. false≢true (cc)) (zeros .1) in
     let tolerance = passed (leb (jobIn s .tolerance) mostTolerance) (λ f. false≢true (cc)) (window .1) in
     rw (size .0) (tolerance .1)

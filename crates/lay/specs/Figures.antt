@@ -10,6 +10,7 @@ use lib.ListN.{length, getD, replicate}
 use Rattle.chart.specs.declared.Place.{Place}
 use Rattle.chart.specs.declared.Chain.{Chain}
 use Rattle.chart.specs.declared.Figures.{Figures}
+use Rattle.chart.specs.Places.{placeOf}
 use Rattle.chart.specs.Chains.{stationsOf, isSound}
 use Rattle.chart.specs.Readings.{expectedAt, figuresOf}
 use Rattle.search.specs.declared.Window.{Window}
@@ -47,12 +48,9 @@ use Rattle.lay.specs.declared.ListedFigures.{ListedFigures}
 abbrev pub version : ℕ
 version = 1
 
--- A place, a window, a job and a draft by their figures.
-abbrev pub placeBy : ℕ → ℕ → Place
-placeBy e n = record { easting = e; northing = n }
-
+-- A window, a job and a draft by their figures.
 abbrev pub windowBy : ℕ → ℕ → ℕ → Window
-windowBy e n k = record { corner = placeBy e n; k = k }
+windowBy e n k = record { corner = placeOf e n; k = k }
 
 abbrev pub jobBy : ℕ → ℕ → ℕ → ℕ → ℕ → Job
 jobBy e n k tolerance allowance = record { window = windowBy e n k; tolerance = tolerance; allowance = allowance }
@@ -67,9 +65,9 @@ chainNumbers = 6
 abbrev pub chainWith : List ℕ → Chain
 chainWith s =
     record {
-      master = placeBy (getD s 0 0) (getD s 1 0);
-      a = placeBy (getD s 2 0) (getD s 3 0);
-      b = placeBy (getD s 4 0) (getD s 5 0);
+      master = placeOf (getD s 0 0) (getD s 1 0);
+      a = placeOf (getD s 2 0) (getD s 3 0);
+      b = placeOf (getD s 4 0) (getD s 5 0);
     }
 
 unfoldable pub chainBy : List ℕ → NamedChain
@@ -121,7 +119,7 @@ expectedLent entries (named.Chain c) p =
 expectedLent entries (named.Refused number) p = record { refusal = number; holds = replicate entries (pos 0) }
 
 abbrev pub expectedTold : ℕ → List ℕ → ℕ → ℕ → Lent ℤ
-expectedTold entries chain e n = expectedLent entries (rawChainOf chain) (placeBy e n)
+expectedTold entries chain e n = expectedLent entries (rawChainOf chain) (placeOf e n)
 
 -- All that a search tells: its figures, and every entry of its list.
 pub record SearchTold : Type 0 where
@@ -187,12 +185,12 @@ jobTold s = jobAnswered (jobOf s)
 
 -- The place carried to a record: none where `held` is 0.
 unfoldable pub carriedIn : ℕ → ℕ → ℕ → Carried
-carriedIn held e n = cond (eqb held 0) carried.Nothing (carried.Place (placeBy e n))
+carriedIn held e n = cond (eqb held 0) carried.Nothing (carried.Place (placeOf e n))
 
 -- The same as figures.
 unfoldable pub heldFigures : Carried → HeldFigures
 heldFigures (carried.Place p) = record { held = 1; place = p }
-heldFigures carried.Nothing = record { held = 0; place = placeBy 0 0 }
+heldFigures carried.Nothing = record { held = 0; place = placeOf 0 0 }
 
 -- A listing in a buffer.
 unfoldable pub listedFigures : Listed → ListedFigures

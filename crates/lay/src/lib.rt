@@ -5,11 +5,12 @@ ghost use mathlib.Core.Path.{_≡_};
 ghost use lib.IntN.{pos};
 ghost use lib.ListN.{length, getD, replicate};
 ghost use Prim.Native.Nat.{_+_, _<_};
+ghost use Rattle.chart.specs.Places.{placeOf};
 ghost use Rattle.metres.specs.Metres.{centimetresOf, metresOf, wholeFigures, lengthFigures};
 ghost use Rattle.records.specs.declared.NamedChain.the-variants as named;
 ghost use Rattle.writing.specs.Writing.{refusalOf, bufferOf};
 ghost use Rattle.writing.specs.JobWriting.{jobRefusalOf, jobBufferOf};
-ghost use Rattle.lay.specs.Figures.{version, placeBy, jobBy, draftBy, chainBy, chainLent, chainTold, chainWritten, stationsLent, stationsTold, expectedLent, expectedTold, unsearched, searchedBy, searchedIn, searchTold, foundIn, entryFigures, recordFigures, countFigures, countTold, jobAnswered, jobTold, carriedIn, carriedBy, heldFigures, listedFigures, partOf, listTold};
+ghost use Rattle.lay.specs.Figures.{version, jobBy, draftBy, chainBy, chainLent, chainTold, chainWritten, stationsLent, stationsTold, expectedLent, expectedTold, unsearched, searchedBy, searchedIn, searchTold, foundIn, entryFigures, recordFigures, countFigures, countTold, jobAnswered, jobTold, carriedIn, heldFigures, listedFigures, partOf, listTold};
 use chart::Chain;
 use chart::Place;
 use listing::Carried;
@@ -389,7 +390,7 @@ fn not_searched(list: &mut [u32], number: u32) -> SearchFigures
     ensures answer { λ r. ⌜ r ≡ unsearched number (length (now (list .entry))) .figures ⌝ }
     ensures list { λ _. ⌜ now (list .exit) ≡ unsearched number (length (now (list .entry))) .list ⌝ }
 {
-    search::clear(list, 0);
+    search::clear_entries(list, 0);
     SearchFigures {
         refusal: number,
         count: 0,
@@ -411,7 +412,7 @@ fn no_chain(buffer: &mut [u8], number: u32) -> u32
     ensures answer { λ r. ⌜ r ≡ number ⌝ }
     ensures buffer { λ _. ⌜ now (buffer .exit) ≡ replicate (length (now (buffer .entry))) 0 ⌝ }
 {
-    writing::clear(buffer);
+    writing::clear_buffer(buffer);
     number
 }
 
@@ -431,7 +432,7 @@ fn chain_by(stations: &[u32]) -> NamedChain
 
 fn place_by(stations: &[u32], at: usize) -> Place
     requires { ⌜ at + 1 < length (now stations) ⌝ }
-    ensures { λ r. ⌜ r ≡ placeBy (getD (now (stations .entry)) at 0) (getD (now (stations .entry)) (at + 1) 0) ⌝ }
+    ensures { λ r. ⌜ r ≡ placeOf (getD (now (stations .entry)) at 0) (getD (now (stations .entry)) (at + 1) 0) ⌝ }
 {
     Place {
         easting: stations[at],
@@ -443,7 +444,7 @@ fn read_chain(stations: &mut [u32], a: NamedChain) -> u32
     ensures answer { λ r. ⌜ r ≡ stationsLent (length (now (stations .entry))) a .refusal ⌝ }
     ensures stations { λ _. ⌜ now (stations .exit) ≡ stationsLent (length (now (stations .entry))) a .holds ⌝ }
 {
-    search::clear(stations, 0);
+    search::clear_entries(stations, 0);
     match a {
         NamedChain::Chain(c) => put_stations(stations, c),
         NamedChain::Refused(number) => number,

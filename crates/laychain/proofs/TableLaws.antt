@@ -60,10 +60,10 @@ no-place table before c size many =
     let none : ltb before mostChains ≡ false = le-ltb before mostChains many in
     (ap (λ (t : Bool). unless t 1 (chainRefusalOf chainBytes c)) (sym none), nothing-promised table (chainBytes * before) (chainBufferOf chainBytes c) (omega (arith, chain-same-length chainBytes c)) .1)
 
-pub placed : (table : List ℕ) (before : ℕ) (c : Chain) (bytes r : ℕ) (written : List ℕ) → length table ≡ chainBytes * mostChains → before < mostChains →
+pub chain-placed : (table : List ℕ) (before : ℕ) (c : Chain) (bytes r : ℕ) (written : List ℕ) → length table ≡ chainBytes * mostChains → before < mostChains →
     bytes ≡ chainBytes → r ≡ chainRefusalOf bytes c → written ≡ chainBufferOf bytes c →
     (r ≡ lineRefusal before (parsed.Chain c)) × (putMid (chainBytes * before) (chainBytes * before + chainBytes - chainBytes * before) table written ≡ tableWith table before (parsed.Chain c))
-placed table before c bytes r written size few same answer made =
+chain-placed table before c bytes r written size few same answer made =
     let room : ltb before mostChains ≡ true = lt-ltb before mostChains few in
     let at = chainBytes * before in
     let text = chainBufferOf chainBytes c in

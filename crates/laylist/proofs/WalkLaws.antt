@@ -20,7 +20,7 @@ use Rattle.records.specs.Jobs.{jobOf}
 use Rattle.records.proofs.Pieces.{piece-is, behind-is}
 use Rattle.listing.specs.declared.Carried.{Carried}
 use Rattle.listing.specs.declared.Listed.the-variants as listed
-use Rattle.listing.specs.Listings.{Part, linesFrom, listingBy, listingFrom, hasRoom, listedIn, bufferWith}
+use Rattle.listing.specs.Listings.{Part, linesFrom, listingBy, listingFrom, hasListingRoom, listedIn, bufferWith}
 use Rattle.listing.proofs.Theorems.{in-parts}
 use Rattle.laylist.specs.declared.Next.{Next}
 use Rattle.laylist.specs.declared.Next.the-variants as follows
@@ -28,7 +28,7 @@ use Rattle.laylist.specs.Walks.{acceptsJob, acceptsTable, BothGood, part
 
 -- A part in its buffer.
 module _ (out part : List ℕ) (size : length out ≡ outBytes) (few : length part ≤ partBytes) (p : Part) where
-  roomy : hasRoom (length out) part ≡ true
+  roomy : hasListingRoom (length out) part ≡ true
   roomy = lt-ltb (length part / logBytes) (length out / _) (omega arith)
 
   -- It is listed: the buffer then begins with the text.

@@ -11,7 +11,7 @@ use Rattle.text.specs.Puts.{Put}
 use Rattle.text.proofs.PutLaws.{put-length}
 use Rattle.shown.specs.declared.Line.{Line}
 use Rattle.shown.specs.declared.Line.the-variants.{Text}
-use Rattle.shown.specs.Rooms.{Says, lineFor, bufferFor, textOf, lineRoom, hasRoom, inRoom}
+use Rattle.shown.specs.Rooms.{Says, lineFor, bufferFor, textOf, lineRoom, hasLineRoom, inRoom}
 use Rattle.layshow.specs.Walks.{PutLine}
 
 module _ (o : List ℕ) (at bytes : ℕ) (fits : at + lineRoom bytes ≤ length o) where
@@ -34,7 +34,7 @@ module _ (o : List ℕ) (at bytes : ℕ) (fits : at + lineRoom bytes ≤ length 
       length room′ ≡ length room → end ≡ at + textOf line → PutLine o at x bytes (take at o ++ (room′ ++ behind)) end
   unfolding lineFor bufferFor
   line-put x {line} {room′} {end} answer buffer kept is =
-      let roomy : hasRoom (length room) bytes ≡ true = le-leb (lineRoom bytes) (length room) (omega (arith, room-long)) in
+      let roomy : hasLineRoom (length room) bytes ≡ true = le-leb (lineRoom bytes) (length room) (omega (arith, room-long)) in
       let told : line ≡ Text (length x) = rw roomy at answer in
       let put : room′ ≡ x ++ drop (length x) room = rw roomy at buffer in
       let short : length x ≤ length room = omega (arith, kept, simp length-append at (ap length put)) in

@@ -53,7 +53,7 @@ struct Told {
 }
 
 // Where the text of the lines so far ends, and the place carried on.
-struct Standing {
+struct LinesSoFar {
     end: usize,
     carried: Carried,
 }
@@ -154,7 +154,7 @@ fn one(
     table: &[u8],
     s: &[u8],
     before: Carried,
-) -> Standing
+) -> LinesSoFar
     requires { ⌜ (length (now list) ≡ listEntries) × (at + longestLine ≤ length (now out)) ⌝ }
     ensures line { λ r. ⌜ Put (now (out .entry)) at (lineOf (now (s .entry)) (answerOf j (now (table .entry)) before (now (s .entry)))) (now (out .exit)) (r .end) ⌝ }
     ensures end { λ r. ⌜ r .end ≤ at + longestLine ⌝ }
@@ -163,7 +163,7 @@ fn one(
     let t = answer(list, j, table, s, before);
     let end = put_line(out, at, list, s, t);
     let carried = carry(list, t.count);
-    Standing { end, carried }
+    LinesSoFar { end, carried }
 }
 
 // What a record answers. Its places go to the list.

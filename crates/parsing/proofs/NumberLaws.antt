@@ -15,7 +15,7 @@ use Rattle.text.proofs.Digits.{IsDigit, all-digits, digits-some, reads-back}
 use Rattle.parsing.specs.Words.{run, isInWord, wordAt}
 use Rattle.parsing.specs.Numbers.{isDigit, isNumber, isBelow, sizeIn, isReading, areNumbers, isLine, valueAt}
 use Rattle.parsing.proofs.Lines.{size-plain}
-use Rattle.parsing.proofs.WordLaws.{IsWord, AreWords, spacedWords, run-all, words-back}
+use Rattle.parsing.proofs.WordLaws.{IsWord, EachIsWord, spacedWords, run-all, words-back}
 
 -- Digits are a word, and a number.
 digit-is : (b : ℕ) → IsDigit b → isDigit b ≡ true
@@ -70,7 +70,7 @@ whole-back z =
     ∙ whole-sign z
 
 -- Numbers that are put are words.
-digits-words : (ns : List ℕ) → AreWords (map digitsOf ns)
+digits-words : (ns : List ℕ) → EachIsWord (map digitsOf ns)
 digits-words [] = tt
 digits-words (n ∷ ns) = (digits-word n, digits-words ns)
 

@@ -14,9 +14,9 @@ pub record IsWord (w : List ℕ) : Type 0 where
   pub some : 1 ≤ length w
   pub whole : run isInWord w ≡ length w
 
-abbrev pub AreWords : List (List ℕ) → Type 0
-AreWords [] = Unit {0}
-AreWords (w ∷ ws) = IsWord w × AreWords ws
+abbrev pub EachIsWord : List (List ℕ) → Type 0
+EachIsWord [] = Unit {0}
+EachIsWord (w ∷ ws) = IsWord w × EachIsWord ws
 
 -- Words, each behind a space.
 unfoldable pub spacedWords : List (List ℕ) → List ℕ
@@ -56,10 +56,10 @@ run-all such [] h = refl
 run-all such (b ∷ bs) h = rw (h 0 (omega arith)) (omega (arith, run-all such bs (λ i l. h (suc i) (omega arith))))
 
 -- A space ends a word, and so does the end of the line.
-ended : (ws : List (List ℕ)) → run isInWord (spacedWords ws) ≡ 0
+words-ended : (ws : List (List ℕ)) → run isInWord (spacedWords ws) ≡ 0
 unfolding run spacedWords
-ended [] = refl
-ended (w ∷ ws) = refl
+words-ended [] = refl
+words-ended (w ∷ ws) = refl
 
 -- No blank stands at the start of a word.
 no-blank : (w rest : List ℕ) → IsWord w → run isBlank (w ++ rest) ≡ 0
@@ -73,7 +73,7 @@ module _ (w : List ℕ) (ws : List (List ℕ)) (h : IsWord w) where
   from-spaced = rw (no-blank w (spacedWords ws) h)
 
   as-long : length w ≡ run isInWord (w ++ spacedWords ws)
-  as-long = omega (arith, run-front isInWord w (spacedWords ws) (h .whole), ended ws)
+  as-long = omega (arith, run-front isInWord w (spacedWords ws) (h .whole), words-ended ws)
 
   first-spaced : firstWord (spacedWords (w ∷ ws)) ≡ w
   first-spaced = ap (λ (t : List ℕ). take (run isInWord t) t) from-spaced ∙ take-at w (spacedWords ws) _ as-long
@@ -82,7 +82,7 @@ module _ (w : List ℕ) (ws : List (List ℕ)) (h : IsWord w) where
   behind-spaced = ap (λ (t : List ℕ). drop (run isInWord t) t) from-spaced ∙ drop-at w (spacedWords ws) _ as-long
 
 -- The words of the line are the words, and behind them there are only empty ones.
-pub words-back : (ws : List (List ℕ)) → AreWords ws → (i : ℕ) → wordAt i (spacedWords ws) ≡ getD ws i []
+pub words-back : (ws : List (List ℕ)) → EachIsWord ws → (i : ℕ) → wordAt i (spacedWords ws) ≡ getD ws i []
 unfolding wordAt run spacedWords
 words-back [] h zero = refl
 words-back [] h (suc i) = words-back [] h i

@@ -4,7 +4,8 @@ use denote.Ref.{now}
 use lib.ListN.{length}
 use borrow.Author.Needs.{needs}
 use Rattle.records.specs.declared.NamedChain.{NamedChain}
-use Rattle.lay.specs.Figures.{placeBy, expectedLent}
+use Rattle.chart.specs.Places.{placeOf}
+use Rattle.lay.specs.Figures.{expectedLent}
 use Rattle.lay.proofs.lay_expected.Statement.{statement}
 use Rattle.lay.proofs.lay_expected.Tie as tie
 
@@ -23,7 +24,7 @@ returns c =
     let known = call .before in
     let d = known .before .before .before .args in
     let entries = length (now (d .readings)) in
-    let place = placeBy (d .e) (d .n) in (
+    let place = placeOf (d .e) (d .n) in (
       call .expected .ensures .0 ∙ ap (λ (a : NamedChain). expectedLent entries a place .refusal) (known .raw-chain .ensures),
       call .expected .ensures .1 ∙ ap (λ (a : NamedChain). expectedLent entries a place .holds) (known .raw-chain .ensures),
     )

@@ -10,14 +10,14 @@ use Rattle.lay.specs.Figures.{stationsLent}
 use Rattle.lay.proofs.read_chain.Statement.{statement}
 use Rattle.lay.proofs.read_chain.Tie as tie
 
-clear-requires : tie.Need-clear-requires
-clear-requires c κs = search needs
+clear-entries-requires : tie.Need-clear-entries-requires
+clear-entries-requires c κs = search needs
 
 -- What the list holds once it is clear, and that it has as many entries as before.
-cleared : (c : tie.After-clear) → c .clear .last .0 ≡ replicate (length (c .before .before .before .args .stations .now)) 0
-cleared c = c .clear .ensures ∙ ap (λ (n : ℕ). replicate n 0) (sub-zero (length (c .before .before .before .args .stations .now)))
+cleared : (c : tie.After-clear-entries) → c .clear-entries .last .0 ≡ replicate (length (c .before .before .before .args .stations .now)) 0
+cleared c = c .clear-entries .ensures ∙ ap (λ (n : ℕ). replicate n 0) (sub-zero (length (c .before .before .before .args .stations .now)))
 
-same-count : (c : tie.After-clear) → length (c .clear .last .0) ≡ length (c .before .before .before .args .stations .now)
+same-count : (c : tie.After-clear-entries) → length (c .clear-entries .last .0) ≡ length (c .before .before .before .args .stations .now)
 same-count c = ap length (cleared c) ∙ length-replicate _ 0
 
 enum-known-a : tie.Need-enum-known-a
@@ -69,7 +69,7 @@ pub read-chain-spec : {M : Type 1} → statement M
 read-chain-spec =
     tie.close
     (tie.spec
-    clear-requires
+    clear-entries-requires
     enum-known-a
     put-stations-requires
     enum-known-a-2

@@ -1,11 +1,11 @@
--- `search::clear` meets its contract: each turn makes one entry more zero.
+-- `search::clear_entries` meets its contract: each turn makes one entry more zero.
 use Prim.Native.Nat.{_-_}
 use native.Mathlib.Omega.{arith}
 use lib.ListN.{length, length-set}
 use borrow.Author.Needs.{needs}
 use Rattle.search.proofs.Clearing.{Cleared, cleared-none, cleared-more, cleared-all}
-use Rattle.search.proofs.clear.Statement.{statement}
-use Rattle.search.proofs.clear.Tie as tie
+use Rattle.search.proofs.clear_entries.Statement.{statement}
+use Rattle.search.proofs.clear_entries.Tie as tie
 
 abbrev Inv-loop : tie.InvT-loop
 Inv-loop list₀ from i₀ list i = Cleared 0 from i list₀ list
@@ -37,8 +37,8 @@ same-length c = c .before .loop .inv .same
 returns : tie.Need-returns Inv-loop μ-loop
 returns c = cleared-all 0 _ _ _ _ (omega arith) (c .before .loop .inv)
 
-pub clear-spec : {M : Type 1} → statement M
-clear-spec =
+pub clear-entries-spec : {M : Type 1} → statement M
+clear-entries-spec =
     tie.close
     (tie.spec
     Inv-loop

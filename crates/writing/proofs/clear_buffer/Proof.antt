@@ -1,4 +1,4 @@
--- `writing::clear` meets its contract: each turn makes one byte more zero.
+-- `writing::clear_buffer` meets its contract: each turn makes one byte more zero.
 use Prim.Native.Nat.{ℕ, _-_}
 use mathlib.Core.Path.{ap, _∙_}
 use native.Mathlib.Omega.{arith}
@@ -6,8 +6,8 @@ use native.Mathlib.Nat.{sub-zero}
 use lib.ListN.{length, replicate, length-set}
 use borrow.Author.Needs.{needs}
 use Rattle.search.proofs.Clearing.{Cleared, cleared-none, cleared-more, cleared-all}
-use Rattle.writing.proofs.clear.Statement.{statement}
-use Rattle.writing.proofs.clear.Tie as tie
+use Rattle.writing.proofs.clear_buffer.Statement.{statement}
+use Rattle.writing.proofs.clear_buffer.Tie as tie
 
 abbrev Inv-loop : tie.InvT-loop
 Inv-loop buffer₀ i₀ buffer i = Cleared 0 0 i buffer₀ buffer
@@ -38,8 +38,8 @@ returns c =
     let s = c .before .before .args .buffer .now in
     cleared-all 0 0 _ s _ (omega arith) (c .before .loop .inv) ∙ ap (λ (n : ℕ). replicate n 0) (sub-zero (length s))
 
-pub clear-spec : {M : Type 1} → statement M
-clear-spec =
+pub clear-buffer-spec : {M : Type 1} → statement M
+clear-buffer-spec =
     tie.close
     (tie.spec
     Inv-loop
