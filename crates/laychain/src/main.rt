@@ -8,11 +8,11 @@ ghost use lib.ListN.{length};
 ghost use Rattle.records.specs.ChainTables.{chainBytes, mostChains};
 ghost use Rattle.parsing.specs.Parsed.{parsedChain};
 ghost use Rattle.parsing.specs.declared.ParsedChain.the-variants as parsed;
-ghost use Rattle.lines.specs.Input.{atEnd};
+ghost use Rattle.files.specs.Input.{atEnd};
 ghost use Rattle.laychain.specs.Tables.{lineRefusal, tableWith, HoldsChains};
 use chart::Chain;
+use files::Input;
 use files::Words;
-use lines::Input;
 use parsing::ParsedChain;
 use records::CHAIN_BYTES;
 use records::MOST_CHAINS;
@@ -79,7 +79,7 @@ fn read_chains(buffer: &mut [u8], table: &mut [u8]) -> usize
     let mut count = 0;
     let mut well = true;
     while count <= MOST_CHAINS {
-        let input = lines::next(buffer, from, to);
+        let input = files::next_line(buffer, from, to);
         let Input::Line { start, end, stop } = input else {
             return ended(input, count, well);
         };

@@ -7,13 +7,13 @@ ghost use lib.ListN.{length, take};
 ghost use Rattle.records.specs.LogRecords.{logBytes};
 ghost use Rattle.parsing.specs.Parsed.{parsedDraft};
 ghost use Rattle.parsing.specs.declared.ParsedDraft.the-variants as parsed;
-ghost use Rattle.lines.specs.Input.{atEnd};
+ghost use Rattle.files.specs.Input.{atEnd};
 ghost use Rattle.laywrite.specs.Waiting.{waitingOf, allDropped, Wait, IsKept, IsTaken, HoldRecords};
 use files::Filled;
+use files::Input;
 use files::Words;
 use libc::SEEK_END;
 use libc::SEEK_SET;
-use lines::Input;
 use parsing::ParsedDraft;
 use records::LOG_BYTES;
 use writing::Draft;
@@ -161,7 +161,7 @@ fn each_line(buffer: &mut [u8], out: &mut [u8], scratch: i32) -> Records
     let mut records = Records::Waiting(0);
     let mut line = 0u64;
     while line < u64::MAX {
-        let input = lines::next(buffer, from, to);
+        let input = files::next_line(buffer, from, to);
         line += 1;
         let Input::Line { start, end, stop } = input else {
             return ended(input, line, records);
