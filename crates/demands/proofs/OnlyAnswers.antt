@@ -46,6 +46,7 @@ use Rattle.records.proofs.chain_of as chain-of
 use Rattle.records.proofs.raw_chain as raw-chain
 use Rattle.records.proofs.raw_job as raw-job
 use Rattle.records.proofs.job_of as job-of
+use Rattle.records.proofs.piece_end as piece-end
 use Rattle.writing.proofs.write as write
 use Rattle.writing.proofs.write_chain as write-chain
 use Rattle.writing.proofs.write_job as write-job
@@ -209,6 +210,10 @@ module _ {M : Type 1} (𝓤 : URA M) (H : Heap 𝓤) (A : Atoms 𝓤) (mem : Mem
   -- records::job_of, by `ensures-1`.
   pub job-of-only : OneAnswer 𝓤 job-of.ended (job-of.clauses 𝓤 H A mem run)
   job-of-only κs a g x y = only 𝓤 same (λ answer. answer & refl)
+
+  -- records::piece_end, by `ensures-1`.
+  pub piece-end-only : OneAnswer 𝓤 piece-end.ended (piece-end.clauses 𝓤 H A mem run)
+  piece-end-only κs a g x y = only 𝓤 same (λ answer. answer & refl)
 
   -- writing::write, by `ensures-answer`, `ensures-buffer`.
   pub write-only : OneAnswer 𝓤 write.ended (write.clauses 𝓤 H A mem run)

@@ -1,5 +1,5 @@
 -- A part's listing has its room, and the listing of what follows goes on from its place.
-use Prim.Native.Nat.{ℕ, _+_, _-_, _/_, _≤_, min}
+use Prim.Native.Nat.{ℕ, _-_, _/_, _≤_, _<_}
 use mathlib.Core.Bool.{true, true≢false}
 use mathlib.Core.List.{List, _++_}
 use mathlib.Core.Path.{_≡_, refl, sym, ap, _∙_, subst}
@@ -14,10 +14,11 @@ use Rattle.records.specs.declared.JobAnswer.{JobAnswer}
 use Rattle.records.specs.declared.JobAnswer.the-variants as job
 use Rattle.records.specs.declared.ChainCount.{ChainCount}
 use Rattle.records.specs.declared.ChainCount.the-variants as count
+use Rattle.records.specs.Bytes.{pieceEnd}
 use Rattle.records.specs.LogRecords.{logBytes}
 use Rattle.records.specs.ChainTables.{chainCountOf}
 use Rattle.records.specs.Jobs.{jobOf}
-use Rattle.records.proofs.Pieces.{piece-is, behind-is}
+use Rattle.records.proofs.Pieces.{next-piece}
 use Rattle.listing.specs.declared.Carried.{Carried}
 use Rattle.listing.specs.declared.Listed.the-variants as listed
 use Rattle.listing.specs.Listings.{Part, linesFrom, listingBy, listingFrom, hasRoom, listedIn, bufferWith}
@@ -97,11 +98,11 @@ module _ (job table : List ℕ) (ok : BothGood job table) where
           ∙ sym (nothing-left job table ok log partBytes after (omega arith))
 
   -- So what follows a part of a log goes on from the place that is carried on to the rest.
-  pub goes-on : (log : List ℕ) (done next : ℕ) → next ≡ min (done + partBytes) (length log) → (place : Carried) {n : Next} {after : Carried} →
+  pub goes-on : (log : List ℕ) (done next : ℕ) → done < length log → next ≡ pieceEnd done partBytes (length log) → (place : Carried) {n : Next} {after : Carried} →
       GoesOn (listingFrom job table (take (next - done) (drop done log)) place) n → n ≡ follows.From after →
       listingFrom job table (drop done log) place .carried ≡ listingFrom job table (drop next log) after .carried
-  goes-on log done next e place {n} {after} told is =
+  goes-on log done next some e place {n} {after} told is =
       let handed : after ≡ listingFrom job table (take (next - done) (drop done log)) place .carried =
       subst (GoesOn (listingFrom job table (take (next - done) (drop done log)) place)) is told in
-      rest-carries (drop done log) place
-      ∙ sym (rw (handed, piece-is partBytes log done next e, behind-is partBytes log done next e))
+      next-piece partBytes (λ c s. listingFrom job table s c .carried) (λ c x rest. rest) (λ c x. listingFrom job table x c .carried) (λ c s any. rest-carries s c) log done next some e place
+      ∙ ap (λ (c : Carried). listingFrom job table (drop next log) c .carried) (sym handed)

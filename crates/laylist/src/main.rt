@@ -2,7 +2,7 @@
 // A file that is missing counts as empty. What fails is told on standard error, and nothing is listed after it.
 ghost use mathlib.Core.Path.{_≡_};
 ghost use mathlib.Core.Bool.{true};
-ghost use Prim.Native.Nat.{_+_, _≤_, _<_, min};
+ghost use Prim.Native.Nat.{_≤_};
 ghost use lib.ListN.{length};
 ghost use Rattle.records.specs.ChainTables.{chainCountOf};
 ghost use Rattle.records.specs.Jobs.{jobOf};
@@ -175,7 +175,7 @@ fn list_parts(out: &mut [u8], job: &[u8], table: &[u8], log: &[u8], before: Carr
     let mut carried = before;
     let mut done = 0;
     while done < log.len() {
-        let next = part_end(done, log.len());
+        let next = records::piece_end(done, PART_BYTES, log.len());
         let Next::From(place) = print_part(out, job, table, &log[done..next], carried) else {
             return Next::End;
         };
@@ -183,17 +183,6 @@ fn list_parts(out: &mut [u8], job: &[u8], table: &[u8], log: &[u8], before: Carr
         done = next;
     }
     Next::From(carried)
-}
-
-// Where the part that begins at done ends: the last may be shorter.
-fn part_end(done: usize, length: usize) -> usize
-    requires { ⌜ done < length ⌝ }
-    ensures { λ r. ⌜ r ≡ min (done + partBytes) length ⌝ }
-{
-    if length - done < PART_BYTES {
-        return length;
-    }
-    done + PART_BYTES
 }
 
 // Lists a part of the log and prints its text.

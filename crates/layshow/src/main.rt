@@ -1,7 +1,7 @@
 // Prints what job.dat, chain.dat and lay.dat hold, in the folder that it is run in, a line a record. A file that is missing counts
 // as empty. What is refused or fails is told on standard error, and nothing is printed after it.
 ghost use mathlib.Core.Path.{_≡_};
-ghost use Prim.Native.Nat.{_+_, _^_, _≤_, _<_, min};
+ghost use Prim.Native.Nat.{_+_, _^_, _≤_, _<_};
 ghost use lib.ListN.{length};
 ghost use Rattle.text.specs.Puts.{Put};
 ghost use Rattle.shown.specs.Lines.{jobLine, chainLine, recordLine};
@@ -123,7 +123,7 @@ fn put_chains(out: &mut [u8], at: usize, table: &[u8]) -> usize
     let mut done = 0;
     let mut number = 1;
     while done < table.len() {
-        let next = piece_end(done, records::CHAIN_BYTES, table.len());
+        let next = records::piece_end(done, records::CHAIN_BYTES, table.len());
         end = put_chain(out, end, number, &table[done..next]);
         done = next;
         number += 1;
@@ -148,17 +148,6 @@ fn after(at: usize, line: Line) -> usize
         Line::Text(n) => at + n,
         Line::Refused(_) => at,
     }
-}
-
-// Where the piece of so many bytes ends that begins at done: the last may be shorter.
-fn piece_end(done: usize, bytes: usize, length: usize) -> usize
-    requires { ⌜ done < length ⌝ }
-    ensures { λ r. ⌜ r ≡ min (done + bytes) length ⌝ }
-{
-    if length - done < bytes {
-        return length;
-    }
-    done + bytes
 }
 
 // The lines of the log, stretch by stretch. Every turn but the last takes 65,536 bytes of it, and no log has 2^64 times as
@@ -214,7 +203,7 @@ fn put_records(out: &mut [u8], log: &[u8]) -> usize
     let mut end = 0;
     let mut done = 0;
     while done < log.len() {
-        let next = piece_end(done, records::LOG_BYTES, log.len());
+        let next = records::piece_end(done, records::LOG_BYTES, log.len());
         end = put_record(out, end, &log[done..next]);
         done = next;
     }
