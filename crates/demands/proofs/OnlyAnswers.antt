@@ -64,6 +64,7 @@ use Rattle.shown.proofs.job as shown-job
 use Rattle.shown.proofs.chain as shown-chain
 use Rattle.shown.proofs.record as shown-record
 use Rattle.shown.proofs.expected as shown-expected
+use Rattle.files.proofs.none_given as none-given
 use Rattle.files.proofs.refused as refused
 use Rattle.listing.proofs.list as list
 use Rattle.desk.proofs.desk_centimetres as desk-centimetres
@@ -282,6 +283,10 @@ module _ {M : Type 1} (𝓤 : URA M) (H : Heap 𝓤) (A : Atoms 𝓤) (mem : Mem
   -- shown::expected, by `ensures-answer`, `ensures-out`.
   pub shown-expected-only : OneAnswer 𝓤 shown-expected.ended (shown-expected.clauses 𝓤 H A mem run)
   shown-expected-only κs a g x y = only 𝓤 (same beside same) (λ (answer, out). answer & out & refl)
+
+  -- files::none_given, by `ensures-1`.
+  pub none-given-only : OneAnswer 𝓤 none-given.ended (none-given.clauses 𝓤 H A mem run)
+  none-given-only κs a g x y = only 𝓤 same (λ answer. answer & refl)
 
   -- files::refused, by `ensures-1`.
   pub refused-only : OneAnswer 𝓤 refused.ended (refused.clauses 𝓤 H A mem run)

@@ -7,7 +7,7 @@ ghost use mathlib.Core.List.{_++_};
 ghost use mathlib.Core.Path.{_≡_};
 ghost use Prim.Native.Nat.{ℕ, _+_, _-_, _≤_};
 ghost use lib.ListN.{length, take, drop};
-ghost use Rattle.files.specs.Answers.{openedBy, IsOpen, filledBytes, noBytes, IsStarted, AreWords, IsLineOf, IsGiven, IsArguments, PutsWord};
+ghost use Rattle.files.specs.Answers.{openedBy, IsOpen, filledBytes, noBytes, IsStarted, AreWords, IsLineOf, IsGiven, IsArguments, noneGiven, PutsWord};
 ghost use Rattle.files.specs.Input.{IsNext, IsRead, nextIn, between};
 use libc::STDERR_FILENO;
 use libc::STDIN_FILENO;
@@ -130,6 +130,22 @@ pub fn arguments(line: &mut [u8], help: &[u8]) -> Words
 {
     take_standard();
     words_of(asks_help(), line, help)
+}
+
+// Whether a program that takes no argument goes on: none was given, and no help asked for. Any argument is told as one too many.
+pub fn none_given(tool: &[u8], words: Words, sentence: &[u8]) -> bool
+    ensures { λ r. ⌜ r ≡ noneGiven words ⌝ }
+{
+    match words {
+        Words::Line(bytes) => {
+            if bytes == 0 {
+                return true;
+            }
+            refused(tool, 0, 12, sentence)
+        }
+        Words::Unfit => refused(tool, 0, 12, sentence),
+        Words::Helped => false,
+    }
 }
 
 // Where help is asked for it is printed, and there is no line.

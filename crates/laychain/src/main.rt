@@ -12,7 +12,6 @@ ghost use Rattle.files.specs.Input.{atEnd};
 ghost use Rattle.laychain.specs.Tables.{lineRefusal, tableWith, HoldsChains};
 use chart::Chain;
 use files::Input;
-use files::Words;
 use parsing::ParsedChain;
 use records::CHAIN_BYTES;
 use records::MOST_CHAINS;
@@ -36,23 +35,10 @@ The chain with its master at (0, 0), A at (30000, 0) and B at (0, 40000):
   echo 0 0 30000 0 0 40000 | laychain
 ",
     );
-    match words {
-        Words::Line(n) => by_arguments(n),
-        Words::Unfit => by_arguments(1),
-        Words::Helped => {}
+    let expected = b"no argument was expected; the chains stand on standard input, a line each";
+    if files::none_given(b"laychain", words, expected) {
+        make_table();
     }
-}
-
-fn by_arguments(bytes: usize) {
-    if bytes > 0 {
-        refused(
-            0,
-            12,
-            b"no argument was expected; the chains stand on standard input, a line each",
-        );
-        return;
-    }
-    make_table();
 }
 
 fn make_table() {

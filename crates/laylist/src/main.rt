@@ -10,7 +10,6 @@ ghost use Rattle.listing.specs.Listings.{listingFrom};
 ghost use Rattle.laylist.specs.Walks.{acceptsJob, acceptsTable, BothGood, partBytes, outBytes, BeginsWith, GoesOn};
 use files::Filled;
 use files::Opened;
-use files::Words;
 use listing::Carried;
 use listing::Listed;
 use records::ChainCount;
@@ -52,19 +51,9 @@ is refused prints JOB REFUSED or CHAIN REFUSED alone. A missing file counts as e
   laylist
 ",
     );
-    match words {
-        Words::Line(n) => by_arguments(n),
-        Words::Unfit => by_arguments(1),
-        Words::Helped => {}
+    if files::none_given(b"laylist", words, b"no argument was expected") {
+        list_files();
     }
-}
-
-fn by_arguments(bytes: usize) {
-    if bytes > 0 {
-        files::refused(b"laylist", 0, 12, b"no argument was expected");
-        return;
-    }
-    list_files();
 }
 
 fn list_files() {

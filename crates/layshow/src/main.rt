@@ -9,7 +9,6 @@ ghost use Rattle.shown.specs.Rooms.{textOf, lineRoom};
 ghost use Rattle.layshow.specs.Walks.{recordLines, chainLines, tableLines, fileLines, PutLine, longestJob, longestTable, wholeTable, tableRoom, stretchBytes, outBytes};
 use files::Filled;
 use files::Opened;
-use files::Words;
 use records::ChainCount;
 use shown::Line;
 
@@ -37,19 +36,9 @@ REFUSED, the number and its bytes in hexadecimal behind it. A missing file count
   layshow
 ",
     );
-    match words {
-        Words::Line(n) => by_arguments(n),
-        Words::Unfit => by_arguments(1),
-        Words::Helped => {}
+    if files::none_given(b"layshow", words, b"no argument was expected") {
+        show();
     }
-}
-
-fn by_arguments(bytes: usize) {
-    if bytes > 0 {
-        files::refused(b"layshow", 0, 12, b"no argument was expected");
-        return;
-    }
-    show();
 }
 
 fn show() {

@@ -60,28 +60,22 @@ nothing is appended. Readings of -100 m and -200 m in chain 1, as line 1 of the 
   echo 1 1 1 -10000 -20000 | laywrite
 ",
     );
-    match words {
-        Words::Line(n) => by_arguments(n),
-        Words::Unfit => by_arguments(1),
-        Words::Helped => {}
+    // No log is looked at for the help.
+    if let Words::Helped = words {
+        return;
     }
+    by_log(open_log(), words);
 }
 
 // The log is looked at before anything that is given.
-fn by_arguments(bytes: usize) {
-    let log = open_log();
+fn by_log(log: Log, words: Words) {
     if let Log::Unfit = log {
         return;
     }
-    if bytes > 0 {
-        refused(
-            0,
-            12,
-            b"no argument was expected; the records stand on standard input, a line each",
-        );
-        return;
+    let expected = b"no argument was expected; the records stand on standard input, a line each";
+    if files::none_given(b"laywrite", words, expected) {
+        write_log(log);
     }
-    write_log(log);
 }
 
 fn open_log() -> Log {
