@@ -16,6 +16,10 @@ use libc::STDOUT_FILENO;
 // The longest line, with its newline.
 pub const LINE_BYTES: usize = 65_535;
 
+// A loop over a file takes a stretch of 65,536 bytes a turn, but for the last, and must be proved to end: it counts the turns down
+// from here. No file has 2^64 stretches, so that it ends before they do.
+pub const MOST_STRETCHES: u64 = u64::MAX;
+
 // A file to read. Why opening it failed has been told.
 pub enum Opened {
     File(i32),
@@ -109,18 +113,25 @@ fn start_of(file: Opened, name: &[u8], buffer: &mut [u8]) -> Filled
     }
 }
 
-// Whether all of a text was written to standard output. Why it was not has been told.
+// Whether all of some bytes were written to a file. Why they were not has been told.
+pub fn write(name: &[u8], file: i32, s: &[u8]) -> bool
+    ensures { λ r. ⌜ (length (now (s .entry)) ≡ 0 → r ≡ true) ⌝ }
+{
+    if s.len() == 0 {
+        return true;
+    }
+    if io::write_all(file, s) {
+        return true;
+    }
+    os::fail(name);
+    false
+}
+
+// The same of a text and standard output.
 pub fn print(text: &[u8]) -> bool
     ensures { λ r. ⌜ (length (now (text .entry)) ≡ 0 → r ≡ true) ⌝ }
 {
-    if text.len() == 0 {
-        return true;
-    }
-    if io::write_all(STDOUT_FILENO, text) {
-        return true;
-    }
-    os::fail(b"standard output");
-    false
+    write(b"standard output", STDOUT_FILENO, text)
 }
 
 // The arguments of the program, with single spaces between them, as one line: none of them may be empty or have a blank in it.

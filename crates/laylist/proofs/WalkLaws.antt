@@ -25,10 +25,10 @@ use Rattle.listing.specs.Listings.{Part, linesFrom, listingBy, listingFrom, has
 use Rattle.listing.proofs.Theorems.{in-parts}
 use Rattle.laylist.specs.declared.Next.{Next}
 use Rattle.laylist.specs.declared.Next.the-variants as follows
-use Rattle.laylist.specs.Walks.{acceptsJob, acceptsTable, BothGood, partBytes, outBytes, BeginsWith, GoesOn}
+use Rattle.laylist.specs.Walks.{acceptsJob, acceptsTable, BothGood, partBytes, partRoom, BeginsWith, GoesOn}
 
 -- A part in its buffer.
-module _ (out part : List ℕ) (size : length out ≡ outBytes) (few : length part ≤ partBytes) (p : Part) where
+module _ (out part : List ℕ) (size : length out ≡ partRoom) (few : length part ≤ partBytes) (p : Part) where
   roomy : hasRoom (length out) part ≡ true
   roomy = lt-ltb (length part / logBytes) (length out / _) (omega arith)
 

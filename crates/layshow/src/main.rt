@@ -6,7 +6,7 @@ ghost use lib.ListN.{length};
 ghost use Rattle.text.specs.Puts.{Put};
 ghost use Rattle.shown.specs.Lines.{jobLine, chainLine, recordLine};
 ghost use Rattle.shown.specs.Rooms.{textOf, lineRoom};
-ghost use Rattle.layshow.specs.Walks.{recordLines, chainLines, tableLines, fileLines, PutLine, longestJob, longestTable, wholeTable, tableRoom, stretchBytes, outBytes};
+ghost use Rattle.layshow.specs.Walks.{recordLines, chainLines, tableLines, fileLines, PutLine, longestJob, longestTable, wholeTable, tableRoom, stretchBytes, stretchRoom};
 use files::Filled;
 use files::Opened;
 use records::ChainCount;
@@ -16,7 +16,7 @@ use shown::Line;
 const STRETCH_BYTES: usize = 65_536;
 
 // Room for a line of each record in it. Job and table take less.
-const OUT_BYTES: usize = STRETCH_BYTES / records::LOG_BYTES
+const STRETCH_ROOM: usize = STRETCH_BYTES / records::LOG_BYTES
     * (shown::LINE_ROOM + 2 * records::LOG_BYTES);
 
 fn main() {
@@ -56,13 +56,13 @@ fn show() {
 }
 
 // The buffer for the text. Its many bytes are made in a function of their own, so that only their number is known elsewhere.
-fn out_buffer() -> [u8; OUT_BYTES] {
-    [0u8; OUT_BYTES]
+fn out_buffer() -> [u8; STRETCH_ROOM] {
+    [0u8; STRETCH_ROOM]
 }
 
 // What is shown of job and table is written out before the log is opened, which may fail.
 fn show_files(out: &mut [u8], job: &[u8], table: &[u8])
-    requires { ⌜ (length (now out) ≡ outBytes) × (length (now job) ≤ longestJob) × (length (now table) ≤ longestTable) ⌝ }
+    requires { ⌜ (length (now out) ≡ stretchRoom) × (length (now job) ≤ longestJob) × (length (now table) ≤ longestTable) ⌝ }
 {
     let n = put_files(out, job, table);
     if files_printed(&out[..n], job, table) {
@@ -78,7 +78,7 @@ fn files_printed(text: &[u8], job: &[u8], table: &[u8]) -> bool
 }
 
 fn put_files(out: &mut [u8], job: &[u8], table: &[u8]) -> usize
-    requires { ⌜ (length (now out) ≡ outBytes) × (length (now job) ≤ longestJob) × (length (now table) ≤ longestTable) ⌝ }
+    requires { ⌜ (length (now out) ≡ stretchRoom) × (length (now job) ≤ longestJob) × (length (now table) ≤ longestTable) ⌝ }
     ensures { λ r. ⌜ Put (now (out .entry)) 0 (fileLines (now (job .entry)) (now (table .entry))) (now (out .exit)) r ⌝ }
 {
     let end = put_job(out, 0, job);
@@ -139,15 +139,14 @@ fn after(at: usize, line: Line) -> usize
     }
 }
 
-// The lines of the log, stretch by stretch. Every turn but the last takes 65,536 bytes of it, and no log has 2^64 times as
-// many: it ends before the turns do.
+// The lines of the log, stretch by stretch.
 fn show_log(out: &mut [u8])
-    requires { ⌜ length (now out) ≡ outBytes ⌝ }
+    requires { ⌜ length (now out) ≡ stretchRoom ⌝ }
 {
     let Opened::File(log) = files::open(b"lay.dat") else {
         return;
     };
-    let mut turns = u64::MAX;
+    let mut turns = files::MOST_STRETCHES;
     while turns > 0 {
         if !show_stretch(out, log) {
             return;
@@ -159,7 +158,7 @@ fn show_log(out: &mut [u8])
 // Reads a stretch of the log, shows it, and writes all its lines out before the next is read, which may fail. Answers whether
 // there may be a next one.
 fn show_stretch(out: &mut [u8], log: i32) -> bool
-    requires { ⌜ length (now out) ≡ outBytes ⌝ }
+    requires { ⌜ length (now out) ≡ stretchRoom ⌝ }
 {
     let mut stretch = io::large_buffer();
     let Filled::Bytes(n) = files::fill(b"lay.dat", log, &mut stretch) else {
@@ -172,7 +171,7 @@ fn show_stretch(out: &mut [u8], log: i32) -> bool
 }
 
 fn show_records(out: &mut [u8], log: &[u8]) -> bool
-    requires { ⌜ (length (now out) ≡ outBytes) × (length (now log) ≤ stretchBytes) ⌝ }
+    requires { ⌜ (length (now out) ≡ stretchRoom) × (length (now log) ≤ stretchBytes) ⌝ }
 {
     let n = put_records(out, log);
     records_printed(&out[..n], log)
@@ -186,7 +185,7 @@ fn records_printed(text: &[u8], log: &[u8]) -> bool
 }
 
 fn put_records(out: &mut [u8], log: &[u8]) -> usize
-    requires { ⌜ (length (now out) ≡ outBytes) × (length (now log) ≤ stretchBytes) ⌝ }
+    requires { ⌜ (length (now out) ≡ stretchRoom) × (length (now log) ≤ stretchBytes) ⌝ }
     ensures { λ r. ⌜ Put (now (out .entry)) 0 (recordLines (now (log .entry))) (now (out .exit)) r ⌝ }
 {
     let mut end = 0;

@@ -39,7 +39,7 @@ enum Copying {
 }
 
 // Records are written out when so many bytes of them wait.
-const OUT_BYTES: usize = 65_536;
+const WAIT_BYTES: usize = 65_536;
 
 fn main() {
     // Any argument is one too many.
@@ -138,7 +138,7 @@ fn make_scratch() -> i32 {
 // Whether every line was accepted, and its record written to the scratch file.
 fn read_records(scratch: i32) -> bool {
     let mut buffer = [0u8; files::LINE_BYTES];
-    let mut out = [0u8; OUT_BYTES];
+    let mut out = [0u8; WAIT_BYTES];
     let Records::Waiting(n) = each_line(&mut buffer, &mut out, scratch) else {
         return false;
     };
@@ -237,11 +237,7 @@ fn put(out: &mut [u8], at: usize, bytes: &[u8]) -> Records
 
 // Whether all of some bytes are in the scratch file.
 fn written(scratch: i32, bytes: &[u8]) -> bool {
-    if io::write_all(scratch, bytes) {
-        return true;
-    }
-    os::fail(b"lay.dat.XXXXXX");
-    false
+    files::write(b"lay.dat.XXXXXX", scratch, bytes)
 }
 
 // Appends the scratch file to the log, wholly or not at all.
@@ -288,9 +284,8 @@ fn copied(scratch: i32, file: i32) -> bool {
     true
 }
 
-// Every turn but the last copies 65,536 bytes, and no file has 2^64 times as many: it ends before the turns do.
 fn copy_all(scratch: i32, file: i32) -> bool {
-    let mut turns = u64::MAX;
+    let mut turns = files::MOST_STRETCHES;
     while turns > 0 {
         let c = copy_some(scratch, file);
         if let Copying::All = c {
@@ -312,8 +307,7 @@ fn copy_some(scratch: i32, file: i32) -> Copying {
     if n == 0 {
         return Copying::All;
     }
-    if !io::write_all(file, &bytes[0..n]) {
-        os::fail(b"lay.dat");
+    if !files::write(b"lay.dat", file, &bytes[0..n]) {
         return Copying::Failed;
     }
     Copying::Some
