@@ -258,7 +258,7 @@ fn put_argument(line: &mut [u8], at: usize, i: usize) -> Words
 
 // The next line of the text between two places of the buffer, of which more is read where there is no whole line. Text that
 // stops before the buffer does is the last. So the first line is the next one of no text at the end of the buffer, and after a
-// line the text begins behind its newline.
+// line the text begins behind its newline. With its newline a line is as long as the buffer at most.
 pub fn next_line(buffer: &mut [u8], from: usize, to: usize) -> Input
     ensures { λ r. ⌜ IsNext (now (buffer .entry)) from to (now (buffer .exit)) r ⌝ }
 {
