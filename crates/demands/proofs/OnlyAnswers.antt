@@ -50,6 +50,7 @@ use Rattle.records.proofs.raw_chain as raw-chain
 use Rattle.records.proofs.raw_job as raw-job
 use Rattle.records.proofs.formed_job as formed-job
 use Rattle.records.proofs.job_of as job-of
+use Rattle.records.proofs.piece_end as piece-end
 use Rattle.writing.proofs.write as write
 use Rattle.writing.proofs.write_chain as write-chain
 use Rattle.writing.proofs.write_job as write-job
@@ -68,6 +69,7 @@ use Rattle.shown.proofs.job as shown-job
 use Rattle.shown.proofs.chain as shown-chain
 use Rattle.shown.proofs.record as shown-record
 use Rattle.shown.proofs.expected as shown-expected
+use Rattle.files.proofs.none_given as none-given
 use Rattle.files.proofs.refused as refused
 use Rattle.listing.proofs.list as list
 use Rattle.lay.proofs.lay_version as lay-version
@@ -235,6 +237,10 @@ module _ {M : Type 1} (𝓤 : URA M) (H : Heap 𝓤) (A : Atoms 𝓤) (mem : Mem
   pub job-of-only : OneAnswer 𝓤 job-of.ended (job-of.clauses 𝓤 H A mem run)
   job-of-only κs a g x y = only 𝓤 same (λ answer. answer & refl)
 
+  -- records::piece_end, by `ensures-1`.
+  pub piece-end-only : OneAnswer 𝓤 piece-end.ended (piece-end.clauses 𝓤 H A mem run)
+  piece-end-only κs a g x y = only 𝓤 same (λ answer. answer & refl)
+
   -- writing::write, by `ensures-answer`, `ensures-buffer`.
   pub write-only : OneAnswer 𝓤 write.ended (write.clauses 𝓤 H A mem run)
   write-only κs a g x y = only 𝓤 (same beside same) (λ (answer, buffer). answer & buffer & refl)
@@ -306,6 +312,10 @@ module _ {M : Type 1} (𝓤 : URA M) (H : Heap 𝓤) (A : Atoms 𝓤) (mem : Mem
   -- shown::expected, by `ensures-answer`, `ensures-out`.
   pub shown-expected-only : OneAnswer 𝓤 shown-expected.ended (shown-expected.clauses 𝓤 H A mem run)
   shown-expected-only κs a g x y = only 𝓤 (same beside same) (λ (answer, out). answer & out & refl)
+
+  -- files::none_given, by `ensures-1`.
+  pub none-given-only : OneAnswer 𝓤 none-given.ended (none-given.clauses 𝓤 H A mem run)
+  none-given-only κs a g x y = only 𝓤 same (λ answer. answer & refl)
 
   -- files::refused, by `ensures-1`.
   pub refused-only : OneAnswer 𝓤 refused.ended (refused.clauses 𝓤 H A mem run)

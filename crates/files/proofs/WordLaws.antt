@@ -71,3 +71,7 @@ given-line true line r same = subst⁻¹ (IsArguments line) same tt
 given-line false line (words.Line n) given = (given .1 .0, (given .0, given .1 .1))
 given-line false line words.Unfit given = tt
 given-line false line words.Helped given = tt
+
+-- The line of the arguments ends in its buffer.
+pub line-inside : (line : List ℕ) (r : Words) {n : ℕ} → IsArguments line r → r ≡ words.Line n → n ≤ length line
+line-inside line r given is = subst (IsArguments line) is given .0

@@ -67,6 +67,12 @@ IsArguments line (words.Line n) = (n ≤ length line) × ((count : ℕ) × AreWo
 IsArguments line words.Unfit = Unit {0}
 IsArguments line words.Helped = Unit {0}
 
+-- None was given, and no help asked for.
+abbrev pub noneGiven : Words → Bool
+noneGiven (words.Line n) = eqb n 0
+noneGiven words.Unfit = false
+noneGiven words.Helped = false
+
 -- A word was put into a line behind what stood before a place, up to where it ends.
 abbrev pub PutsWord : List ℕ → ℕ → List ℕ → Words → Type 0
 PutsWord before at now (words.Line end) = (end ≤ length now) × ((take at now ≡ take at before) × (isOneWord (take (end - at) (drop at now)) ≡ true))

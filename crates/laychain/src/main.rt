@@ -8,11 +8,10 @@ ghost use lib.ListN.{length};
 ghost use Rattle.records.specs.ChainTables.{chainBytes, mostChains};
 ghost use Rattle.parsing.specs.Parsed.{parsedChain};
 ghost use Rattle.parsing.specs.declared.ParsedChain.the-variants as parsed;
-ghost use Rattle.lines.specs.Input.{atEnd};
+ghost use Rattle.files.specs.Input.{atEnd};
 ghost use Rattle.laychain.specs.Tables.{lineRefusal, tableWith, HoldsChains};
 use chart::Chain;
-use files::Words;
-use lines::Input;
+use files::Input;
 use parsing::ParsedChain;
 use records::CHAIN_BYTES;
 use records::MOST_CHAINS;
@@ -36,23 +35,10 @@ The chain with its master at (0, 0), A at (30000, 0) and B at (0, 40000):
   echo 0 0 30000 0 0 40000 | laychain
 ",
     );
-    match words {
-        Words::Line(n) => by_arguments(n),
-        Words::Unfit => by_arguments(1),
-        Words::Helped => {}
+    let expected = b"no argument was expected; the chains stand on standard input, a line each";
+    if files::none_given(b"laychain", words, expected) {
+        make_table();
     }
-}
-
-fn by_arguments(bytes: usize) {
-    if bytes > 0 {
-        refused(
-            0,
-            12,
-            b"no argument was expected; the chains stand on standard input, a line each",
-        );
-        return;
-    }
-    make_table();
 }
 
 fn make_table() {
@@ -79,7 +65,7 @@ fn read_chains(buffer: &mut [u8], table: &mut [u8]) -> usize
     let mut count = 0;
     let mut well = true;
     while count <= MOST_CHAINS {
-        let input = lines::next(buffer, from, to);
+        let input = files::next_line(buffer, from, to);
         let Input::Line { start, end, stop } = input else {
             return ended(input, count, well);
         };

@@ -6,7 +6,7 @@ use mathlib.Core.Path.{_≡_, sym, ap, _∙_}
 use native.Mathlib.Omega.{arith}
 use borrow.Author.Tests.{le-leb}
 use lib.ListN.{length, take, drop, take-append-drop, length-append, length-drop}
-use lib.Seq.{length-take-le, take-at, drop-append-le, drop-drop}
+use lib.Seq.{length-take-le, drop-append-le, drop-drop}
 use Rattle.text.specs.Puts.{Put}
 use Rattle.text.proofs.PutLaws.{put-length}
 use Rattle.shown.specs.declared.Line.{Line}
@@ -54,11 +54,6 @@ module _ (o : List ℕ) (at bytes : ℕ) (fits : at + lineRoom bytes ≤ length 
         short = omega (arith, ends, short, room-long);
       }
 
--- A text at the start of a buffer is what the buffer begins with.
-pub begins : {o x o′ : List ℕ} {end : ℕ} → Put o 0 x o′ end → take end o′ ≡ x
-begins {o} {x} {o′} {end} p =
-    let size : length x ≡ end = omega (arith, p .end-is) in
-    ap (take end) (p .now-is) ∙ take-at x (drop (0 + length x) o) end size
-
+-- A text that was put ends in its buffer.
 pub ends-within : {o : List ℕ} {at : ℕ} {x o′ : List ℕ} {end : ℕ} → Put o at x o′ end → end ≤ length o′
 ends-within p = omega (arith, p .fits, p .end-is, put-length p)

@@ -8,7 +8,7 @@ ghost use Rattle.fields.specs.Fields.{fieldAt};
 ghost use Rattle.metres.specs.Metres.{centimetresOf};
 ghost use Rattle.records.specs.declared.JobAnswer.the-variants as answer;
 ghost use Rattle.records.specs.declared.LogEntry.the-variants as entry;
-ghost use Rattle.records.specs.Bytes.{byteAt, numberIn, areZero};
+ghost use Rattle.records.specs.Bytes.{byteAt, numberIn, areZero, pieceEnd};
 ghost use Rattle.records.specs.LogRecords.{logBytes, rawRecordOf, isHyperbolic, isGrid, isHold, logRecordOf, isPlace, placed, pairOf, withPair, logEntryOf};
 ghost use Rattle.records.specs.ChainTables.{chainBytes, isTable, oneTo, chainCountOf, placeAt, chainAt, rawChainOf, chainOf};
 ghost use Rattle.records.specs.Jobs.{jobBytes, jobIn, rawJobOf, formedJobOf, acceptedJob, jobOf};
@@ -243,6 +243,19 @@ fn accepted(j: Job) -> JobAnswer
         return JobAnswer::Refused(7);
     }
     JobAnswer::Job(j)
+}
+
+// Where the piece of so many bytes ends that begins at done, in a text of so many in all: the last may be shorter.
+pub fn piece_end(done: usize, bytes: usize, length: usize) -> usize
+    ensures { λ r. ⌜ r ≡ pieceEnd done bytes length ⌝ }
+{
+    if bytes > length {
+        return length;
+    }
+    if done > length - bytes {
+        return length;
+    }
+    done + bytes
 }
 
 fn gathered(s: &[u8]) -> RawRecord

@@ -6,8 +6,8 @@ use mathlib.Core.Path.{_≡_}
 use lib.Dec.{ltb}
 use lib.ListN.{length, take, drop}
 use Rattle.parsing.specs.Words.{run, isInLine}
-use Rattle.lines.specs.declared.Input.{Input}
-use Rattle.lines.specs.declared.Input.the-variants as input
+use Rattle.files.specs.declared.Input.{Input}
+use Rattle.files.specs.declared.Input.the-variants as input
 
 -- The text of a buffer from one place on, up to another.
 abbrev pub between : ℕ → ℕ → List ℕ → List ℕ

@@ -1,14 +1,14 @@
--- `lines::read_more` keeps the text at the front, and what comes next goes by the buffer after the read.
+-- `files::read_more` keeps the text at the front, and what comes next goes by the buffer after the read.
 use Prim.Native.Nat.{_+_, _≤_}
 use mathlib.Core.Path.{ap, refl}
 use native.Mathlib.Omega.{arith}
 use borrow.Author.Needs.{needs}
 use lib.ListN.{length}
 use Rattle.files.specs.Answers.{filledBytes}
-use Rattle.lines.specs.Input.{failed, read}
-use Rattle.lines.proofs.LineLaws.{text-size, is-read}
-use Rattle.lines.proofs.read_more.Statement.{statement}
-use Rattle.lines.proofs.read_more.Tie as tie
+use Rattle.files.specs.Input.{failed, read}
+use Rattle.files.proofs.LineLaws.{text-size, is-read}
+use Rattle.files.proofs.read_more.Statement.{statement}
+use Rattle.files.proofs.read_more.Tie as tie
 
 front-requires : tie.Need-front-requires
 front-requires c κs = search needs

@@ -1,12 +1,12 @@
--- `lines::next_in` counts up to the first newline of the text.
+-- `files::next_in` counts up to the first newline of the text.
 use borrow.Author.Needs.{needs}
 use Prim.Native.Nat.{ℕ, _+_}
 use mathlib.Core.Path.{_≡_, ap, _∙_}
 use native.Mathlib.Omega.{arith}
-use Rattle.lines.specs.declared.Input.the-variants as input
-use Rattle.lines.proofs.LineLaws.{newlineIn, next-line, next-cut, next-end}
-use Rattle.lines.proofs.next_in.Statement.{statement}
-use Rattle.lines.proofs.next_in.Tie as tie
+use Rattle.files.specs.declared.Input.the-variants as input
+use Rattle.files.proofs.LineLaws.{newlineIn, next-line, next-cut, next-end}
+use Rattle.files.proofs.next_in.Statement.{statement}
+use Rattle.files.proofs.next_in.Tie as tie
 
 returns : tie.Need-returns
 returns c =

@@ -12,10 +12,10 @@ use lib.ListN.{length, take, drop, length-take, length-drop}
 use lib.Seq.{take-at}
 use types.Run.{OneOf}
 use Rattle.parsing.specs.Words.{run, isInLine}
-use Rattle.lines.specs.Input.{between, hasNewline, nextIn, atEnd, Comes, failed, read, IsRead, isThere, NextBy, IsNext}
-use Rattle.lines.specs.declared.Input.{Input}
-use Rattle.lines.specs.declared.Input.the-variants as input
-use Rattle.lines.proofs.Input.{the-type}
+use Rattle.files.specs.Input.{between, hasNewline, nextIn, atEnd, Comes, failed, read, IsRead, isThere, NextBy, IsNext}
+use Rattle.files.specs.declared.Input.{Input}
+use Rattle.files.specs.declared.Input.the-variants as input
+use Rattle.files.proofs.Input.{the-type}
 
 pub text-size : (b : List ℕ) (from to : ℕ) → to ≤ length b → length (between from to b) ≡ to - from
 text-size b from to h = length-take (to - from) _ ∙ omega (arith, length-drop from b)
