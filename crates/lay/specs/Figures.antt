@@ -206,8 +206,8 @@ abbrev pub partOf : ListedFigures → List ℕ
 partOf f = halves (f .length) ++ (f .carried .held ∷ f .carried .place .easting ∷ f .carried .place .northing ∷ [])
 
 -- The place carried to a part, from the same five numbers.
-abbrev pub carriedBy : List ℕ → Carried
-carriedBy part = carriedIn (getD part 2 0) (getD part 3 0) (getD part 4 0)
+abbrev pub carriedTo : List ℕ → Carried
+carriedTo part = carriedIn (getD part 2 0) (getD part 3 0) (getD part 4 0)
 
 -- All that the listing of a log, or of a further part of one, tells: its figures, and every byte of its buffer.
 pub record ListTold : Type 0 where
@@ -216,5 +216,5 @@ pub record ListTold : Type 0 where
 
 abbrev pub listTold : List ℕ → List ℕ → List ℕ → List ℕ → List ℕ → ListTold
 listTold text job table log part =
-    let left = listLeft text job table log (carriedBy part) in
+    let left = listLeft text job table log (carriedTo part) in
     record { figures = listedFigures (left .answer); text = left .buffer }
