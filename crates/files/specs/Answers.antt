@@ -73,6 +73,12 @@ noneGiven (words.Line n) = eqb n 0
 noneGiven words.Unfit = false
 noneGiven words.Helped = false
 
+-- The arguments of a program that takes none: a line of a byte at most.
+abbrev pub IsSpare : Words → Type 0
+IsSpare (words.Line n) = n ≤ 1
+IsSpare words.Unfit = Unit {0}
+IsSpare words.Helped = Unit {0}
+
 -- A word was put into a line behind what stood before a place, up to where it ends.
 abbrev pub PutsWord : List ℕ → ℕ → List ℕ → Words → Type 0
 PutsWord before at now (words.Line end) = (end ≤ length now) × ((take at now ≡ take at before) × (isOneWord (take (end - at) (drop at now)) ≡ true))

@@ -7,7 +7,7 @@ ghost use mathlib.Core.List.{_++_};
 ghost use mathlib.Core.Path.{_≡_};
 ghost use Prim.Native.Nat.{ℕ, _+_, _-_, _≤_};
 ghost use lib.ListN.{length, take, drop};
-ghost use Rattle.files.specs.Answers.{openedBy, IsOpen, filledBytes, noBytes, IsStarted, AreWords, IsLineOf, IsGiven, IsArguments, noneGiven, PutsWord};
+ghost use Rattle.files.specs.Answers.{openedBy, IsOpen, filledBytes, noBytes, IsStarted, AreWords, IsLineOf, IsGiven, IsArguments, IsSpare, noneGiven, PutsWord};
 ghost use Rattle.files.specs.Input.{IsNext, IsRead, nextIn, between};
 use libc::STDERR_FILENO;
 use libc::STDIN_FILENO;
@@ -141,6 +141,14 @@ pub fn arguments(line: &mut [u8], help: &[u8]) -> Words
 {
     take_standard();
     words_of(asks_help(), line, help)
+}
+
+// The arguments of a program that takes none. Any is one too many, so a line of a byte is room enough for what there is to see.
+pub fn no_arguments(help: &[u8]) -> Words
+    ensures { λ r. ⌜ IsSpare r ⌝ }
+{
+    let mut none = [0u8; 1];
+    arguments(&mut none, help)
 }
 
 // Whether a program that takes no argument goes on: none was given, and no help asked for. Any argument is told as one too many.

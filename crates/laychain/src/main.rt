@@ -18,10 +18,7 @@ use records::MOST_CHAINS;
 use records::TABLE_BYTES;
 
 fn main() {
-    // Any argument is one too many.
-    let mut none = [0u8; 1];
-    let words = files::arguments(
-        &mut none,
+    let words = files::no_arguments(
         b"laychain writes chain.dat, the table of station chains, in place of the one in this folder.
 
 Each line of standard input is a chain, 1 to 16 of them, the first one chain 1:

@@ -34,10 +34,7 @@ const PART_BYTES: usize = 128 * records::LOG_BYTES;
 const PART_ROOM: usize = 129 * listing::LONGEST_LINE;
 
 fn main() {
-    // Any argument is one too many.
-    let mut none = [0u8; 1];
-    let words = files::arguments(
-        &mut none,
+    let words = files::no_arguments(
         b"laylist lists a lay log: it reads job.dat, chain.dat and lay.dat in this folder, and prints a line a record.
 
   LINE FIX COUNT VISITS E N E N ..    the places that two readings allow, in chart order
@@ -47,6 +44,7 @@ fn main() {
 
 LINE is the record's line number; eastings and northings are in centimetres. A job or table that
 is refused prints JOB REFUSED or CHAIN REFUSED alone. A missing file counts as empty.
+By bin/laylist a folder elsewhere can be listed: bin/laylist FOLDER.
 
   laylist
 ",

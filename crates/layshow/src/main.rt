@@ -20,10 +20,7 @@ const STRETCH_ROOM: usize = STRETCH_BYTES / records::LOG_BYTES
     * (shown::LINE_ROOM + 2 * records::LOG_BYTES);
 
 fn main() {
-    // Any argument is one too many.
-    let mut none = [0u8; 1];
-    let words = files::arguments(
-        &mut none,
+    let words = files::no_arguments(
         b"layshow prints what job.dat, chain.dat and lay.dat in this folder hold, as layjob, laychain and laywrite take it:
 
   JOB E N K T ALLOWANCE        window corner, exponent, tolerance, allowance

@@ -42,10 +42,7 @@ enum Copying {
 const WAIT_BYTES: usize = 65_536;
 
 fn main() {
-    // Any argument is one too many.
-    let mut none = [0u8; 1];
-    let words = files::arguments(
-        &mut none,
+    let words = files::no_arguments(
         b"laywrite appends records to lay.dat, the log in this folder, or begins it where there is none.
 
 Each line of standard input is a record, KIND CHAIN LINE X Y, in centimetres:
