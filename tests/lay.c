@@ -2,9 +2,10 @@
  * the name of its function without `lay_`.
  *
  * Words stand apart by single spaces. Numbers are decimal; BYTES, CHAIN, JOB, TABLE and LOG are lower-case hexadecimal, `-` for
- * none; a chain or a job may be its numbers with commas between instead, as in 0,0,30000,0,0,40000 and 30000,40000,1,0,100; a
- * PATTERN is that of a binary64 number in 16 such digits, the highest first; N.. are any number of numbers. R is the number of
- * the refusal, 0 for none. LENGTH is how many elements a lent buffer or list has, and DIRT what each holds before the call.
+ * none; a CHAIN, and the JOB of a search, may be its numbers with commas between instead, as in 0,0,30000,0,0,40000 and
+ * 30000,40000,1,0,100; a PATTERN is that of a binary64 number in 16 such digits, the highest first; N.. are any number of
+ * numbers. R is the number of the refusal, 0 for none. LENGTH is how many elements a lent buffer or list has, and DIRT what each
+ * holds before the call.
  *
  *   version                                      ->  R
  *   centimetres PATTERN                          ->  R C
@@ -17,7 +18,7 @@
  *   write_job LENGTH DIRT E N K T ALLOWANCE      ->  R BYTES
  *   count_chains BYTES                           ->  R COUNT
  *   chain LENGTH DIRT NUMBER TABLE               ->  R BYTES
- *   read_chain LENGTH DIRT BYTES                 ->  R and every entry of the list
+ *   read_chain LENGTH DIRT CHAIN                 ->  R and every entry of the list
  *   write_chain LENGTH DIRT N..                  ->  R BYTES
  *   list LENGTH DIRT HELD E N JOB TABLE LOG      ->  R TEXTLENGTH HELD E N TEXT, and `kept` where every byte behind the text
  *                                                    holds DIRT, else `touched`
@@ -205,30 +206,30 @@ static void put_fields(const char *numbers, const struct field *fields, size_t c
     }
 }
 
-/* Of a chain, or of a job, which has k in one byte. */
+/* The bytes of a word, or those of its numbers. */
+static struct bytes bytes_by(const struct field *fields, size_t count, char *hex, size_t digits)
+{
+    const char *given = word();
+    if (strchr(given, ',') == NULL)
+        return bytes_in(given);
+    memset(hex, '0', digits);
+    put_fields(given, fields, count, hex);
+    return bytes_in(hex);
+}
 
 static struct bytes chain_bytes(void)
 {
     static const struct field fields[] = {{0, 4}, {4, 4}, {8, 4}, {12, 4}, {16, 4}, {20, 4}};
     static char hex[2 * LAY_CHAIN_BYTES + 1];
-    const char *given = word();
-    if (strchr(given, ',') == NULL)
-        return bytes_in(given);
-    memset(hex, '0', sizeof hex - 1);
-    put_fields(given, fields, sizeof fields / sizeof *fields, hex);
-    return bytes_in(hex);
+    return bytes_by(fields, sizeof fields / sizeof *fields, hex, sizeof hex - 1);
 }
 
+/* A job has k in one byte. */
 static struct bytes job_bytes(void)
 {
     static const struct field fields[] = {{0, 4}, {4, 4}, {8, 1}, {12, 4}, {16, 8}};
     static char hex[2 * LAY_JOB_BYTES + 1];
-    const char *given = word();
-    if (strchr(given, ',') == NULL)
-        return bytes_in(given);
-    memset(hex, '0', sizeof hex - 1);
-    put_fields(given, fields, sizeof fields / sizeof *fields, hex);
-    return bytes_in(hex);
+    return bytes_by(fields, sizeof fields / sizeof *fields, hex, sizeof hex - 1);
 }
 
 static bool all(const uint8_t *at, size_t length, uint8_t value)
