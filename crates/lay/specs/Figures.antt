@@ -108,10 +108,11 @@ stationsTold entries chain = stationsLent entries (rawChainOf chain)
 abbrev pub chainReadings : ℕ
 chainReadings = 2
 
--- The readings expected at a place, in a list of so many entries: 1, then 4, then 5.
+-- The figures of expected readings as a list.
 abbrev pub readingsLent : Figures → Lent ℤ
 readingsLent f = record { refusal = f .refusal; holds = f .a ∷ f .b ∷ [] }
 
+-- The readings expected at a place, in a list of so many entries: 1, then 4, then 5.
 unfoldable pub expectedLent : ℕ → NamedChain → Place → Lent ℤ
 expectedLent entries (named.Chain c) p =
     unless (eqb entries chainReadings) (record { refusal = 1; holds = replicate entries (pos 0) })
@@ -138,6 +139,7 @@ searchedBy c readings (job.Job j) entries =
     record { figures = searchFigures (left .answer); list = left .list }
 searchedBy c readings (job.Refused number) entries = unsearched number entries
 
+-- Before it 1 for the chain, and for readings that are not as many as it has slaves.
 unfoldable pub searchedIn : NamedChain → List ℤ → JobAnswer → ℕ → SearchTold
 searchedIn (named.Chain c) readings j entries =
     unless (eqb (length readings) chainReadings) (unsearched 1 entries) (searchedBy c readings j entries)
