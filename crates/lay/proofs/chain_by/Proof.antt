@@ -1,5 +1,4 @@
 -- `lay::chain_by` meets its contract: the numbers are counted, then read two by two.
-use mathlib.Core.Path.{_≡_}
 use borrow.Author.Tests.{eq-eqb, ne-eqb}
 use borrow.Author.Needs.{needs}
 use Rattle.lay.specs.Figures.{chainBy}
