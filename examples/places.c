@@ -1,19 +1,25 @@
 /* Asks the library, from C, for the places that 01's readings of -100 m and -200 m allow in a window of 2 by 2 cells. */
-#include "desk.h"
+#include "lay.h"
 #include <inttypes.h>
 #include <stdio.h>
 
 int main(void)
 {
+    static const uint32_t stations[LAY_CHAIN_NUMBERS] = {0, 0, 30000, 0, 0, 40000};
+    uint8_t chain[LAY_CHAIN_BYTES], job[LAY_JOB_BYTES];
+    int64_t readings[LAY_CHAIN_READINGS];
     uint32_t list[8];
-    size_t count;
-    uint64_t visits;
-    int64_t a, b;
-    if (desk_centimetres(-100.0, &a) != 0 || desk_centimetres(-200.0, &b) != 0)
+    struct lay_found found;
+    if (lay_version() != LAY_VERSION)
         return 1;
-    uint32_t refusal = desk_search(list, 8, 0, 0, 30000, 0, 0, 40000, a, b, 30000, 40000, 1, 0, 100, &count, &visits);
-    printf("refusal %" PRIu32 ", %zu places, %" PRIu64 " visits\n", refusal, count, visits);
-    for (size_t i = 0; i < count; i++)
+    if (lay_write_chain(chain, sizeof chain, stations, LAY_CHAIN_NUMBERS) != LAY_OK ||
+        lay_write_job(job, sizeof job, 30000, 40000, 1, 0, 100) != LAY_OK ||
+        lay_centimetres(-100.0, &readings[0]) != LAY_OK || lay_centimetres(-200.0, &readings[1]) != LAY_OK)
+        return 1;
+    uint32_t refusal =
+        lay_search(list, 8, chain, sizeof chain, readings, LAY_CHAIN_READINGS, job, sizeof job, &found);
+    printf("refusal %" PRIu32 ", %" PRIu64 " places, %" PRIu64 " visits\n", refusal, found.count, found.visits);
+    for (size_t i = 0; i < found.count; i++)
         printf("%" PRIu32 " %" PRIu32 "\n", list[2 * i], list[2 * i + 1]);
     return 0;
 }

@@ -1,34 +1,57 @@
-// The same from Rust. A slice goes as its pointer and its length, a result as a reference.
-#[link(name = "desk", kind = "static")]
+// The same from Rust. A slice goes as its pointer and its length, a result as a reference, a struct as one with the C layout.
+#[repr(C)]
+#[derive(Default)]
+struct Found {
+    count: u64,
+    visits: u64,
+}
+
+#[link(name = "lay", kind = "static")]
 extern "C" {
-    fn desk_centimetres(metres: f64, centimetres: &mut i64) -> u32;
+    fn lay_centimetres(metres: f64, centimetres: &mut i64) -> u32;
+    fn lay_write_chain(buffer: *mut u8, length: usize, stations: *const u32, stations_length: usize) -> u32;
     #[rustfmt::skip]
-    fn desk_search(
-        list: *mut u32, entries: usize,
-        master_easting: u32, master_northing: u32, a_easting: u32, a_northing: u32, b_easting: u32, b_northing: u32,
-        reading_a: i64, reading_b: i64,
-        corner_easting: u32, corner_northing: u32, k: u32,
-        tolerance: u32, allowance: u64,
-        count: &mut usize, visits: &mut u64,
+    fn lay_write_job(
+        buffer: *mut u8, length: usize, easting: u32, northing: u32, k: u32, tolerance: u32, allowance: u64,
+    ) -> u32;
+    #[rustfmt::skip]
+    fn lay_search(
+        list: *mut u32, entries: usize, chain: *const u8, chain_length: usize, readings: *const i64, readings_length: usize,
+        job: *const u8, job_length: usize, found: &mut Found,
     ) -> u32;
 }
 
 fn centimetres(metres: f64) -> Option<i64> {
     let mut whole = 0;
-    let refusal = unsafe { desk_centimetres(metres, &mut whole) };
+    let refusal = unsafe { lay_centimetres(metres, &mut whole) };
     (refusal == 0).then_some(whole)
+}
+
+fn chain(stations: [u32; 6]) -> Option<[u8; 24]> {
+    let mut chain = [0; 24];
+    let refusal = unsafe { lay_write_chain(chain.as_mut_ptr(), chain.len(), stations.as_ptr(), stations.len()) };
+    (refusal == 0).then_some(chain)
+}
+
+fn job(easting: u32, northing: u32, k: u32, tolerance: u32, allowance: u64) -> Option<[u8; 32]> {
+    let mut job = [0; 32];
+    let refusal = unsafe { lay_write_job(job.as_mut_ptr(), job.len(), easting, northing, k, tolerance, allowance) };
+    (refusal == 0).then_some(job)
 }
 
 fn main() {
     let (Some(a), Some(b)) = (centimetres(-100.0), centimetres(-200.0)) else { return };
-    let (mut list, mut count, mut visits) = ([0; 8], 0, 0);
+    let (Some(chain), Some(job)) = (chain([0, 0, 30000, 0, 0, 40000]), job(30000, 40000, 1, 0, 100)) else { return };
+    let (readings, mut list, mut found) = ([a, b], [0u32; 8], Found::default());
+    #[rustfmt::skip]
     let refusal = unsafe {
-        desk_search(
-            list.as_mut_ptr(), list.len(), 0, 0, 30000, 0, 0, 40000, a, b, 30000, 40000, 1, 0, 100, &mut count, &mut visits,
+        lay_search(
+            list.as_mut_ptr(), list.len(), chain.as_ptr(), chain.len(), readings.as_ptr(), readings.len(),
+            job.as_ptr(), job.len(), &mut found,
         )
     };
-    println!("refusal {refusal}, {count} places, {visits} visits");
-    for place in list[..2 * count].chunks(2) {
+    println!("refusal {refusal}, {} places, {} visits", found.count, found.visits);
+    for place in list[..2 * found.count as usize].chunks(2) {
         println!("{} {}", place[0], place[1]);
     }
 }

@@ -1,6 +1,6 @@
 # What the tests share: counting, and running one of target/bin on this machine.
 set -euo pipefail
-. tests/program.bash
+. bin/program.bash
 passed=0
 
 # pass_if WORDS TEST...: counts the test where it holds, and ends with the words where it does not.

@@ -4,7 +4,7 @@
 #
 #   bash tests/comparison.sh [SEED [FOLDERS [REQUESTS]]]
 cd "$(dirname "$0")/.." && . tests/common.bash && . tests/library.bash
-seed=${1:-20261115} folders=${2:-2100} count=${3:-105000}
+seed=${1:-20261115} folders=${2:-2100} count=${3:-150000}
 
 quietly cargo build --release --offline --manifest-path second/Cargo.toml --target-dir target/second
 second=$repository/target/second/release/second
@@ -51,7 +51,7 @@ pass_if "there are $count requests" [ "$(wc -l <"$requests")" -eq "$count" ]
 ask "$second" answers
 
 # Fewer than the gate's need not meet everything.
-((folders >= 2100 && count >= 105000)) || {
+((folders >= 2100 && count >= 150000)) || {
     done_testing
     exit
 }
@@ -87,12 +87,30 @@ done
 # Every verb, with each refusal that it knows.
 refuses centimetres 0 3
 refuses metres 0 3
-refuses expected 0 4 5
-refuses search 0 3 5 6 7 8 9 10
-refuses record 0 1 2 3 4
-refuses write 0 1 2 3 4 5
-refuses job 0 1 2 6 7
-refuses count 0 1
+refuses expected 0 1 4 5
+refuses search 0 1 2 3 5 6 7 8 9 10
+refuses read_record 0 1 2 3 4
+refuses write_record 0 1 2 3 4 5
+refuses read_job 0 1 2 6 7
+refuses write_job 0 1 6 7
+refuses count_chains 0 1
 refuses chain 0 1 5
+refuses read_chain 0 1 5
+refuses write_chain 0 1 5
 refuses list 0 9
+told version 1
+
+# Searches by numbers and by bytes, and with each length just beside the one that fits.
+lent='[0-9]+ [0-9]+' numbers='[0-9]+(,[0-9]+)+' readings='-?[0-9]+ -?[0-9]+'
+told "search $lent $numbers $numbers $readings" '0 .*'
+told "search $lent [0-9a-f]{48} [0-9a-f]{64} $readings" '0 .*'
+for digits in 46 50 96; do
+    told "search $lent [0-9a-f]{$digits} [^ ]+ $readings" '1 .*'
+done
+for digits in 62 66; do
+    told "search $lent [^ ]+ [0-9a-f]{$digits} $readings" '1 .*'
+done
+for count in 0 1 3; do
+    told "search $lent [^ ]+ [^ ]+( -?[0-9]+){$count}" '1 .*'
+done
 done_testing

@@ -1,7 +1,7 @@
-# How the tests ask the library for C: the harness desk.c over target/staticlib/libdesk.a, built here where it is missing or
+# How the tests ask the library for C: the harness lay.c over target/staticlib/liblay.a, built here where it is missing or
 # older than what it is made of. To be read behind common.bash.
-library=$repository/target/staticlib/libdesk.a
-asking=$repository/target/desk/desk
+library=$repository/target/staticlib/liblay.a
+asking=$repository/target/lay/lay
 
 # It is for x86-64, as the library is; on another machine the compiler has Debian's name for it.
 compiler=gcc
@@ -30,9 +30,9 @@ build_harness() (
     mkdir -p "$(dirname "$asking")"
     exec 9>"$asking.lock"
     flock 9
-    ! older "$library" crates/*/src || quietly rt staticlib desk
-    older "$asking" tests/desk.c crates/desk/desk.h "$library" || return 0
-    quietly "$compiler" -std=c11 -O2 -Wall -Wextra -static -I crates/desk -o "$asking.new" tests/desk.c "$library"
+    ! older "$library" crates/*/src || quietly rt staticlib lay
+    older "$asking" tests/lay.c crates/lay/lay.h "$library" || return 0
+    quietly "$compiler" -std=c11 -O2 -Wall -Wextra -static -I crates/lay -o "$asking.new" tests/lay.c "$library"
     mv "$asking.new" "$asking"
 )
 build_harness

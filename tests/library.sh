@@ -1,17 +1,57 @@
 #!/usr/bin/env bash
-# That the examples of the library, in C and in Rust, are linked as docs/LIBRARY.md says, and print P4 of document 01.
+# That the examples of the library, in C and in Rust, are linked as docs/LIBRARY.md says, and print P4 of document 01; that the
+# header has the numbers of the crates, and no function with ten arguments; and that the library keeps nothing between calls.
 cd "$(dirname "$0")/.." && . tests/common.bash && . tests/library.bash
 listing=$'refusal 0, 2 places, 5 visits\n30000 40000\n30001 40001'
+header=crates/lay/lay.h
 
-quietly "$compiler" -Wall -Wextra -Werror -static -I crates/desk -o "$asked/c" examples/places.c "$library"
+quietly "$compiler" -Wall -Wextra -Werror -static -I crates/lay -o "$asked/c" examples/places.c "$library"
 pass_if 'the example in C prints P4' [ "$("${emulator[@]}" "$asked/c")" = "$listing" ]
 
 # As C++ reads it too, which is the same on every machine.
-pass_if 'desk.h is a header of C++' quietly g++ -x c++ -Wall -Wextra -Werror -fsyntax-only -I crates/desk crates/desk/desk.h
+pass_if 'lay.h is a header of C++' quietly g++ -x c++ -Wall -Wextra -Werror -fsyntax-only -I crates/lay $header
 
 # Off x86-64 Debian's Rust makes no programs for x86-64.
 if [ "$(uname -m)" = x86_64 ]; then
     quietly rustc --edition 2021 -D warnings -L target/staticlib -o "$asked/rust" examples/places.rs
     pass_if 'the example in Rust prints P4' [ "$("$asked/rust")" = "$listing" ]
 fi
+
+# in_header NAME: the number that the header gives to a name; in_crate CRATE NAME: what a constant of a crate is
+in_header() { sed -n "s/^ *$1 = \([0-9]*\)\(,.*\| .*\)\?$/\1/p" $header; }
+in_crate() { sed -n "s/^\(pub \)\?const $2: [a-z0-9]* = \([0-9_]*\);$/\2/p" "crates/$1/src/lib.rt" | tr -d _; }
+same() { [ -n "$1" ] && [ "$1" = "$2" ]; }
+while read -r name crate constant; do
+    pass_if "$name is $crate::$constant" same "$(in_header "$name")" "$(in_crate "$crate" "$constant")"
+done <<'END'
+LAY_RECORD_BYTES records LOG_BYTES
+LAY_CHAIN_BYTES records CHAIN_BYTES
+LAY_JOB_BYTES records JOB_BYTES
+LAY_MOST_CHAINS records MOST_CHAINS
+LAY_LINE_BYTES listing LONGEST_LINE
+LAY_CHAIN_NUMBERS lay CHAIN_NUMBERS
+LAY_CHAIN_READINGS lay CHAIN_READINGS
+LAY_MOST_EASTING chart MOST_EASTING
+LAY_MOST_NORTHING chart MOST_NORTHING
+LAY_MOST_READING search MOST_READING
+LAY_MOST_EXPONENT search MOST_EXPONENT
+LAY_MOST_TOLERANCE search MOST_TOLERANCE
+END
+table=$(($(in_header LAY_CHAIN_BYTES) * $(in_header LAY_MOST_CHAINS)))
+pass_if 'LAY_TABLE_BYTES is that of the most chains' same "$(in_header LAY_TABLE_BYTES)" "$table"
+pass_if 'the library has the version of the header' \
+    same "$(echo version | harness)" "$(sed -n 's/^#define LAY_VERSION \([0-9]*\)$/\1/p' $header)"
+
+# declared: a line for each function of the header, its name and its arguments; exported: the functions that the library has
+declared() { tr '\n' ' ' <$header | grep -oE 'uint32_t lay_[a-z_]+\([^)]*\);' | sed 's/^uint32_t //'; }
+exported() { nm "$library" 2>/dev/null | awk '$2 == "T" { print $3 }' | sort; }
+pass_if 'the header declares what the library has' [ "$(declared | sed 's/(.*//' | sort)" = "$(exported)" ]
+while read -r function; do
+    commas=${function//[^,]/}
+    pass_if "${function%%(*} has fewer than ten arguments" [ ${#commas} -lt 9 ]
+done < <(declared)
+
+# No variable that outlives a call, and nothing called but what fills and copies memory: no file, no heap and no lock.
+pass_if 'the library has no variables' [ -z "$(nm "$library" 2>/dev/null | awk '$2 ~ /^[bBdDcC]$/')" ]
+pass_if 'the library calls on nothing outside' [ -z "$(nm -u "$library" 2>/dev/null | awk '$1 == "U" && $2 !~ /^mem(set|cpy|move)$/')" ]
 done_testing

@@ -1,5 +1,5 @@
 #!/usr/bin/env python3
-"""Listings of lay logs as document 01 says, in whole numbers, and folders to list.
+"""Folders to list, and their listings by rule.py.
 
     listing.py list FOLDER             the listing of the job.dat, chain.dat and lay.dat in a folder
     listing.py examples FOLDER         writes the folders of examples/ into a folder
@@ -8,11 +8,11 @@
     listing.py long FOLDER             writes folders of long logs, and of long lines
     listing.py random SEED FOLDER      writes 200 folders at random
     listing.py memory FOLDER PROGRAM   the most memory, in kilobytes, that a program held when it had listed most of a folder
-    listing.py requests                the folders that have a reason as requests in the words of desk.c, one to a line
+    listing.py requests                the folders that have a reason as requests in the words of lay.c, one to a line
     listing.py answers                 the answers to the requests on standard input
 
 A folder that is written has the three files, or those that its case has, and in `listing` what must be printed of them.
-Records, tables and jobs are read as records.py reads them, and searches answered as search.py answers them.
+Searches are answered as search.py answers them.
 """
 import fcntl
 import os
@@ -23,15 +23,15 @@ from functools import lru_cache
 from itertools import chain, cycle, islice
 from typing import NamedTuple
 
-# The two beside this would else leave compiled files in the tree.
+# Those beside this would else leave compiled files in the tree.
 sys.dont_write_bytecode = True
 import records
+import rule
 import search
+from rule import EAST, NORTH
 
-EAST, NORTH = records.EAST, records.NORTH
 flat = chain.from_iterable
 FILES = "job.dat", "chain.dat", "lay.dat"
-ROOM = 256
 
 
 class Folder(NamedTuple):
@@ -42,79 +42,12 @@ class Folder(NamedTuple):
     log: bytes
 
 
-class Answer(NamedTuple):
-    """What a record answers. The figure is the count of places, or the number of the refusal."""
-
-    word: str
-    figure: int
-    visits: int
-    places: list
+searched = lru_cache(maxsize=None)(search.checked)
 
 
-def given(word, places, visits=0):
-    return Answer(word, len(places), visits, places)
-
-
-def refused(number, visits=0):
-    return Answer("REFUSED", number, visits, [])
-
-
-def pairs(numbers):
-    return list(zip(numbers[0::2], numbers[1::2]))
-
-
-searched = lru_cache(maxsize=None)(search.answer)
-
-
-def fix(question, table, number, wanted):
-    refusal, *stations = records.chain_answer(number, table)
-    if refusal:
-        return refused(refusal)
-    master, a, b = pairs(stations)
-    refusal, visits, places = searched(question._replace(master=master, a=a, b=b, wanted=wanted))
-    return refused(refusal, visits) if refusal else given("FIX", places, visits)
-
-
-def answer(question, table, held, record):
-    """What a record answers; `held` has the place that a hold repeats, or nothing."""
-    refusal, kind, number, _, x, y = records.record_answer(record)
-    if refusal:
-        return refused(refusal)
-    if kind == 3:
-        return given("HOLD", held) if held else refused(11)
-    return given("GRID", [(x, y)]) if kind == 2 else fix(question, table, number, (x, y))
-
-
-def records_of(log):
-    return (log[at : at + 32] for at in range(0, len(log), 32))
-
-
-def lines(question, table, log, held):
-    """A line for each record, with the place that a hold behind it repeats, or nothing."""
-    for record in records_of(log):
-        a = answer(question, table, held, record)
-        held = a.places if len(a.places) == 1 else []
-        line = int.from_bytes(record[4:8], "little") if len(record) == 32 else "-"
-        yield " ".join(map(str, (line, a.word, a.figure, a.visits, *flat(a.places)))), held
-
-
-def listed(folder, held):
-    job, table, log = (content or b"" for content in folder)
-    refusal, easting, northing, k, tolerance, allowance = records.job_answer(job)
-    if refusal:
-        return [(f"JOB REFUSED {refusal}", [])]
-    refusal, _ = records.count_answer(table)
-    if refusal:
-        return [(f"CHAIN REFUSED {refusal}", [])]
-    question = search.P4._replace(
-        corner=(easting, northing), k=k, tolerance=tolerance, allowance=allowance, entries=2 * ROOM
-    )
-    return list(lines(question, table, log, held))
-
-
-def listing(folder):
-    """The lines of a folder's listing."""
-    return [line for line, _ in listed(folder, [])]
+def listed(folder, held=()):
+    """The lines of a folder, each with the place that a hold behind it repeats, or nothing; a missing file counts as empty."""
+    return rule.listing(*(content or b"" for content in folder), held, searched)
 
 
 # Folders to list. A record that gives readings or a place is made from centimetres.
@@ -130,12 +63,12 @@ def place_record(place, line):
 
 def job_of(question):
     """The job that asks a search's question."""
-    return records.job(*question.corner, question.k, tolerance=question.tolerance, allowance=question.allowance)
+    return rule.job_bytes(question.job)
 
 
 def table_of(*questions):
     """The chains of searches, numbered from 1."""
-    return b"".join(records.chain_of(q.master, q.a, q.b) for q in questions)
+    return b"".join(rule.chain_bytes(q.chain) for q in questions)
 
 
 def numbered(*log):
@@ -325,9 +258,9 @@ def numbers():
     yield "digits", three(log=b"".join(sized) + b"".join(records.hold(line=n) for n in edges))
     yield "same_line_number", three(log=(GRID + HOLD + FIX) * 3)
     parts = records.examples, records.kinds, records.numbers, records.zeros, records.limits, records.roundings
-    asked = (request[1] for part in parts for request in part() if request[0] == "record")
+    asked = (request[1] for part in parts for request in part() if request[0] == "read_record")
     yield "records", three(table=records.PAIR, log=b"".join(asked))
-    swept = (request[1] for request in records.sweep() if request[0] == "record")
+    swept = (request[1] for request in records.sweep() if request[0] == "read_record")
     yield "every_byte", three(table=records.PAIR, log=b"".join(swept))
 
 
@@ -441,7 +374,7 @@ def drawn_folder(draw):
     question = search.drawn(draw)
     # more than this takes long where cells are many and few are dropped
     most = 2**64 - 1 if question.k < 6 else 4000
-    _, visits, _ = searched(question._replace(allowance=4000, entries=2 * ROOM))
+    _, visits, _ = searched(question.chain, question.wanted, question.job._replace(allowance=4000), rule.ROOM)
     allowance = draw.choice((visits, max(0, visits - 1), draw.randint(0, 50), most, most))
     question = question._replace(allowance=allowance)
     count = draw.choice((1, 2, 3, 16))
@@ -480,7 +413,7 @@ def request(folder, held=(0, 0, 0), length=None, dirt=165):
 def in_parts(folder):
     """The records one by one, each with the place before it; a number of places other than 0 is taken as 1."""
     held, numbers = (0, 0, 0), cycle((1, 7, 2**32 - 1))
-    for record in records_of(folder.log):
+    for record in rule.pieces(folder.log, 32):
         part = folder._replace(log=record)
         yield request(part, held)
         ((_, place),) = listed(part, [held[1:]] if held[0] else [])
@@ -524,7 +457,7 @@ def write(place, folders):
                 with open(os.path.join(path, file), "wb") as f:
                     f.write(content)
         with open(os.path.join(path, "listing"), "w") as f:
-            f.writelines(line + "\n" for line in listing(folder))
+            f.writelines(line + "\n" for line, _ in listed(folder))
 
 
 def content_of(path):
@@ -562,7 +495,7 @@ def main(words):
     writers = {"examples": examples, "cases": cases, "edges": edges, "long": long}
     if words[:1] == ["list"] and len(words) == 2:
         folder = Folder(*(content_of(os.path.join(words[1], file)) for file in FILES))
-        sys.stdout.writelines(line + "\n" for line in listing(folder))
+        sys.stdout.writelines(line + "\n" for line, _ in listed(folder))
     elif words[:1] == ["random"] and len(words) == 3:
         write(words[2], at_random(int(words[1])))
     elif words == ["requests"]:

@@ -1,7 +1,7 @@
 #!/usr/bin/env bash
-# What laylist prints of folders, against document 01's listing and limits, byte by byte, and against a lister of its own
-# (listing.py); how it ends where a file cannot be read or its listing not be written; and the examples, by `list`. A seed
-# other than the gate's may be given.
+# What laylist prints of folders, against document 01's listing and limits, byte by byte, and against the rule's listing
+# (listing.py); how it ends where a file cannot be read or its listing not be written; and the examples, by bin/laylist. A
+# seed other than the gate's may be given.
 cd "$(dirname "$0")/.." && . tests/common.bash
 seed=${1:-20261115}
 folders=$(mktemp -d)
@@ -247,10 +247,20 @@ unwritten examples/three_records
 unwritten examples/refused_job
 unwritten "$folders/long/records_100000"
 
-# lists FOLDER FILE: that `list` prints of the folder what the file has
-lists() { bash "$repository/list" "$1" >"$printed" && cmp "$printed" "$2"; }
+# by_bin ARGUMENTS...: what bin/laylist prints and says where the test stands, and in `status` how it ended
+laylist=$repository/bin/laylist
+by_bin() {
+    status=0
+    "$laylist" "$@" >"$printed" 2>"$said" || status=$?
+}
 
-# The examples: their files are those that listing.py makes, and `list` lists them as they say.
+# lists FILE ARGUMENTS...: that bin/laylist prints what the file has, and ends with 0
+lists() {
+    by_bin "${@:2}"
+    ended_well && cmp "$printed" "$1"
+}
+
+# The examples: their files are those that listing.py makes, and bin/laylist lists them as they say.
 mkdir "$folders/examples"
 python3 tests/listing.py examples "$folders/examples"
 examples=$(ls "$folders/examples")
@@ -259,35 +269,87 @@ for name in $examples; do
     for file in job.dat chain.dat lay.dat listing; do
         pass_if "examples/$name/$file" cmp "examples/$name/$file" "$folders/examples/$name/$file"
     done
-    pass_if "bash list examples/$name" lists "examples/$name" "examples/$name/listing"
+    pass_if "bin/laylist examples/$name" lists "examples/$name/listing" "examples/$name"
     pass_if "examples/README.md has $name" grep -qF "[$name]($name/README.md)" examples/README.md
 done
 pass_if 'the example of three records is 01'"'"'s' [ "$(<examples/three_records/listing)" = \
     '1 FIX 2 5 30000 40000 30001 40001
 2 GRID 1 0 30001 40000
 3 HOLD 1 0 30001 40000' ]
+pass_if 'the first command of README.md, and what it shows of it' [ "$(sed -n 's/^    //p' README.md | head -n 4)" = \
+    "bin/laylist examples/three_records
+$(<examples/three_records/listing)" ]
 
-# `list` from another folder, with a folder named from there; it ends with 1 where laylist tells of something, and says in a
-# line what is wrong.
-cd examples/every_refusal
-pass_if 'list from another folder' lists ../three_records ../three_records/listing
+# bin/laylist FOLDER from elsewhere. The folder where the test stands has another example, so that it is not listed instead; in it
+# are folders of three records with names that are easily misread.
+three=$repository/examples/three_records/listing
+desk=$folders/desk
+cp -r examples/every_refusal "$desk"
+cd "$desk"
+pass_if 'bin/laylist without a folder' lists "$repository/examples/every_refusal/listing"
+pass_if 'bin/laylist of an absolute path' lists "$three" "$repository/examples/three_records"
+for name in three 'three records' ' three' -three - -- -P --help '*' '~' a/b; do
+    mkdir -p "./$name"
+    cp "$repository/examples/three_records/"*.dat "./$name"
+    [ "$name" = --help ] || pass_if "bin/laylist '$name'" lists "$three" "$name"
+    pass_if "bin/laylist './$name/'" lists "$three" "./$name/"
+    pass_if "bin/laylist '../desk/$name'" lists "$three" "../desk/$name"
+done
+OLDPWD=$repository/examples/refused_job pass_if 'a folder of the name -, and not the one before' lists "$three" -
+pass_if 'bin/laylist .' lists "$repository/examples/every_refusal/listing" .
+cd three
+pass_if 'bin/laylist . of another folder' lists "$three" .
+pass_if 'bin/laylist ..' lists "$repository/examples/every_refusal/listing" ..
+
+# A folder entered by a link: what is above it is above the folder itself. A folder that is a link; bin/laylist called by a link.
+ln -s "$desk/a/b" "$folders/examples/linked"
+cd "$folders/examples/linked"
+cp "$repository/examples/refused_job/"*.dat "$desk/a"
+pass_if 'bin/laylist .. of a folder entered by a link' lists "$repository/examples/refused_job/listing" ..
+cd ..
+pass_if 'bin/laylist of a link to a folder' lists "$three" linked
+ln -s "$laylist" "$folders/laylist"
+laylist=../laylist pass_if 'a link to bin/laylist, by a path from here' lists "$three" linked
+laylist=../laylist pass_if 'a link to bin/laylist, with a path from here' lists "$three" ../desk/three
+
+# CDPATH leads nowhere else, and is not told of: the folder that it would lead to has another example.
+mkdir -p "$folders/other/three"
+cp "$repository/examples/refused_job/"*.dat "$folders/other/three"
+cd "$desk"
+export CDPATH=$folders/other:$repository/examples
+pass_if 'bin/laylist where CDPATH has a folder of that name' lists "$three" three
+by_bin refused_job
+pass_if 'bin/laylist of a folder that only CDPATH has' [ "$status" -eq 2 ]
+unset CDPATH
 cd "$repository"
+
+# It ends with 1 where laylist tells of something.
 put "$job" "$table" none
 mkdir "$folder/lay.dat"
-status=0
-bash list "$folder" >"$printed" 2>"$said" || status=$?
-pass_if 'list tells what laylist tells' tells lay.dat
+by_bin "$folder"
+pass_if 'bin/laylist tells what laylist tells' tells lay.dat
 pass_if 'and ends with 1' [ "$status" -eq 1 ]
-# misused WORDS...: that `list` ends with 2, a line of its own, and no listing
+
+# misused ARGUMENTS...: that bin/laylist ends with 2, a line of its own, and no listing
 misused() {
-    status=0
-    bash list "$@" >"$printed" 2>"$said" || status=$?
-    [ "$status" -eq 2 ] && [ ! -s "$printed" ] && [ "$(wc -l <"$said")" -eq 1 ] && grep -q '^list: ' "$said"
+    by_bin "$@"
+    [ "$status" -eq 2 ] && [ ! -s "$printed" ] && [ "$(wc -l <"$said")" -eq 1 ] && grep -q '^laylist: .* ' "$said"
 }
-pass_if 'list without a folder' misused
-pass_if 'list with two folders' misused examples/three_records examples/refused_job
-pass_if 'list with a folder that does not exist' misused "$folders/nowhere"
-pass_if 'list with a file' misused examples/README.md
+pass_if 'bin/laylist with two folders' misused examples/three_records examples/refused_job
+pass_if 'bin/laylist with a folder and help' misused examples/three_records --help
+pass_if 'bin/laylist with a folder that does not exist' misused "$folders/nowhere"
+pass_if 'its name is told' grep -qF "$folders/nowhere: " "$said"
+pass_if 'bin/laylist with a file' misused examples/README.md
+pass_if 'bin/laylist with a name of no bytes' misused ''
+pass_if 'bin/laylist with an option' misused -l
+
+# Help is the program's, whatever stands behind it and wherever it is asked for.
+program laylist --help >"$folders/help"
+pass_if 'bin/laylist --help' lists "$folders/help" --help
+pass_if 'bin/laylist --help with a folder' lists "$folders/help" --help examples/three_records
+cd "$desk"
+pass_if 'bin/laylist --help beside a folder of that name' lists "$folders/help" --help
+cd "$repository"
 
 # 200 folders at random.
 all_agree random "$seed"

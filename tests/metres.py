@@ -1,16 +1,22 @@
 #!/usr/bin/env python3
-"""Requests about metres and centimetres in the words of desk.c, and their answers, worked out from document 01 in exact
-fractions.
+"""Requests about metres and centimetres in the words of lay.c, and their answers by rule.py, which are also worked out here
+in another way.
 
     metres.py named        the requests that have a reason, one to a line
     metres.py random SEED  1,000 of each of six kinds at random
     metres.py answers      the answers to the requests on standard input
 
-No number here is ever a float: a pattern is taken apart into its fields and becomes a fraction.
+rule.py has Python turn patterns into floats and round. Here a pattern is taken apart into its fields and becomes a fraction,
+a quotient is rounded digit by digit, and where the two ways differ there is no answer.
 """
 import random
+import struct
 import sys
 from fractions import Fraction
+
+# The rule beside this would else leave compiled files in the tree.
+sys.dont_write_bytecode = True
+import rule
 
 DIGITS = 2**52
 NAN = 0x7FF8000000000000
@@ -62,13 +68,22 @@ def metres(number):
     return 0, pattern_of(Fraction(abs(number), 100)) + (MINUS if number < 0 else 0)
 
 
+def same(request, by_rule, apart):
+    """The answer to a request, which the rule and what is worked out apart from it must both have."""
+    if by_rule != apart:
+        sys.exit(f"{request}: by rule.py {by_rule}, here {apart}")
+    return apart
+
+
 def answer_to(line):
     verb, word = line.split()
     if verb == "centimetres":
-        refusal, whole = centimetres(int(word, 16))
-        return f"{refusal} {whole}"
-    refusal, pattern = metres(int(word))
-    return f"{refusal} {pattern:016x}"
+        pattern = int(word, 16)
+        refusal, whole = rule.tried(rule.centimetres, struct.unpack("<d", struct.pack("<Q", pattern))[0])
+        return "{} {}".format(*same(line, (refusal, whole or 0), centimetres(pattern)))
+    refusal, x = rule.tried(rule.metres, int(word))
+    (pattern,) = struct.unpack("<Q", struct.pack("<d", x or 0.0))
+    return "{} {:016x}".format(*same(line, (refusal, pattern), metres(int(word))))
 
 
 def reading(pattern):

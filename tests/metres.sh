@@ -1,6 +1,6 @@
 #!/usr/bin/env bash
-# What the library makes of numbers of metres and of centimetres, against document 01's examples and against the rule in exact
-# fractions (metres.py). A seed other than the gate's may be given.
+# What the library makes of numbers of metres and of centimetres, against document 01's examples and against the rule, worked
+# out in two ways (metres.py, rule.py). A seed other than the gate's may be given.
 cd "$(dirname "$0")/.." && . tests/common.bash && . tests/library.bash
 seed=${1:-20261115}
 

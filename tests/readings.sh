@@ -43,7 +43,7 @@ expected() {
 at() {
     local chain=$1 place
     shift
-    for place in "$@"; do echo "expected $chain $place"; done
+    for place in "$@"; do echo "expected 2 -7 ${chain// /,} $place"; done
 }
 
 near() { (($1 - $2 <= 6 && $2 - $1 <= 6)); }
@@ -77,8 +77,8 @@ corners=('0 0' "$east 0" "0 $north" "$east $north")
 
 # Every answer is what the rule gives.
 by_the_rule() {
-    while read -r _ numbers; do
-        expected $numbers
+    while read -r _ _ _ chain place; do
+        expected ${chain//,/ } $place
         echo "$expected"
     done
 }
@@ -86,7 +86,7 @@ ask by_the_rule
 
 # Document 01's examples, chain 1: place, then readings A and B.
 while IFS=: read -r place answer; do
-    told "expected $first $place" "0 $answer"
+    told "expected 2 -7 ${first// /,} $place" "0 $answer"
 done <<'END'
 30000 40000:-10000 -20000
 30001 40000:-10000 -19999
@@ -98,7 +98,7 @@ END
 # the tenth of a metre, so 6 off is the most that rounding and the cut explain.
 while read -r line; do
     set -- $line
-    found=$(sed -n "s/^expected $paper $1 $2:0 //p" "$both")
+    found=$(sed -n "s/^expected 2 -7 ${paper// /,} $1 $2:0 //p" "$both")
     pass_if "002's reading A at ($1, $2): $found" near "${found% *}" "$3"
     pass_if "002's reading B at ($1, $2): $found" near "${found#* }" "$4"
 done <<'END'
@@ -113,8 +113,22 @@ done <<'END'
 END
 
 # Readings beyond 1,000,000,000 in size are given, at both signs; each refusal is there.
-told "expected 0 0 $east $north $east 0 0 0" '0 1004987562 100000000'
-told "expected $east $north 0 0 0 $north 0 0" '0 -1004987562 -4987562'
+told "expected 2 -7 0,0,$east,$north,$east,0 0 0" '0 1004987562 100000000'
+told "expected 2 -7 $east,$north,0,0,0,$north 0 0" '0 -1004987562 -4987562'
 pass_if 'seven places refused' [ "$(grep -c '^4 0 0$' "$answers")" -eq 7 ]
 pass_if 'nine chains refused' [ "$(grep -c '^5 0 0$' "$answers")" -eq 9 ]
+
+# Lists and chains of other lengths, before a place out of range and a chain that is not sound. The list held -7.
+chain=0000000000000000307500000000000000000000409c0000
+cat >"$requests" <<END
+expected 2 -7 $chain 30000 40000
+expected 0 -7 $chain 30000 40000
+expected 1 -7 $chain 100000001 40000
+expected 3 -7 0,0,0,0,0,40000 30000 40000
+expected 2 -7 ${chain}00 100000001 40000
+expected 2 -7 ${chain%00} 30000 40000
+expected 2 -7 - 30000 40000
+END
+printf '%s\n' '0 -10000 -20000' 1 '1 0' '1 0 0 0' '1 0 0' '1 0 0' '1 0 0' >"$asked/literal"
+ask cat "$asked/literal"
 done_testing

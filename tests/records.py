@@ -1,6 +1,5 @@
 #!/usr/bin/env python3
-"""Requests about records read and written in the words of desk.c, and their answers, worked out from document 01 in exact
-fractions and whole numbers.
+"""Requests about records read and written in the words of lay.c, and their answers by rule.py.
 
     records.py named        the requests that have a reason, one to a line
     records.py sweep        sound records with each byte set to each other value
@@ -10,17 +9,20 @@ fractions and whole numbers.
 import random
 import struct
 import sys
-from fractions import Fraction
-from math import inf, isfinite, nextafter
+from math import inf, nextafter
 
-EAST, NORTH = 100_000_000, 1_000_000_000
+# The rule beside this would else leave compiled files in the tree.
+sys.dont_write_bytecode = True
+import rule
+from rule import EAST, NORTH
+
 NAN = 0x7FF8000000000000
 INFINITY = 0x7FF0000000000000
 MINUS = 1 << 63
 FAR = 2**32 - 1
 
 
-# A request is its verb with the words of its line: whole numbers, and bytes at the end of all but `write`.
+# A request is its verb with the words of its line: whole numbers, and bytes at the end where it has some.
 
 
 def in_words(values):
@@ -29,18 +31,29 @@ def in_words(values):
 
 def request_of(line):
     verb, *words = line.split()
-    if verb == "write":
+    if verb.startswith("write"):
         return (verb, *map(int, words))
     *numbers, digits = words
     return (verb, *map(int, numbers), bytes.fromhex(digits.strip("-")))
 
 
 def lines_of(requests):
-    """The lines of requests; wherever a chain is asked for, so is the count of its table."""
+    """The lines of requests. Wherever a chain is asked for, so is the count of its table, and its stations are read and written;
+    and what stands in a job is written."""
     for request in requests:
         yield in_words(request)
         if request[0] == "chain":
-            yield in_words(("count", request[2]))
+            yield from (in_words(more) for more in beside_chain(*request[1:]))
+        if request[0] == "read_job" and len(request[1]) == 32:
+            job = rule.raw_job(request[1])
+            yield in_words(("write_job", 32, 0xA5, *job.corner, *job[1:]))
+
+
+def beside_chain(length, held, number, table):
+    yield "count_chains", table
+    piece = table[24 * number - 24 : 24 * number] if number else b""
+    yield "read_chain", 6, held, piece
+    yield "write_chain", 24, held, *struct.unpack(f"<{len(piece) // 4}I", piece[: len(piece) // 4 * 4])
 
 
 def told(request):
@@ -48,123 +61,83 @@ def told(request):
     return in_words(ANSWERS[verb](*rest))
 
 
-# A number of metres
-
-
-def number_in(eight):
-    return struct.unpack("<d", eight)[0]
-
-
-def centimetres(x):
-    """The whole number nearest to exactly 100 times a number, a tie to the even one; None where it is refused."""
-    if not isfinite(x) or abs(x) > 10_000_000:
-        return None
-    return round(100 * Fraction(x))
-
-
-def metres(c):
-    return struct.pack("<d", float(Fraction(c, 100)))
-
-
-# A log record
-
-
-def zero_bytes(s):
-    """The bytes that must be zero in a record of a known kind."""
-    unused = {1: s[24:], 2: s[1:2] + s[24:], 3: s[1:2] + s[8:]}
-    return s[2:4] + unused[s[0]]
-
-
-def kind_refusal(s):
-    if len(s) != 32:
-        return 1
-    return 2 if s[0] not in (1, 2, 3) or any(zero_bytes(s)) else 0
-
-
-def in_range(place):
-    return 0 <= place[0] <= EAST and 0 <= place[1] <= NORTH
+# The answers: the number of the refusal, and behind it what the rule gives, or as many zeros
 
 
 def record_answer(s):
     """The line number is told of any whole record, what else it holds of a good one alone."""
-    line = int.from_bytes(s[4:8], "little") if len(s) == 32 else 0
-    refusal, x, y = numbers_in(s)
+    refusal, record = rule.tried(rule.log_record, s)
     if refusal:
-        return refusal, 0, 0, line, 0, 0
-    return 0, s[0], s[1], line, x, y
-
-
-def numbers_in(s):
-    """The refusal, then readings or a place in centimetres."""
-    refusal = kind_refusal(s)
-    if refusal or s[0] == 3:
-        return refusal, 0, 0
-    numbers = centimetres(number_in(s[8:16])), centimetres(number_in(s[16:24]))
-    if None in numbers:
-        return 3, 0, 0
-    return (4, 0, 0) if s[0] == 2 and not in_range(numbers) else (0, *numbers)
-
-
-# A chain table and a job
+        return refusal, 0, 0, rule.raw_record(s).line if len(s) == 32 else 0, 0, 0
+    return 0, record.kind, record.chain, record.line, *(record.numbers or (0, 0))
 
 
 def count_answer(s):
-    count, rest = divmod(len(s), 24)
-    return (1, 0) if rest or not 1 <= count <= 16 else (0, count)
-
-
-def chain_answer(number, s):
-    refusal, count = count_answer(s)
-    if refusal:
-        return refusal, *[0] * 6
-    if not 1 <= number <= count:
-        return 5, *[0] * 6
-    n = struct.unpack_from("<6I", s, 24 * (number - 1))
-    stations = n[0:2], n[2:4], n[4:6]
-    sound = len(set(stations)) == 3 and all(map(in_range, stations))
-    return (0, *n) if sound else (5, *[0] * 6)
+    refusal, chains = rule.tried(rule.chains_in, s)
+    return refusal, 0 if refusal else len(chains)
 
 
 def job_answer(s):
-    refusal, *numbers = numbers_of_job(s)
-    return (refusal, *[0] * 5) if refusal else (0, *numbers)
+    refusal, job = rule.tried(rule.job_in, s)
+    return refusal, *([0] * 5 if refusal else (*job.corner, *job[1:]))
 
 
-def numbers_of_job(s):
-    if len(s) != 32:
-        return (1,)
-    easting, northing, k, *zeros, tolerance, allowance, last = struct.unpack("<IIBBBBIQQ", s)
-    if any(zeros) or last:
-        return (2,)
-    if k > 24 or not in_range((easting + 2**k - 1, northing + 2**k - 1)):
-        return (6,)
-    return (7,) if tolerance > 100_000 else (0, easting, northing, k, tolerance, allowance)
+def in_buffer(length, rule_of, *given):
+    """A refused write leaves its whole buffer zero."""
+    refusal, s = rule.tried(rule_of, *given)
+    return refusal, bytes(length) if refusal else s
 
 
-# The writer
+def write_answer(length, held, kind, chain, line, *numbers):
+    return in_buffer(length, rule.record_bytes, rule.Record(kind, chain, line, numbers), length)
 
 
-def write_refusal(length, kind, chain, x, y):
-    if length != 32:
-        return 1
-    if kind not in (1, 2, 3):
-        return 2
-    if kind != 3 and max(abs(x), abs(y)) > 1_000_000_000:
-        return 3
-    if kind == 2 and not in_range((x, y)):
-        return 4
-    return 5 if kind == 1 and not 1 <= chain <= 16 else 0
+def write_job_answer(length, held, easting, northing, *others):
+    def written(job):
+        rule.refuse(1, length != 32)
+        rule.check_job(job)
+        return rule.job_bytes(job)
+
+    return in_buffer(length, written, rule.Job((easting, northing), *others))
 
 
-def write_answer(length, held, kind, chain, line, x, y):
-    refusal = write_refusal(length, kind, chain, x, y)
-    if refusal:
-        return refusal, bytes(length)
-    numbers = bytes(16) if kind == 3 else metres(x) + metres(y)
-    return 0, struct.pack("<BBHI", kind, chain if kind == 1 else 0, 0, line) + numbers + bytes(8)
+def sound_bytes(length, chain):
+    rule.refuse(1, length != 24)
+    rule.refuse(5, not rule.is_sound(chain))
+    return rule.chain_bytes(chain)
 
 
-ANSWERS = {"record": record_answer, "count": count_answer, "chain": chain_answer, "job": job_answer, "write": write_answer}
+def chain_answer(length, held, number, table):
+    return in_buffer(length, lambda: sound_bytes(length, rule.chain_in(table, number)))
+
+
+def write_chain_answer(length, held, *numbers):
+    def written():
+        rule.refuse(1, len(numbers) != 6)
+        return sound_bytes(length, rule.chain_of(numbers))
+
+    return in_buffer(length, written)
+
+
+def read_chain_answer(entries, held, s):
+    def numbers():
+        rule.refuse(1, len(s) != 24 or entries != 6)
+        return struct.unpack("<6I", sound_bytes(24, rule.chain_of(struct.unpack("<6I", s))))
+
+    refusal, read = rule.tried(numbers)
+    return refusal, *([0] * entries if refusal else read)
+
+
+ANSWERS = {
+    "read_record": record_answer,
+    "write_record": write_answer,
+    "read_job": job_answer,
+    "write_job": write_job_answer,
+    "count_chains": count_answer,
+    "chain": chain_answer,
+    "read_chain": read_chain_answer,
+    "write_chain": write_chain_answer,
+}
 
 
 # Records to ask about. A number is given as a float, or as a whole number where its pattern is meant.
@@ -191,11 +164,15 @@ def job(easting=30000, northing=40000, k=1, zeros=(0, 0, 0), tolerance=0, allowa
 
 
 def chain_of(*stations):
-    return struct.pack("<6I", *(number for station in stations for number in station))
+    return rule.chain_bytes(rule.chain_of(rule.flat(stations)))
 
 
 def draft(length=32, held=0x5A, kind=1, chain=1, line=1, x=-10000, y=-20000):
-    return "write", length, held, kind, chain, line, x, y
+    return "write_record", length, held, kind, chain, line, x, y
+
+
+def named_chain(number, table, length=24, held=0x5A):
+    return "chain", length, held, number, table
 
 
 def changed(s, at, value):
@@ -213,9 +190,9 @@ SOUND = log(), grid(), hold()
 def examples():
     """01's log of three records, its chain and its job."""
     for s in SOUND:
-        yield "record", s
-    yield "chain", 1, chain_of(*FIRST)
-    yield "job", job()
+        yield "read_record", s
+    yield named_chain(1, chain_of(*FIRST))
+    yield "read_job", job()
     yield draft()
     yield draft(kind=2, chain=0, line=2, x=30001, y=40000)
     yield draft(kind=3, chain=0, line=3, x=0, y=0)
@@ -223,30 +200,30 @@ def examples():
 
 def kinds():
     for kind in range(256):
-        yield "record", log(kind, 0, kind, 0, 0)
+        yield "read_record", log(kind, 0, kind, 0, 0)
     for kind in 0, 1, 2, 3, 4:
-        yield "record", log(kind)
-        yield "record", log(kind, chain=0)
+        yield "read_record", log(kind)
+        yield "read_record", log(kind, chain=0)
     for line in 0, 255, 256, 2**31, FAR - 1, FAR:
-        yield "record", log(line=line)
-        yield "record", hold(line=line)
+        yield "read_record", log(line=line)
+        yield "read_record", hold(line=line)
 
 
 def lengths():
     for length in range(65):
-        yield "record", (log() + bytes(32))[:length]
-        yield "job", (job() + bytes(32))[:length]
+        yield "read_record", (log() + bytes(32))[:length]
+        yield "read_job", (job() + bytes(32))[:length]
         yield draft(length=length)
     for s in grid(), hold():
         for length in 0, 8, 31, 33, 64:
-            yield "record", (s + s)[:length]
-    yield "record", bytes(512)
-    yield "job", bytes(512)
+            yield "read_record", (s + s)[:length]
+    yield "read_record", bytes(512)
+    yield "read_job", bytes(512)
     for length in 0, 1, 23, 24, 25, 47, 48, 383, 384, 385, 407, 408:
         for number in 0, 1, 2, 16, 17, 255, 256, FAR:
-            yield "chain", number, LONG[:length]
+            yield named_chain(number, LONG[:length])
     for length in 360, 384, 408, 504:
-        yield "chain", 16, bytes(length)
+        yield named_chain(16, bytes(length))
     for length in 96, 511, 512:
         yield draft(length=length, held=255)
     yield draft(length=0, held=0)
@@ -260,36 +237,36 @@ ODD = INFINITY, MINUS + INFINITY, MINUS, 1, MINUS + 1, 2**52 - 1, 2**52, MINUS +
 def numbers():
     """NaN, infinities, minus zero and numbers next to nothing: in used fields, and in those that must be zero bytes."""
     for pattern in NANS + ODD:
-        yield "record", log(first=pattern)
-        yield "record", grid(second=pattern)
+        yield "read_record", log(first=pattern)
+        yield "read_record", grid(second=pattern)
     for pattern in NAN, INFINITY, MINUS + INFINITY, MINUS, MINUS + 1:
-        yield "record", log(second=pattern)
-        yield "record", grid(first=pattern)
+        yield "read_record", log(second=pattern)
+        yield "read_record", grid(first=pattern)
     for pattern in NAN, INFINITY + 1, INFINITY, MINUS, 1:
-        yield "record", log(third=pattern)
-        yield "record", grid(third=pattern)
-        yield "record", hold(first=pattern)
-        yield "record", hold(second=pattern)
-        yield "record", hold(third=pattern)
-    yield "record", log(first=MINUS, second=MINUS)
-    yield "record", grid(first=MINUS, second=MINUS)
+        yield "read_record", log(third=pattern)
+        yield "read_record", grid(third=pattern)
+        yield "read_record", hold(first=pattern)
+        yield "read_record", hold(second=pattern)
+        yield "read_record", hold(third=pattern)
+    yield "read_record", log(first=MINUS, second=MINUS)
+    yield "read_record", grid(first=MINUS, second=MINUS)
 
 
 def zeros():
     """Bytes that must be zero, also where a number or a place is at fault as well: 2 comes first."""
     for value in 1, 128:
         for s in SOUND:
-            yield "record", changed(s, 2, value)
-            yield "record", changed(s, 3, value)
-            yield "record", changed(s, 24, value)
-            yield "record", changed(s, 31, value)
+            yield "read_record", changed(s, 2, value)
+            yield "read_record", changed(s, 3, value)
+            yield "read_record", changed(s, 24, value)
+            yield "read_record", changed(s, 31, value)
         for s in grid(), hold():
-            yield "record", changed(s, 1, value)
+            yield "read_record", changed(s, 1, value)
     for faults in {"two": 1}, {"three": 1}, {"two": 9, "three": 9}, {"third": 0.5}, {"third": NAN}:
-        yield "record", log(first=NAN, second=INFINITY, **faults)
-        yield "record", grid(first=-1.0, second=NAN, **faults)
-    yield "record", grid(first=NAN, chain=7)
-    yield "record", log(kind=4, two=1, first=NAN)
+        yield "read_record", log(first=NAN, second=INFINITY, **faults)
+        yield "read_record", grid(first=-1.0, second=NAN, **faults)
+    yield "read_record", grid(first=NAN, chain=7)
+    yield "read_record", log(kind=4, two=1, first=NAN)
 
 
 def beside(x):
@@ -300,32 +277,32 @@ def limits():
     """Sizes at their limit, and places at the edges of the chart before and after rounding."""
     for limit in 1e7, -1e7:
         for x in beside(limit):
-            yield "record", log(first=x)
-            yield "record", log(second=x)
-            yield "record", grid(first=x)
-            yield "record", grid(second=x)
+            yield "read_record", log(first=x)
+            yield "read_record", log(second=x)
+            yield "read_record", grid(first=x)
+            yield "read_record", grid(second=x)
     for x in (-0.001, -0.01, *beside(-0.005), *beside(1_000_000.005), *beside(1_000_000.0), 1_000_000.01, 2e6, -1e6):
-        yield "record", grid(first=x)
-        yield "record", grid(second=x)
+        yield "read_record", grid(first=x)
+        yield "read_record", grid(second=x)
     for x in 42949672.96, 429496.7296, 42949672.95:
-        yield "record", grid(first=x)
-        yield "record", log(first=x, second=-x)
-    yield "record", grid(first=1e6, second=1e7)
+        yield "read_record", grid(first=x)
+        yield "read_record", log(first=x, second=-x)
+    yield "read_record", grid(first=1e6, second=1e7)
     # the place is out of range and a number cannot be used: 3 comes first
-    yield "record", grid(first=2e6, second=NAN)
-    yield "record", grid(first=-1.0, second=INFINITY)
-    yield "record", grid(first=NAN, second=-1.0)
+    yield "read_record", grid(first=2e6, second=NAN)
+    yield "read_record", grid(first=-1.0, second=INFINITY)
+    yield "read_record", grid(first=NAN, second=-1.0)
     # whether its chain is in the table is no matter of the record
     for chain in 0, 1, 16, 17, 255:
-        yield "record", log(chain=chain)
-        yield "record", log(chain=chain, first=NAN)
+        yield "read_record", log(chain=chain)
+        yield "read_record", log(chain=chain, first=NAN)
 
 
 def roundings():
     """01's four, ties beyond them, and numbers that two roundings in a row would get wrong."""
     for x in 0.125, 0.375, 0.625, 0.875, 1.125, 0.005, 0.015, 0.025, 0.035, 1.005, 300.01, 9_999_999.995, 4_999_999.125:
-        yield "record", log(first=x, second=-x)
-        yield "record", grid(first=min(x, 1e6), second=x)
+        yield "read_record", log(first=x, second=-x)
+        yield "read_record", grid(first=min(x, 1e6), second=x)
 
 
 def moved(chain, station, place):
@@ -342,43 +319,43 @@ def chains():
     tables.append(chain_of((5, 5), (5, 5), (5, 5)))
     tables.append(chain_of((5, 6), (6, 5), (5, 5)))
     for table in tables:
-        yield "chain", 1, table
-        yield "chain", 2, table + chain_of(*OUTER)
-    yield "chain", 1, tables[-1] + tables[-2]
-    yield "chain", 2, tables[-1] + tables[-2]
+        yield named_chain(1, table)
+        yield named_chain(2, table + chain_of(*OUTER))
+    yield named_chain(1, tables[-1] + tables[-2])
+    yield named_chain(2, tables[-1] + tables[-2])
     for number in 0, 1, 2, 3, 257, 258, 2**31:
-        yield "chain", number, PAIR
-    yield "chain", 17, LONG[:384] + bytes(1)
-    yield "chain", 16, LONG[:360] + bytes(24)
-    yield "chain", 15, LONG[:360] + bytes(24)
+        yield named_chain(number, PAIR)
+    yield named_chain(17, LONG[:384] + bytes(1))
+    yield named_chain(16, LONG[:360] + bytes(24))
+    yield named_chain(15, LONG[:360] + bytes(24))
 
 
 def jobs():
     for k in 0, 1, 2, 23, 24, 25, 26, 31, 32, 33, 64, 128, 255:
-        yield "job", job(k=k)
+        yield "read_job", job(k=k)
     for k in 0, 1, 12, 23, 24:
         # the last window that fits, then a cell farther east and a cell farther north
         corner = EAST + 1 - 2**k, NORTH + 1 - 2**k
         for east, north in (0, 0), (1, 0), (0, 1):
-            yield "job", job(corner[0] + east, corner[1] + north, k)
+            yield "read_job", job(corner[0] + east, corner[1] + north, k)
         # sums beyond 32 bits
         for far in FAR, FAR + 1 - 2**k, min(FAR, FAR + 2 - 2**k):
-            yield "job", job(easting=far, k=k)
-            yield "job", job(northing=far, k=k)
+            yield "read_job", job(easting=far, k=k)
+            yield "read_job", job(northing=far, k=k)
     for k in 0, 1:
-        yield "job", job(easting=EAST, k=k)
-        yield "job", job(northing=NORTH, k=k)
-    yield "job", job(easting=FAR, northing=FAR, k=255)
+        yield "read_job", job(easting=EAST, k=k)
+        yield "read_job", job(northing=NORTH, k=k)
+    yield "read_job", job(easting=FAR, northing=FAR, k=255)
     for tolerance in 99_999, 100_000, 100_001, FAR:
-        yield "job", job(tolerance=tolerance)
+        yield "read_job", job(tolerance=tolerance)
     for allowance in 0, 1, 2**32, 2**63, 2**64 - 1:
-        yield "job", job(allowance=allowance)
+        yield "read_job", job(allowance=allowance)
     for zero in (1, 0, 0), (0, 1, 0), (0, 0, 1), (255, 255, 255):
-        yield "job", job(zeros=zero)
-        yield "job", job(zeros=zero, k=25, tolerance=100_001)
+        yield "read_job", job(zeros=zero)
+        yield "read_job", job(zeros=zero, k=25, tolerance=100_001)
     for at in range(24, 32):
-        yield "job", changed(job(k=25), at, 128)
-    yield "job", job(k=25, tolerance=100_001)
+        yield "read_job", changed(job(k=25), at, 128)
+    yield "read_job", job(k=25, tolerance=100_001)
 
 
 def drafts():
@@ -425,12 +402,35 @@ def draft_faults():
     yield draft(kind=1, chain=0, x=-1, y=-1)
 
 
-NAMED = examples, kinds, lengths, numbers, zeros, limits, roundings, chains, jobs, drafts, draft_faults
+def rooms():
+    """Buffers and lists of other lengths, and what is refused at once with another length: the given first, then the buffer."""
+    sound, unsound = (0, 0, 30000, 0, 0, 40000), (0, 0, 0, 0, 0, 40000)
+    for length in 0, 1, 23, 25, 48:
+        for number in 1, 3:
+            yield named_chain(number, PAIR, length, 255)
+        yield named_chain(1, PAIR[:47], length)
+        for stations in sound, unsound, sound[:5], (*sound, 0), ():
+            yield "write_chain", length, 255, *stations
+        for job in (30000, 40000, 1, 0, 100), (30000, 40000, 25, 100_001, 0):
+            yield "write_job", length, 255, *job
+    for stations in unsound, sound[:5], (*sound, 0), unsound[:4], ():
+        yield "write_chain", 24, 255, *stations
+    for job in (EAST, 40000, 0, 0, 0), (EAST, 40000, 1, 0, 0), (30000, NORTH, 24, 0, 0), (0, 0, 25, 100_001, 0), (0, 0, FAR, 0, 0):
+        yield "write_job", 32, 255, *job
+    for tolerance in 100_000, 100_001, FAR:
+        yield "write_job", 32, 0, 0, 0, 0, tolerance, 2**64 - 1
+    for entries in 0, 1, 5, 7, 12:
+        for s in chain_of(*FIRST), chain_of(*FIRST)[:23], chain_of(*FIRST) + bytes(1), bytes(24), b"":
+            yield "read_chain", entries, FAR, s
+            yield "read_chain", 6, FAR, s
+
+
+NAMED = examples, kinds, lengths, numbers, zeros, limits, roundings, chains, jobs, drafts, draft_faults, rooms
 
 
 def sweep():
     """Each byte of a record of each kind and of a job set to each other value; in a table of two chains to a dozen."""
-    for verb, s in *(("record", s) for s in SOUND), ("job", job()):
+    for verb, s in *(("read_record", s) for s in SOUND), ("read_job", job()):
         for at in range(32):
             for value in range(256):
                 if value != s[at]:
@@ -438,7 +438,7 @@ def sweep():
     for at in range(48):
         for value in 0, 1, 2, 5, 48, 59, 60, 64, 117, 127, 128, 255:
             for number in 1, 2:
-                yield "chain", number, changed(PAIR, at, value)
+                yield named_chain(number, changed(PAIR, at, value))
 
 
 def drawn_number(draw):
@@ -517,7 +517,8 @@ def drawn_draft(draw):
 def drawn_table(draw):
     count = draw.choice((1, 2, 3, draw.randint(0, 17)))
     number = draw.choice((draw.randint(1, max(count, 1)), draw.randint(0, count + 2), draw.getrandbits(32)))
-    return "chain", number, damaged(draw, b"".join(drawn_chain(draw) for _ in range(count)))
+    table = damaged(draw, b"".join(drawn_chain(draw) for _ in range(count)))
+    return named_chain(number, table, draw.choice((24,) * 9 + (23, 25, draw.randint(0, 60))), draw.getrandbits(8))
 
 
 def at_random(seed):
@@ -525,9 +526,9 @@ def at_random(seed):
     for _ in range(1500):
         yield draw.choice(
             (
-                lambda: ("record", damaged(draw, drawn_log(draw))),
-                lambda: ("record", drawn_log(draw)),
-                lambda: ("job", damaged(draw, drawn_job(draw))),
+                lambda: ("read_record", damaged(draw, drawn_log(draw))),
+                lambda: ("read_record", drawn_log(draw)),
+                lambda: ("read_job", damaged(draw, drawn_job(draw))),
                 lambda: drawn_table(draw),
                 lambda: drawn_draft(draw),
             )

@@ -1,6 +1,6 @@
 #!/usr/bin/env bash
-# What the library makes of records read and written, against document 01's examples and limits, and against a reading and a
-# writing of its own (records.py). A seed other than the gate's may be given.
+# What the library makes of records read and written, against document 01's examples and limits, and against the rule
+# (records.py, rule.py). A seed other than the gate's may be given.
 cd "$(dirname "$0")/.." && . tests/common.bash && . tests/library.bash
 seed=${1:-20261115}
 
@@ -9,11 +9,14 @@ python3 tests/records.py named >"$requests"
 python3 tests/records.py sweep >>"$requests"
 python3 tests/records.py random "$seed" >>"$requests"
 ask python3 tests/records.py answers
-refuses record 0 1 2 3 4
-refuses write 0 1 2 3 4 5
-refuses job 0 1 2 6 7
-refuses count 0 1
+refuses read_record 0 1 2 3 4
+refuses write_record 0 1 2 3 4 5
+refuses read_job 0 1 2 6 7
+refuses write_job 0 1 6 7
+refuses count_chains 0 1
 refuses chain 0 1 5
+refuses read_chain 0 1 5
+refuses write_chain 0 1 5
 
 # each VERB: that each line of standard input, BYTES: ANSWER, is so; the bytes may be spaced
 each() {
@@ -22,14 +25,14 @@ each() {
 }
 
 # 01's log of three records.
-told 'record 010100000100000000000000000059c000000000000069c00000000000000000' '0 1 1 1 -10000 -20000'
-told 'record 02000000020000005c8fc2f528c0724000000000000079400000000000000000' '0 2 0 2 30001 40000'
-told 'record 0300000003000000000000000000000000000000000000000000000000000000' '0 3 0 3 0 0'
+told 'read_record 010100000100000000000000000059c000000000000069c00000000000000000' '0 1 1 1 -10000 -20000'
+told 'read_record 02000000020000005c8fc2f528c0724000000000000079400000000000000000' '0 2 0 2 30001 40000'
+told 'read_record 0300000003000000000000000000000000000000000000000000000000000000' '0 3 0 3 0 0'
 
 # Log records by their bytes, and what they give in centimetres. Records too short and too long; the kinds beside the known
 # ones; the largest sizes and the next numbers; an infinity, a NaN, minus zero in a used field; 01's roundings; chain numbers
 # that are no matter of the record.
-each record <<'END'
+each read_record <<'END'
 -: 1 0 0 0 0 0
 01 01 0000 01000000 00000000000059c0 00000000000069c0 00000000000000: 1 0 0 0 0 0
 01 01 0000 01000000 00000000000059c0 00000000000069c0 0000000000000000 00: 1 0 0 0 0 0
@@ -57,7 +60,7 @@ END
 # Bytes that must be zero: bytes 2 and 3, the chain of a grid record and of a hold, minus zero in a field that is not used;
 # also where a number is NaN. Then places: -0.001 m and -0.01 m, 1,000,000 m, 1,000,000.005 m, the northing 10,000,000 m,
 # and an easting out of range beside a northing that is NaN.
-each record <<'END'
+each read_record <<'END'
 01 01 0100 01000000 00000000000059c0 00000000000069c0 0000000000000000: 2 0 0 1 0 0
 01 01 0001 01000000 00000000000059c0 00000000000069c0 0000000000000000: 2 0 0 1 0 0
 01 01 0100 01000000 000000000000f87f 000000000000f07f 0000000000000000: 2 0 0 1 0 0
@@ -80,10 +83,19 @@ each record <<'END'
 END
 
 # Tables: none, half a one, 01's chain 1 with one as far out as may be; their stations out of range and equal, in the chain
-# that is named and in the other. The number of the chain comes first.
+# that is named and in the other. The number of the chain comes first, behind the bytes the count and the stations: the bytes of
+# the chain are those of the table, and read they give the stations, which written give the bytes.
 while IFS=: read -r number bytes count chain; do
-    told "count ${bytes// /}" "${count# }"
-    told "chain $number ${bytes// /}" "${chain# }"
+    bytes=${bytes// /} chain=${chain# }
+    told "count_chains $bytes" "${count# }"
+    if [ "${chain%% *}" -ne 0 ]; then
+        told "chain 24 90 $number $bytes" "${chain%% *} 0{48}"
+        continue
+    fi
+    piece=${bytes:48 * (number - 1):48}
+    told "chain 24 90 $number $bytes" "0 $piece"
+    told "read_chain 6 90 $piece" "$chain"
+    told "write_chain 24 90 ${chain#* }" "0 $piece"
 done <<'END'
 1:-: 1 0: 1 0 0 0 0 0 0
 0:01000000 02000000 31750000 01000000 07000000 419c0000: 0 1: 5 0 0 0 0 0 0
@@ -101,14 +113,19 @@ done <<'END'
 2:00000000 00000000 00000000 00000000 00000000 409c0000 00e1f505 00ca9a3b 00000000 00ca9a3b 00e1f505 00000000: 0 2: 0 100000000 1000000000 0 1000000000 100000000 0
 END
 printf -v zeros %0816d 0
-told "count ${zeros:48}" '0 16'
-told "count $zeros" '1 0'
-told "chain 16 ${zeros:48}" '5 0 0 0 0 0 0'
-told "chain 16 $zeros" '1 0 0 0 0 0 0'
+told "count_chains ${zeros:48}" '0 16'
+told "count_chains $zeros" '1 0'
+told "chain 24 90 16 ${zeros:48}" '5 0{48}'
+told "chain 24 90 16 $zeros" '1 0{48}'
+told 'write_chain 24 255 0 0 0 0 0 40000' '5 0{48}'
+told 'write_chain 23 255 0 0 30000 0 0 40000' '1 0{46}'
+told 'write_chain 24 255 0 0 30000 0 0' '1 0{48}'
+told "read_chain 5 4294967295 ${zeros:768}" '1 0 0 0 0 0'
+told "read_chain 6 4294967295 ${zeros:768}" '5 0 0 0 0 0 0'
 
 # Jobs: 01's, and its limits of k, of the corner, of the tolerance and of the allowance; a byte that must be zero, beside a
 # wrong k as well.
-each job <<'END'
+each read_job <<'END'
 -: 1 0 0 0 0 0
 30750000 409c0000 01 000000 00000000 6400000000000000 00000000000000: 1 0 0 0 0 0
 30750000 409c0000 01 000000 00000000 6400000000000000 0000000000000000: 0 30000 40000 1 0 100
@@ -130,10 +147,19 @@ ffffffff 409c0000 01 000000 00000000 6400000000000000 0000000000000000: 6 0 0 0 
 30750000 409c0000 19 000000 00000000 6400000000000000 0000000000000080: 2 0 0 0 0 0
 END
 
+# The same written: 01's job, the limits, and 1, 6 and 7.
+told 'write_job 32 165 30000 40000 1 0 100' '0 30750000409c0000010000000000000064000000000000000000000000000000'
+told 'write_job 32 255 100000000 40000 0 0 0' '0 00e1f505409c0000000000000000000000000000000000000000000000000000'
+told 'write_job 32 0 0 0 0 100000 18446744073709551615' '0 0{24}a0860100f{16}0{16}'
+told 'write_job 32 255 100000000 40000 1 0 0' '6 0{64}'
+told 'write_job 32 255 0 0 25 100001 0' '6 0{64}'
+told 'write_job 32 0 0 0 0 100001 18446744073709551615' '7 0{64}'
+told 'write_job 23 255 30000 40000 25 100001 0' '1 0{46}'
+
 # Drafts, by length, value held, kind, chain, line and two numbers in decimal: 01's log written; then each refusal, what
 # comes just before it, and several at once. A refused write leaves zeros.
 while IFS=: read -r numbers answer; do
-    told "write $numbers" "${answer# }"
+    told "write_record $numbers" "${answer# }"
 done <<'END'
 32 90 1 1 1 -10000 -20000: 0 010100000100000000000000000059c000000000000069c00000000000000000
 32 90 2 0 2 30001 40000: 0 02000000020000005c8fc2f528c0724000000000000079400000000000000000

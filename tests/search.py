@@ -1,19 +1,24 @@
 #!/usr/bin/env python3
-"""Requests for searches in the words of desk.c, and their answers, worked out from document 01 in whole numbers.
+"""Requests for searches in the words of lay.c, and their answers by rule.py.
 
     search.py named        the requests that have a reason, one to a line
     search.py random SEED  1,500 others at random
     search.py answers      the answers to the requests on standard input
 
-The visits are counted along the walk by quarters. The places are found apart from it: cell by cell in a small window, else
-by the least and the greatest distance of the cells of a box; their order is that of the interleaved numbers.
+The rule's places are those that its walk by quarters meets. To check it they are found apart from the walk as well: by the
+least and the greatest range of the cells of a box, in a small window also cell by cell, and put in order by their interleaved
+numbers. Where the ways differ there is no answer.
 """
 import random
+import struct
 import sys
-from math import isqrt
 from typing import NamedTuple
 
-EAST, NORTH = 100_000_000, 1_000_000_000
+# The rule beside this would else leave compiled files in the tree.
+sys.dont_write_bytecode = True
+import rule
+from rule import EAST, NORTH, moved
+
 CORNERS = (0, 0), (EAST, 0), (0, NORTH), (EAST, NORTH)
 AMPLE = 2**64 - 1
 
@@ -30,86 +35,78 @@ class Request(NamedTuple):
     entries: int
     held: int
 
+    @property
+    def chain(self):
+        return rule.Chain(self.master, (self.a, self.b))
+
+    @property
+    def job(self):
+        return rule.Job(self.corner, self.k, self.tolerance, self.allowance)
+
+
+def commas(numbers):
+    return ",".join(map(str, numbers))
+
 
 def line_of(r):
-    numbers = r.entries, r.held, *r.master, *r.a, *r.b, *r.wanted, *r.corner, r.k, r.tolerance, r.allowance
-    return " ".join(map(str, ("search", *numbers)))
+    chain, job = rule.flat(rule.stations(r.chain)), (*r.corner, *r.job[1:])
+    return " ".join(map(str, ("search", r.entries, r.held, commas(chain), commas(job), *r.wanted)))
 
 
-def request_of(line):
-    entries, held, *n, k, tolerance, allowance = map(int, line.split()[1:])
-    return Request(*zip(n[0::2], n[1::2]), k, tolerance, allowance, entries, held)
+def bytes_of(word, made):
+    """The bytes that a word has, or those made of its numbers."""
+    return made(list(map(int, word.split(",")))) if "," in word else bytes.fromhex(word.strip("-"))
 
 
-def distance(p, q):
-    return isqrt((p[0] - q[0]) ** 2 + (p[1] - q[1]) ** 2)
+def told(line):
+    """The bytes are tested first: 1 for the lengths, and 2 for what must be zero in a job."""
+    _, entries, held, chain, job, *wanted = line.split()
+    chain = bytes_of(chain, lambda n: rule.chain_bytes(rule.chain_of(n)))
+    job = bytes_of(job, lambda n: rule.job_bytes(rule.Job((n[0], n[1]), *n[2:])))
+    refusal, asked = rule.tried(by_bytes, chain, job, wanted)
+    refusal, visits, places = (refusal, 0, []) if refusal else checked(*asked, int(entries) // 2)
+    list_of = rule.flat(places)
+    list_of += [0] * (int(entries) - len(list_of))
+    return " ".join(map(str, (refusal, len(places), visits, *list_of)))
+
+
+def by_bytes(chain, job, wanted):
+    rule.refuse(1, len(chain) != 24 or len(wanted) != 2 or len(job) != 32)
+    rule.refuse(2, any(rule.job_zeros(job)))
+    return rule.chain_of(struct.unpack("<6I", chain)), tuple(map(int, wanted)), rule.raw_job(job)
 
 
 def readings(r, p):
-    to_master = distance(p, r.master)
-    return distance(p, r.a) - to_master, distance(p, r.b) - to_master
+    return rule.readings(r.chain, p)
 
 
-def off(r, p):
-    """By how much the readings of a place differ from those wanted: the larger of the two."""
-    return max(abs(reading - wanted) for reading, wanted in zip(readings(r, p), r.wanted))
+# The places apart from the walk
 
 
-def moved(p, east, north):
-    return p[0] + east, p[1] + north
-
-
-def in_range(p):
-    return 0 <= p[0] <= EAST and 0 <= p[1] <= NORTH
-
-
-def refusal_of(r):
-    """The number of the first test that fails before any visit, or 0."""
-    stations = r.master, r.a, r.b
-    if any(abs(reading) > 1_000_000_000 for reading in r.wanted):
-        return 3
-    if len(set(stations)) < 3 or not all(in_range(p) for p in stations):
-        return 5
-    if r.k > 24 or not in_range(moved(r.corner, 2**r.k - 1, 2**r.k - 1)):
-        return 6
-    return 7 if r.tolerance > 100_000 else 0
-
-
-def walk(r):
-    """The squares in the order of their visits, each by its south-west cell and its side."""
-    squares = [(r.corner, 2**r.k)]
-    while squares:
-        corner, side = squares.pop()
-        yield corner, side
-        half = side // 2
-        if side > 1 and off(r, moved(corner, half, half)) <= r.tolerance + 2 * side + 2:
-            for east, north in (half, half), (0, half), (half, 0), (0, 0):
-                squares.append((moved(corner, east, north), half))
-
-
-def span(box, station):
-    """The least and the greatest distance to a station in a box of cells."""
+def span(chain, station, box):
+    """The least and the greatest range of a station in a box of cells: of the cell next to it, and of the farthest corner."""
     west, south, east, north = box
     e, n = station
-    least = isqrt(max(west - e, e - east, 0) ** 2 + max(south - n, n - north, 0) ** 2)
-    return least, isqrt(max(e - west, east - e) ** 2 + max(n - south, north - n) ** 2)
+    nearest = min(max(e, west), east), min(max(n, south), north)
+    farthest = west if e - west > east - e else east, south if n - south > north - n else north
+    return rule.range_of(chain, station, nearest), rule.range_of(chain, station, farthest)
 
 
-def can_match(r, box):
-    near_master, far_master = span(box, r.master)
-    for slave, wanted in zip((r.a, r.b), r.wanted):
-        near, far = span(box, slave)
-        if near - far_master > wanted + r.tolerance or far - near_master < wanted - r.tolerance:
+def can_match(chain, wanted, tolerance, box):
+    near_master, far_master = span(chain, chain.master, box)
+    for slave, reading in zip(chain.slaves, wanted):
+        near, far = span(chain, slave, box)
+        if near - far_master > reading + tolerance or far - near_master < reading - tolerance:
             return False
     return True
 
 
-def by_boxes(r):
+def by_boxes(chain, wanted, job):
     """The matching cells: boxes that may hold one are halved, and in a box of one cell least and greatest are the same."""
-    boxes = [(*r.corner, *moved(r.corner, 2**r.k - 1, 2**r.k - 1))]
+    boxes = [(*job.corner, *moved(job.corner, 2**job.k - 1, 2**job.k - 1))]
     while boxes:
         west, south, east, north = box = boxes.pop()
-        if not can_match(r, box):
+        if not can_match(chain, wanted, job.tolerance, box):
             continue
         if west == east and south == north:
             yield west, south
@@ -121,42 +118,26 @@ def by_boxes(r):
             boxes += (west, south, east, middle), (west, middle + 1, east, north)
 
 
-def cell_by_cell(r):
-    cells = (moved(r.corner, east, north) for north in range(2**r.k) for east in range(2**r.k))
-    return (p for p in cells if off(r, p) <= r.tolerance)
+def cell_by_cell(chain, wanted, job):
+    cells = (moved(job.corner, east, north) for north in range(2**job.k) for east in range(2**job.k))
+    return (p for p in cells if rule.agrees(chain, p, wanted, job.tolerance))
 
 
-def chart_number(corner, p):
-    east, north = p[0] - corner[0], p[1] - corner[1]
-    return sum((east >> i & 1) << 2 * i | (north >> i & 1) << 2 * i + 1 for i in range(24))
+def checked(chain, wanted, job, room):
+    """What rule.search answers, if its places are those that are found apart from its walk, where nothing stopped it."""
+    refusal, visits, places = rule.search(chain, wanted, job, room)
+    if refusal not in (0, 8):
+        return refusal, visits, places
+    for found in (by_boxes, cell_by_cell) if job.k <= 5 else (by_boxes,):
+        matching = sorted(found(chain, wanted, job), key=lambda p: rule.chart_number(job.corner, p))
+        if places != matching:
+            sys.exit(f"the walk of {chain}, {wanted}, {job} meets {places}, and {matching} match")
+    return refusal, visits, places
 
 
 def answer(r):
-    """The refusal, the visits and the places."""
-    refusal = refusal_of(r)
-    if refusal:
-        return refusal, 0, []
-    visits, met = 0, []
-    for corner, side in walk(r):
-        if visits == r.allowance:
-            return 10, visits, []
-        visits += 1
-        if side == 1 and off(r, corner) <= r.tolerance:
-            if len(met) == r.entries // 2:
-                return 9, visits, []
-            met.append(corner)
-    found = cell_by_cell(r) if r.k <= 5 else by_boxes(r)
-    places = sorted(found, key=lambda p: chart_number(r.corner, p))
-    if met != places:
-        sys.exit(f"the walk of {r} meets {met}, and {places} match")
-    return 0 if places else 8, visits, places
-
-
-def told(r):
-    refusal, visits, places = answer(r)
-    entries = [number for p in places for number in p]
-    entries += [0] * (r.entries - len(entries))
-    return " ".join(map(str, (refusal, len(places), visits, *entries)))
+    """The refusal, the visits and the places. Half a place is no room."""
+    return checked(r.chain, r.wanted, r.job, r.entries // 2)
 
 
 # 01's chain 1 and its P4.
@@ -190,7 +171,7 @@ def examples():
 
 def limits():
     # a window of 2^24 whose middle is far off: one visit
-    for k in 24, 25, 31, 32, 33, 255, 2**32 - 1:
+    for k in 24, 25, 31, 32, 33, 255:
         yield p4(k=k, wanted=(1_000_000_000, 1_000_000_000))
     for tolerance in 100_000, 100_001, 2**32 - 1:
         yield p4(tolerance=tolerance)
@@ -389,6 +370,20 @@ def stations():
 NAMED = examples, limits, edges, refusals, chains, crossings, lists, allowances, orders, differences, close_errors, stations
 
 
+def by_their_bytes():
+    """Chains, jobs and readings of other lengths, and a job's byte that is not zero, each beside what is refused later."""
+    chain, unsound = rule.chain_bytes(P4.chain), bytes(24)
+    job, bad = rule.job_bytes(P4.job), rule.job_bytes(P4.job._replace(k=25, tolerance=100_001))
+    spoilt = [bad[:at] + b"\1" + bad[at + 1 :] for at in (9, 10, 11, 24, 31)] + [job[:31] + b"\x80"]
+    chains = chain, unsound, chain[:23], chain + bytes(1), chain + chain, b""
+    jobs = job, bad, *spoilt, job[:31], bad + bytes(1), spoilt[0] + bytes(1), b""
+    for stations in chains:
+        for asked in jobs:
+            for wanted in "-10000 -20000", "-10000 1000000001", "-10000", "", "-10000 -20000 0":
+                words = "search", "8", "7", stations.hex() or "-", asked.hex() or "-", wanted
+                yield " ".join(filter(None, words))
+
+
 def beside(draw, p, reach):
     """A place of the chart at most so far from another either way."""
     east = draw.randint(max(0, p[0] - reach), min(EAST, p[0] + reach))
@@ -449,11 +444,11 @@ def at_random(seed):
 
 def main(words):
     if words == ["named"]:
-        print("\n".join(dict.fromkeys(line_of(r) for part in NAMED for r in part())))
+        print("\n".join(dict.fromkeys(line_of(r) for part in NAMED for r in part()) | dict.fromkeys(by_their_bytes())))
     elif words[:1] == ["random"] and len(words) == 2:
         print("\n".join(line_of(r) for r in at_random(int(words[1]))))
     elif words == ["answers"]:
-        print("\n".join(told(request_of(line)) for line in sys.stdin.read().splitlines()))
+        print("\n".join(told(line) for line in sys.stdin.read().splitlines()))
     else:
         sys.exit(__doc__)
 

@@ -1,6 +1,6 @@
 #!/usr/bin/env python3
-"""Runs of the desk's tools, and what must come of each, worked out from docs/FORMATS.md and document 01 in whole numbers and
-exact fractions.
+"""Runs of the desk's tools, and what must come of each: what text stands for and what is shown as docs/FORMATS.md says, and
+the rest by rule.py.
 
     tools.py cases FOLDER          writes the runs that have a reason, a folder each
     tools.py random SEED FOLDER    writes 300 at random
@@ -12,16 +12,19 @@ leaves `printed`, `said` and `status`. What must come of it stands in `wanted` (
 """
 import random
 import re
-import struct
 import sys
-from fractions import Fraction
 from itertools import islice
-from math import inf, isfinite, isqrt, nextafter
+from math import inf, nextafter
 from pathlib import Path
 from typing import NamedTuple
 
-EAST, NORTH = 100_000_000, 1_000_000_000
-SIZE = 1_000_000_000
+# Those beside this would else leave compiled files in the tree.
+sys.dont_write_bytecode = True
+import records
+import rule
+from records import INFINITY, MINUS, NAN, changed
+from rule import EAST, NORTH, SIZE, Refusal, refuse
+
 # a line with its newline
 LONGEST = 65_535
 
@@ -42,17 +45,6 @@ class Outcome(NamedTuple):
     files: dict
     printed: bytes = b""
     refusals: list = []
-
-
-class Refusal(Exception):
-    def __init__(self, number):
-        super().__init__(number)
-        self.number = number
-
-
-def refuse(number, wrong):
-    if wrong:
-        raise Refusal(number)
 
 
 # Words and lines
@@ -106,71 +98,28 @@ def taken(lines, bytes_of):
     return b"".join(accepted), refusals
 
 
-# Places, chains, windows, metres
-
-
-def in_range(east, north):
-    return 0 <= east <= EAST and 0 <= north <= NORTH
-
-
-def stations(numbers):
-    return list(zip(numbers[0::2], numbers[1::2]))
-
-
-def is_sound(numbers):
-    places = stations(numbers)
-    return all(in_range(*place) for place in places) and len(set(places)) == 3
-
-
-def is_window(east, north, k):
-    return k <= 24 and in_range(east + 2**k - 1, north + 2**k - 1)
-
-
-def distance(p, q):
-    return isqrt((p[0] - q[0]) ** 2 + (p[1] - q[1]) ** 2)
-
-
-def metres(whole):
-    """The eight bytes. Python's quotient of two whole numbers is rounded once."""
-    return struct.pack("<d", whole / 100)
-
-
-def centimetres(eight):
-    """A tie goes to the even number; None where the number cannot be told."""
-    (x,) = struct.unpack("<d", eight)
-    if not isfinite(x) or abs(x) > 10_000_000:
-        return None
-    return round(Fraction(x) * 100)
-
-
 # From text to bytes
 
 
 def job_bytes(line):
     east, north, k, tolerance, allowance = values(line, [NUMBER] * 5)
     refuse(12, allowance >= 2**64)
-    refuse(6, not is_window(east, north, k))
-    refuse(7, tolerance > 100_000)
-    return struct.pack("<IIB3xIQ8x", east, north, k, tolerance, allowance)
+    job = rule.Job((east, north), k, tolerance, allowance)
+    rule.check_job(job)
+    return rule.job_bytes(job)
 
 
 def chain_bytes(at, line):
-    numbers = values(line, [NUMBER] * 6)
+    chain = rule.chain_of(values(line, [NUMBER] * 6))
     refuse(1, at > 16)
-    refuse(5, not is_sound(numbers))
-    return struct.pack("<6I", *numbers)
+    refuse(5, not rule.is_sound(chain))
+    return rule.chain_bytes(chain)
 
 
 def record_bytes(at, line):
-    kind, chain, number, x, y = values(line, [NUMBER] * 3 + [READING] * 2)
+    kind, chain, number, *numbers = values(line, [NUMBER] * 3 + [READING] * 2)
     refuse(12, number >= 2**32)
-    refuse(2, kind not in (1, 2, 3))
-    if kind == 3:
-        return struct.pack("<BxxxI24x", kind, number)
-    refuse(3, max(abs(x), abs(y)) > SIZE)
-    refuse(4, kind == 2 and not in_range(x, y))
-    refuse(5, kind == 1 and not 1 <= chain <= 16)
-    return struct.pack("<BBxxI", kind, chain if kind == 1 else 0, number) + metres(x) + metres(y) + bytes(8)
+    return rule.record_bytes(rule.Record(kind, chain, number, numbers))
 
 
 def layjob(run):
@@ -197,19 +146,8 @@ def laywrite(run):
 
 def layexpect(run):
     chain, *place = values(line_of(run.arguments), [NUMBER] * 3)
-    table = run.files.get("chain.dat", b"")
-    refuse(1, not is_table(table))
-    refuse(4, not in_range(*place))
-    refuse(5, not 1 <= chain <= len(table) // 24)
-    numbers = struct.unpack_from("<6I", table, 24 * (chain - 1))
-    refuse(5, not is_sound(numbers))
-    master, *slaves = (distance(place, station) for station in stations(numbers))
-    lines = [expected_line(name, slave - master) for name, slave in zip("AB", slaves)]
-    return Outcome(run.files, text_of(lines))
-
-
-def is_table(s):
-    return len(s) % 24 == 0 and 1 <= len(s) // 24 <= 16
+    found = rule.expected(run.files.get("chain.dat", b""), chain, place)
+    return Outcome(run.files, text_of(expected_line(name, reading) for name, reading in zip("AB", found)))
 
 
 def expected_line(name, reading):
@@ -217,7 +155,7 @@ def expected_line(name, reading):
         return f"{name} {reading} REFUSED 3"
     sign = "-" if reading < 0 else ""
     whole, hundredths = divmod(abs(reading), 100)
-    return f"{name} {reading} {sign}{whole}.{hundredths:02} {metres(reading).hex()}"
+    return f"{name} {reading} {sign}{whole}.{hundredths:02} {records.eight(rule.metres(reading)).hex()}"
 
 
 def text_of(lines):
@@ -227,8 +165,7 @@ def text_of(lines):
 def layshow(run):
     refuse(12, run.arguments)
     job, table, log = (run.files.get(name, b"") for name in ("job.dat", "chain.dat", "lay.dat"))
-    records = [log[at : at + 32] for at in range(0, len(log), 32)]
-    return Outcome(run.files, text_of([job_line(job), *chain_lines(table), *map(log_line, records)]))
+    return Outcome(run.files, text_of([job_line(job), *chain_lines(table), *map(log_line, rule.pieces(log, 32))]))
 
 
 def shown(words, refusal, s):
@@ -238,49 +175,36 @@ def shown(words, refusal, s):
 
 
 def job_line(s):
-    if len(s) != 32:
+    refusal, _ = rule.tried(rule.job_in, s)
+    if refusal == 1:
         return shown(["JOB"], 1, s[:33])
-    numbers = struct.unpack("<IIB3xIQ8x", s)
-    return shown(["JOB", *numbers], job_refusal(s, *numbers), s)
-
-
-def job_refusal(s, east, north, k, tolerance, allowance):
-    if any(s[9:12] + s[24:32]):
-        return 2
-    if not is_window(east, north, k):
-        return 6
-    return 7 if tolerance > 100_000 else 0
+    job = rule.raw_job(s)
+    return shown(["JOB", *job.corner, *job[1:]], refusal, s)
 
 
 def chain_lines(table):
-    if not is_table(table):
+    refusal, chains = rule.tried(rule.chains_in, table)
+    if refusal:
         return [shown(["CHAIN"], 1, table[:385])]
-    chains = [table[at : at + 24] for at in range(0, len(table), 24)]
-    return [chain_line(number, s) for number, s in enumerate(chains, 1)]
+    return [chain_line(*each) for each in zip(range(1, 17), chains, rule.pieces(table, 24))]
 
 
-def chain_line(number, s):
-    numbers = struct.unpack("<6I", s)
-    return shown(["CHAIN", number, *numbers], 0 if is_sound(numbers) else 5, s)
+def chain_line(number, chain, s):
+    return shown(["CHAIN", number, *rule.flat(rule.stations(chain))], 0 if rule.is_sound(chain) else 5, s)
 
 
 def log_line(s):
-    if len(s) != 32:
-        return shown(["LOG"], 1, s)
-    kind, chain, line = struct.unpack("<BBxxI", s[:8])
-    numbers = centimetres(s[8:16]), centimetres(s[16:24])
-    told = ["-" if number is None else number for number in numbers]
-    return shown(["LOG", kind, chain, line, *told], log_refusal(s, kind, numbers), s)
-
-
-def log_refusal(s, kind, numbers):
     """Of a record by itself: whether its chain is in the table, and what it holds, is not told."""
-    unused = {1: s[24:], 2: s[1:2] + s[24:], 3: s[1:2] + s[8:]}
-    if kind not in unused or any(s[2:4] + unused[kind]):
-        return 2
-    if None in numbers:
-        return 3
-    return 4 if kind == 2 and not in_range(*numbers) else 0
+    refusal, _ = rule.tried(rule.log_record, s)
+    if refusal == 1:
+        return shown(["LOG"], 1, s)
+    kind, chain, line, numbers = rule.raw_record(s)
+    return shown(["LOG", kind, chain, line, *map(in_centimetres, numbers[:2])], refusal, s)
+
+
+def in_centimetres(x):
+    refusal, whole = rule.tried(rule.centimetres, x)
+    return "-" if refusal else whole
 
 
 TOOLS = {tool.__name__: tool for tool in (layjob, laychain, laywrite, layexpect, layshow)}
@@ -317,9 +241,16 @@ THREE = {
     ),
 }
 OUTER = [EAST, NORTH, 0, NORTH, EAST, 0]
+
+
+def table_of(chains):
+    """The table of chains that are given by their numbers, sound or not."""
+    return b"".join(rule.chain_bytes(rule.chain_of(numbers)) for numbers in chains)
+
+
 OLD = {
     "job.dat": b"a job that is no job, and longer than one",
-    "chain.dat": struct.pack("<6I", *OUTER) * 2,
+    "chain.dat": table_of([OUTER, OUTER]),
     "lay.dat": bytes(range(32)) * 3,
     "notes": b"a file that is none of the desk's\n",
 }
@@ -691,11 +622,11 @@ def expecting(values, why, files=THREE):
 
 
 def of_chains(*chains):
-    return {"chain.dat": b"".join(struct.pack("<6I", *chain) for chain in chains)}
+    return {"chain.dat": table_of(chains)}
 
 
 def expected():
-    for place in *stations(CHAIN), *stations(OUTER), [29999, 0], [15000, 20000], [3, 4], [12345, 678]:
+    for place in *rule.stations(rule.chain_of(CHAIN + OUTER)), [29999, 0], [15000, 20000], [3, 4], [12345, 678]:
         yield expecting([1, *place], "places")
     near = of_chains([1000, 1000, 1000, 1005, 1007, 1000])
     for place in [1000, 1000], [1000, 1005], [1007, 1000], [1000, 1002], [1000, 1003], [1003, 1000], [1003, 1003], [1004, 1000]:
@@ -746,30 +677,22 @@ def showing(why, **files):
     return Run("layshow", files={name: s for name, s in named.items() if s is not None}, why=why)
 
 
-def as_job(east=30000, north=40000, k=1, tolerance=0, allowance=100, zeros=b"\0\0\0", last=bytes(8)):
-    return struct.pack("<IIB", east, north, k) + zeros + struct.pack("<IQ", tolerance, allowance) + last
-
-
-def with_byte(s, at, byte):
-    return s[:at] + bytes([byte]) + s[at + 1 :]
-
-
 def shown_jobs():
     for at in 9, 10, 11, 24, 31:
         for byte in 1, 128:
-            yield showing("a byte that must be zero", job=with_byte(THREE["job.dat"], at, byte))
+            yield showing("a byte that must be zero", job=changed(THREE["job.dat"], at, byte))
     for changes in (
         *({"k": k} for k in (0, 24, 25, 255)),
-        *({"east": east, "k": k} for east in (EAST, EAST + 1, 2**32 - 1) for k in (0, 1)),
-        *({"north": north, "k": k} for north in (NORTH, NORTH + 1, 2**32 - 1) for k in (0, 1)),
+        *({"easting": east, "k": k} for east in (EAST, EAST + 1, 2**32 - 1) for k in (0, 1)),
+        *({"northing": north, "k": k} for north in (NORTH, NORTH + 1, 2**32 - 1) for k in (0, 1)),
         *({"tolerance": t} for t in (100_000, 100_001, 2**32 - 1)),
         *({"allowance": a} for a in (0, 2**32, 2**64 - 1)),
-        *({"k": 25, "tolerance": 100_001, "last": last} for last in (bytes(8), b"\1" + bytes(7))),
-        {"tolerance": 100_001, "zeros": b"\0\1\0"},
-        {"k": 24, "east": EAST - 2**24 + 1, "north": NORTH - 2**24 + 1},
-        {"k": 24, "east": EAST - 2**24 + 2},
+        *({"k": 25, "tolerance": 100_001, "last": last} for last in (0, 1)),
+        {"tolerance": 100_001, "zeros": (0, 1, 0)},
+        {"k": 24, "easting": EAST - 2**24 + 1, "northing": NORTH - 2**24 + 1},
+        {"k": 24, "easting": EAST - 2**24 + 2},
     ):
-        yield showing("jobs of 32 bytes", job=as_job(**changes))
+        yield showing("jobs of 32 bytes", job=records.job(**changes))
     yield showing("a job of 32 bytes", job=b"\xff" * 32)
     for length in 0, 1, 31, 33, 34, 64, 100_000:
         yield showing(f"a job of {length} bytes", job=(bytes(range(1, 256)) * 400)[:length])
@@ -779,25 +702,19 @@ def shown_tables():
     unsound = [0, 0, 0, 0, 0, 40000], [5, 6, 7, 8, 5, 6], [1, 1, 9, 9, 9, 9], [0] * 6, [2**32 - 1] * 6
     beyond = [instead(CHAIN, at, limit + 1) for at, limit in enumerate([EAST, NORTH] * 3)]
     for chains in [OUTER], [CHAIN, OUTER], unsound, beyond, [CHAIN, *unsound, OUTER, *beyond, CHAIN]:
-        yield showing("chains sound and not", chain=of_chains(*chains)["chain.dat"])
-    many = b"".join(struct.pack("<6I", i, 2 * i, 30000 + i, i, 7 * i, 40000 + i) for i in range(1, 5000))
+        yield showing("chains sound and not", chain=table_of(chains))
+    many = table_of([i, 2 * i, 30000 + i, i, 7 * i, 40000 + i] for i in range(1, 5000))
     for length in 0, 1, 23, 24, 25, 47, 48, 383, 384, 385, 386, 408, 70_000:
         yield showing(f"a table of {length} bytes", chain=many[:length])
 
 
-def as_record(kind, first, second, chain=0, number=7, third=bytes(8), zeros=b"\0\0"):
-    """Numbers are floats, or the eight bytes."""
-    eights = [x if isinstance(x, bytes) else struct.pack("<d", x) for x in (first, second, third)]
-    return bytes([kind, chain]) + zeros + struct.pack("<I", number) + b"".join(eights)
+def as_record(kind, first, second, chain=0, number=7, **others):
+    """Numbers are floats, or whole numbers where their patterns are meant."""
+    return records.log(kind, chain, number, first, second, **others)
 
 
-def pattern(bits):
-    return struct.pack("<Q", bits)
-
-
-QUIET, INFINITY, MINUS = 0x7FF8 << 48, 0x7FF0 << 48, 1 << 63
-NANS = [pattern(sign + bits) for sign in (0, MINUS) for bits in (QUIET, QUIET + 1, INFINITY + 1, MINUS - 1)]
-ODD = [*NANS, *(pattern(sign + bits) for sign in (0, MINUS) for bits in (INFINITY, 0, 1, 2**52))]
+NANS = [sign + bits for sign in (0, MINUS) for bits in (NAN, NAN + 1, INFINITY + 1, MINUS - 1)]
+ODD = [*NANS, *(sign + bits for sign in (0, MINUS) for bits in (INFINITY, 0, 1, 2**52))]
 ODD += [1e300, -1e300, 1e7, -1e7, nextafter(1e7, inf), -nextafter(1e7, inf), nextafter(1e7, 0.0), 1e7 + 1]
 TIES = [0.125, 0.375, 0.625, 0.875, 1.125, 0.005, 0.015, 0.025, 1.005, 300.01, 9_999_999.995, 4_999_999.125]
 PLACES = [-0.001, -0.01, -0.005, 1e6, 1_000_000.005, nextafter(1_000_000.005, 0.0), 1_000_000.01, 42_949_672.96, 9_999_999.99]
@@ -811,21 +728,21 @@ def shown_numbers():
     for x in ODD:
         for kind in 1, 2, 3, 255:
             yield as_record(kind, x, x, third=x)
-            yield as_record(kind, bytes(8), bytes(8), third=x)
+            yield as_record(kind, 0, 0, third=x)
 
 
 def shown_bytes():
     """Records with each byte changed, some in two places; chains and line numbers of any size."""
-    for s in grouped(THREE["lay.dat"], 32):
+    for s in rule.pieces(THREE["lay.dat"], 32):
         for at in range(32):
             for byte in 0, 1, 4, 127, 128, 255:
-                yield with_byte(bytes(s), at, byte)
+                yield changed(s, at, byte)
     for chain in 0, 1, 16, 17, 255:
-        yield from (as_record(kind, bytes(8), bytes(8), chain, 2**32 - 1) for kind in (1, 2, 3, 0))
-        yield as_record(1, pattern(QUIET), 2.0, chain)
-    yield as_record(2, 2e6, pattern(QUIET))
-    yield as_record(2, 2e6, pattern(INFINITY), zeros=b"\1\0")
-    yield as_record(1, pattern(QUIET), 2.0, zeros=b"\0\xff")
+        yield from (as_record(kind, 0, 0, chain, 2**32 - 1) for kind in (1, 2, 3, 0))
+        yield as_record(1, NAN, 2.0, chain)
+    yield as_record(2, 2e6, NAN)
+    yield as_record(2, 2e6, INFINITY, two=1)
+    yield as_record(1, NAN, 2.0, three=255)
     yield b"\xff" * 32
     yield bytes(32)
 
@@ -930,8 +847,7 @@ def drawn_text(draw, values_of, bytes_of, most):
 
 
 def drawn_table(draw, wild=0.3):
-    numbers = sum((drawn_chain(draw, wild) for _ in range(draw.randint(1, 16))), [])
-    return struct.pack(f"<{len(numbers)}I", *(number % 2**32 for number in numbers))
+    return table_of([number % 2**32 for number in drawn_chain(draw, wild)] for _ in range(draw.randint(1, 16)))
 
 
 def drawn_bytes(draw):
@@ -941,7 +857,7 @@ def drawn_bytes(draw):
     return draw.choice((
         sound,
         sound,
-        with_byte(sound, draw.randrange(32), draw.randrange(256)),
+        changed(sound, draw.randrange(32), draw.randrange(256)),
         as_record(draw.choice((1, 2)), draw.uniform(-2, 2) * 10 ** draw.randint(-3, 8), draw.random() * 1e7, number=number),
         draw.randbytes(32),
     ))
@@ -949,7 +865,8 @@ def drawn_bytes(draw):
 
 def drawn_files(draw):
     """The files as they may be found, some missing, some cut or too long."""
-    job = as_job(*(number % 2**bits for number, bits in zip(drawn_job(draw, 0.2), (32, 32, 8, 32, 64))))
+    east, north, *others = (number % 2**bits for number, bits in zip(drawn_job(draw, 0.2), (32, 32, 8, 32, 64)))
+    job = rule.job_bytes(rule.Job((east, north), *others))
     log = b"".join(drawn_bytes(draw) for _ in range(draw.randint(0, 60)))
     files = {"job.dat": job, "chain.dat": drawn_table(draw), "lay.dat": log}
     for name in FILES["layshow"]:

@@ -1,6 +1,6 @@
 #!/usr/bin/env bash
 # What the desk's tools make of text, arguments and files, against docs/FORMATS.md and document 01, byte by byte, and against
-# a reading of its own (tools.py); what they tell where a file cannot be read or written; bin/; and the walk of README.md. A
+# the rule (tools.py, rule.py); what they tell where a file cannot be read or written; bin/; and the walk of README.md. A
 # seed other than the gate's may be given.
 cd "$(dirname "$0")/.." && . tests/common.bash
 export LC_ALL=C

@@ -1,6 +1,6 @@
 #!/usr/bin/env bash
-# What a reader relies on: the layout, no proof among the definitions, and a full contract, with its row and its edits, for
-# every public function; and that the faults of every crate are those that its rows name.
+# What a reader relies on: the layout, no proof among the definitions, one meaning to a name, and for every public function a full
+# contract with one answer, its row in docs/CONTRACTS.md and its faults.
 cd "$(dirname "$0")/.." && . tests/common.bash
 
 pass_if 'every file is in the layout of rt fmt' rt fmt --check
@@ -10,6 +10,23 @@ no_proof() { ! grep -vE '^ *--' "$1" | grep -nwE 'omega|refl|rw|simp|cc|subst|ap
 while read -r file; do
     pass_if "$file holds no proof" no_proof "$file"
 done < <(find crates -path '*/specs/*.antt' | sort)
+
+# declared FILE...: the names that they declare: types, definitions, and laws at the top of a file; a line each, sorted.
+declared() {
+    awk '
+        { i = 1; while ($i ~ /^(pub|abbrev|unfoldable|opaque)$/) i++ }
+        $i ~ /^(record|data|struct|enum)$/ && $(i + 1) != "{" { print $(i + 1); next }
+        $(i + 1) == ":" && (/^[^ ]/ || $1 ~ /^(abbrev|unfoldable|opaque)$/) { print $i }
+    ' "$@" | sort
+}
+
+# none WORD...: that there is none; else they are told.
+none() { [ $# = 0 ] || { echo "$*"; false; }; }
+
+# A reader of a contract knows a definition by its name alone: it means one thing in the whole tree, and no law has it.
+definitions=$(declared crates/*/specs/*.antt crates/*/src/*.rt)
+pass_if 'no two definitions have one name' none $(uniq -d <<<"$definitions")
+pass_if 'no law has the name of a definition' none $(comm -12 <(uniq <<<"$definitions") <(declared crates/*/proofs/*.antt | uniq))
 
 # public FILE: a line for each public function, its name, and `full` where it has an ensures and no requires.
 public() {
@@ -21,23 +38,18 @@ public() {
     ' "$1"
 }
 
-# shown FUNCTION: the faults in the last cell of its row.
-shown() {
-    sed -n "s/^| \`$1\` |.*| \([^|]*\) |\$/\1/p" docs/CONTRACTS.md | grep -o '`[a-z_0-9]*`' | tr -d '`'
-}
+# faults CRATE: a line for each of its faults, its name and the functions that it is in and for.
+faults() { cat "crates/$1/must-fail/"*.edit 2>/dev/null | sed -n 's/ for / /; s/^fault: \([a-z_0-9]*\) in /\1 /p'; }
 
-# faults CRATE: the names of its faults. An edit that names none is one itself.
-faults() {
-    local edit
-    for edit in "crates/$1/must-fail/"*.edit; do
-        [ -f "$edit" ] || continue
-        sed -n 's/^fault: \([a-z_0-9]*\) in .*/\1/p' "$edit" | grep . || basename "$edit" .edit
-    done
-}
+# faulty FUNCTION COUNT: that so many of the faults on standard input, or more, are in the function or for it
+faulty() { [ "$(cut -d ' ' -f 2- | grep -cw "$1")" -ge "$2" ]; }
 
-# one_answer FUNCTION: that it is proved to have one, or named as one that cannot
+# one_answer CRATE FUNCTION: that it is proved to have one, or named as one that cannot
 one_answer() {
-    grep -q "^  -- $1, by " crates/demands/proofs/OnlyAnswers.antt || grep -q "^No one answer: .*\`$1\`" docs/CONTRACTS.md
+    local alias
+    alias=$(sed -n "s/^use Rattle·$1\.proofs\.$2 as //p" crates/demands/proofs/OnlyAnswers.antt)
+    [ -n "$alias" ] && grep -qF "OneAnswer 𝓤 $alias.ended ($alias.clauses " crates/demands/proofs/OnlyAnswers.antt ||
+        grep -q "^No one answer: .*\`$1::$2\`" docs/CONTRACTS.md
 }
 
 # rows CRATE: the functions that have a row, those of a program's too, which has no public one.
@@ -45,21 +57,20 @@ rows() { sed -n "s/^| \`$1::\([a-z_0-9]*\)\` |.*/\1/p" docs/CONTRACTS.md; }
 
 for crate in crates/*/; do
     name=$(basename "$crate")
-    there=$(faults "$name")
+    there=$(faults "$name") rows=$(rows "$name")
     while read -r function kind; do
         pass_if "$name::$function fixes what it returns and requires nothing" [ "$kind" = full ]
-        pass_if "$name::$function is proved to have one answer" one_answer "$name::$function"
-        pass_if "docs/CONTRACTS.md names two faults for $name::$function" [ "$(shown "$name::$function" | wc -w)" -ge 2 ]
+        pass_if "$name::$function is proved to have one answer" one_answer "$name" "$function"
+        pass_if "docs/CONTRACTS.md has a row for $name::$function" grep -qx "$function" <<<"$rows"
+        pass_if "$name::$function has two faults" faulty "$function" 2 <<<"$there"
     done < <(cat "$crate"/src/*.rt | public -)
-    for function in $(rows "$name"); do
-        pass_if "$name::$function is there" grep -qE "fn $function[(<]" "$crate"/src/*.rt
-        for fault in $(shown "$name::$function"); do
-            pass_if "$name::$function: the fault $fault is there" grep -qx "$fault" <<<"$there"
-        done
+    for function in $rows; do
+        pass_if "$name::$function has a fault" faulty "$function" 1 <<<"$there"
     done
-    pass_if "no two faults of $name have one name" [ -z "$(sort <<<"$there" | uniq -d)" ]
-    for fault in $there; do
-        pass_if "docs/CONTRACTS.md names the fault $fault of $name" grep -q "^| \`$name::.*\`$fault\`" docs/CONTRACTS.md
+    pass_if "no two functions of $name have one row" none $(sort <<<"$rows" | uniq -d)
+    pass_if "no two faults of $name have one name" none $(cut -d ' ' -f 1 <<<"$there" | sort | uniq -d)
+    for function in $rows $(cut -s -d ' ' -f 2- <<<"$there"); do
+        pass_if "$name::$function is there" grep -qE "fn $function[(<]" "$crate"/src/*.rt
     done
 done
 

@@ -1,22 +1,37 @@
-//! Requests on standard input, one answer a line: what the library for C promises, worked out from 01 here.
+//! Requests on standard input, one answer a line: what the library for C promises, worked out from 01 here. What a request
+//! may be stands at the head of tests/lay.c.
 
 use std::fmt::Display;
 use std::str::FromStr;
 
-use crate::chart::{self, Chain, Place, Readings};
+use crate::chart::{self, Place, Readings};
 use crate::listing;
 use crate::numbers;
 use crate::records::{self, Draft, Entry};
 use crate::refusals;
-use crate::search::{self, Job};
+use crate::search::{self, Found, Job};
 use crate::words::{hex, unhex};
+
+/// The number of what the library's header declares.
+const VERSION: u32 = 1;
 
 /// The bytes that the library wants for each record of a listing, and for one more.
 pub const LINE_BYTES: usize = 5760;
 
+/// How many readings a chain has, and how many numbers its stations.
+pub const CHAIN_READINGS: usize = 2;
+pub const CHAIN_NUMBERS: usize = 6;
+
 /// The words of a request behind its verb, taken one by one.
 struct Request<'a> {
     words: std::str::Split<'a, char>,
+}
+
+fn number<T: FromStr>(word: &str) -> Result<T, String> {
+    if word.starts_with('+') {
+        return Err(format!("no number: {word}"));
+    }
+    word.parse().map_err(|_| format!("no number: {word}"))
 }
 
 impl<'a> Request<'a> {
@@ -25,23 +40,55 @@ impl<'a> Request<'a> {
     }
 
     fn number<T: FromStr>(&mut self) -> Result<T, String> {
-        let word = self.word()?;
-        if word.starts_with('+') {
-            return Err(format!("no number: {word}"));
-        }
-        word.parse().map_err(|_| format!("no number: {word}"))
+        number(self.word()?)
+    }
+
+    /// All the words that are left.
+    fn numbers<T: FromStr>(&mut self) -> Result<Vec<T>, String> {
+        self.words.by_ref().map(number).collect()
+    }
+
+    /// A lent buffer or list: its length, and what each element holds before the call.
+    fn lent<T: FromStr + Clone>(&mut self) -> Result<Vec<T>, String> {
+        let length = self.number()?;
+        Ok(vec![self.number()?; length])
     }
 
     fn bytes(&mut self) -> Result<Vec<u8>, String> {
         unhex(self.word()?)
     }
 
-    fn place(&mut self) -> Result<Place, String> {
-        Ok(chart::place(self.number()?, self.number()?))
+    /// The bytes of a chain, which may stand as its numbers with commas between.
+    fn chain(&mut self) -> Result<Vec<u8>, String> {
+        let word = self.word()?;
+        if !word.contains(',') {
+            return unhex(word);
+        }
+        let numbers = word.split(',').map(number).collect::<Result<Vec<u32>, _>>()?;
+        let numbers = numbers.try_into().map_err(|_| format!("no chain: {word}"))?;
+        Ok(records::chain_bytes(&chart::chain(numbers)).to_vec())
     }
 
-    fn chain(&mut self) -> Result<Chain, String> {
-        Ok(Chain { master: self.place()?, a: self.place()?, b: self.place()? })
+    /// The bytes of a job, which may stand as its numbers with commas between, k in one byte.
+    fn job(&mut self) -> Result<Vec<u8>, String> {
+        let word = self.word()?;
+        if !word.contains(',') {
+            return unhex(word);
+        }
+        let [easting, northing, k, tolerance, allowance] = word.split(',').collect::<Vec<_>>()[..] else {
+            return Err(format!("no job: {word}"));
+        };
+        let job = Job {
+            corner: chart::place(number(easting)?, number(northing)?),
+            k: number::<u8>(k)?.into(),
+            tolerance: number(tolerance)?,
+            allowance: number(allowance)?,
+        };
+        Ok(records::job_bytes(&job).to_vec())
+    }
+
+    fn place(&mut self) -> Result<Place, String> {
+        Ok(chart::place(self.number()?, self.number()?))
     }
 
     fn end(mut self) -> Result<(), String> {
@@ -49,8 +96,29 @@ impl<'a> Request<'a> {
     }
 }
 
-fn joined<T: Display>(numbers: &[T]) -> String {
-    numbers.iter().map(T::to_string).collect::<Vec<_>>().join(" ")
+/// The numbers at the head of an answer, and behind them every entry of a lent list.
+fn with_entries<T: Display>(head: impl Display, list: &[T]) -> String {
+    list.iter().fold(head.to_string(), |answer, entry| format!("{answer} {entry}"))
+}
+
+/// Fills a lent buffer or list with what a call gives it, or with zeros, and answers with the refusal.
+fn fill<T: Copy + Default>(lent: &mut [T], given: Result<impl AsRef<[T]>, u32>) -> u32 {
+    match given {
+        Ok(elements) => {
+            lent.copy_from_slice(elements.as_ref());
+            0
+        }
+        Err(refusal) => {
+            lent.fill(T::default());
+            refusal
+        }
+    }
+}
+
+/// The answer of a writer: the refusal, and what it leaves in the buffer.
+fn written(mut buffer: Vec<u8>, record: Result<impl AsRef<[u8]>, u32>) -> String {
+    let refusal = fill(&mut buffer, record);
+    format!("{refusal} {}", hex(&buffer))
 }
 
 /// The answer to one request, or what is wrong with the request.
@@ -59,15 +127,19 @@ pub fn answer(line: &str) -> Result<String, String> {
     let verb = words.next().unwrap_or("");
     let request = Request { words };
     match verb {
+        "version" => request.end().map(|_| VERSION.to_string()),
         "centimetres" => centimetres(request),
         "metres" => metres(request),
         "expected" => expected(request),
         "search" => search(request),
-        "record" => record(request),
-        "write" => write(request),
-        "job" => job(request),
-        "count" => count(request),
+        "read_record" => read_record(request),
+        "write_record" => write_record(request),
+        "read_job" => read_job(request),
+        "write_job" => write_job(request),
+        "count_chains" => count_chains(request),
         "chain" => chain(request),
+        "read_chain" => read_chain(request),
+        "write_chain" => write_chain(request),
         "list" => list(request),
         _ => Err(format!("unknown verb: {verb}")),
     }
@@ -93,34 +165,43 @@ fn metres(mut request: Request) -> Result<String, String> {
 }
 
 fn expected(mut request: Request) -> Result<String, String> {
+    let mut list: Vec<i64> = request.lent()?;
     let (chain, place) = (request.chain()?, request.place()?);
     request.end()?;
-    Ok(match chart::expected(&chain, place) {
-        Ok(Readings { a, b }) => format!("0 {a} {b}"),
-        Err(refusal) => format!("{refusal} 0 0"),
-    })
+    let readings = expected_readings(list.len(), &chain, place);
+    let refusal = fill(&mut list, readings);
+    Ok(with_entries(refusal, &list))
+}
+
+/// Of a list with so many entries and the bytes of a chain: 1 for either length, then 4, 5.
+fn expected_readings(entries: usize, chain: &[u8], place: Place) -> Result<[i64; CHAIN_READINGS], u32> {
+    records::fits(entries, CHAIN_READINGS)?;
+    let Readings { a, b } = chart::expected(&records::raw_chain(chain)?, place)?;
+    Ok([a, b])
 }
 
 fn search(mut request: Request) -> Result<String, String> {
-    let entries: usize = request.number()?;
-    let dirt: u32 = request.number()?;
-    let chain = request.chain()?;
-    let wanted = Readings { a: request.number()?, b: request.number()? };
-    let job =
-        Job { corner: request.place()?, k: request.number()?, tolerance: request.number()?, allowance: request.number()? };
-    request.end()?;
-    let mut lent = vec![dirt; entries];
-    let found = search::search(&chain, wanted, &job, entries / 2);
+    let mut list: Vec<u32> = request.lent()?;
+    let (chain, job) = (request.chain()?, request.job()?);
+    let readings: Vec<i64> = request.numbers()?;
+    let found = search_by_bytes(&chain, &readings, &job, list.len() / 2).unwrap_or_else(Found::unvisited);
     let mut places = found.places.iter().flat_map(|place| [place.easting, place.northing]);
-    lent.fill_with(|| places.next().unwrap_or(0));
+    list.fill_with(|| places.next().unwrap_or(0));
     let head = format!("{} {} {}", found.refusal, found.places.len(), found.visits);
-    if lent.is_empty() {
-        return Ok(head);
-    }
-    Ok(format!("{head} {}", joined(&lent)))
+    Ok(with_entries(head, &list))
 }
 
-fn record(mut request: Request) -> Result<String, String> {
+/// 1 for all three lengths, then 2 for the job's bytes, then what a search refuses.
+fn search_by_bytes(chain: &[u8], readings: &[i64], job: &[u8], room: usize) -> Result<Found, u32> {
+    let chain = records::raw_chain(chain)?;
+    let &[a, b] = readings else {
+        return Err(refusals::LENGTH);
+    };
+    let job = records::raw_job(job)?;
+    Ok(search::search(&chain, Readings { a, b }, &job, room))
+}
+
+fn read_record(mut request: Request) -> Result<String, String> {
     let bytes = request.bytes()?;
     request.end()?;
     if bytes.len() != records::RECORD {
@@ -135,9 +216,8 @@ fn record(mut request: Request) -> Result<String, String> {
     })
 }
 
-fn write(mut request: Request) -> Result<String, String> {
-    let length: usize = request.number()?;
-    let dirt: u8 = request.number()?;
+fn write_record(mut request: Request) -> Result<String, String> {
+    let buffer = request.lent()?;
     let draft = Draft {
         kind: request.number()?,
         chain: request.number()?,
@@ -146,21 +226,11 @@ fn write(mut request: Request) -> Result<String, String> {
         y: request.number()?,
     };
     request.end()?;
-    let mut lent = vec![dirt; length];
-    let refusal = match records::write(lent.len(), &draft) {
-        Ok(record) => {
-            lent.copy_from_slice(&record);
-            0
-        }
-        Err(refusal) => {
-            lent.fill(0);
-            refusal
-        }
-    };
-    Ok(format!("{refusal} {}", hex(&lent)))
+    let record = records::write(buffer.len(), &draft);
+    Ok(written(buffer, record))
 }
 
-fn job(mut request: Request) -> Result<String, String> {
+fn read_job(mut request: Request) -> Result<String, String> {
     let bytes = request.bytes()?;
     request.end()?;
     Ok(match records::job(&bytes) {
@@ -171,7 +241,16 @@ fn job(mut request: Request) -> Result<String, String> {
     })
 }
 
-fn count(mut request: Request) -> Result<String, String> {
+fn write_job(mut request: Request) -> Result<String, String> {
+    let buffer = request.lent()?;
+    let job =
+        Job { corner: request.place()?, k: request.number()?, tolerance: request.number()?, allowance: request.number()? };
+    request.end()?;
+    let record = records::write_job(buffer.len(), &job);
+    Ok(written(buffer, record))
+}
+
+fn count_chains(mut request: Request) -> Result<String, String> {
     let table = request.bytes()?;
     request.end()?;
     Ok(match records::chain_count(&table) {
@@ -181,16 +260,43 @@ fn count(mut request: Request) -> Result<String, String> {
 }
 
 fn chain(mut request: Request) -> Result<String, String> {
+    let buffer = request.lent()?;
     let number = request.number()?;
     let table = request.bytes()?;
     request.end()?;
-    Ok(match records::chain(&table, number) {
-        Ok(Chain { master, a, b }) => {
-            let numbers = [master, a, b].map(|station| format!("{} {}", station.easting, station.northing));
-            format!("0 {}", joined(&numbers))
-        }
-        Err(refusal) => format!("{refusal} 0 0 0 0 0 0"),
-    })
+    let record = chain_record(buffer.len(), &table, number);
+    Ok(written(buffer, record))
+}
+
+/// The bytes of the chain of a number: 1 for no table, 5, then 1 for the buffer's length.
+fn chain_record(length: usize, table: &[u8], number: u32) -> Result<[u8; records::CHAIN_RECORD], u32> {
+    let chain = records::chain(table, number)?;
+    records::fits(length, records::CHAIN_RECORD)?;
+    Ok(records::chain_bytes(&chain))
+}
+
+fn read_chain(mut request: Request) -> Result<String, String> {
+    let mut list: Vec<u32> = request.lent()?;
+    let chain = request.chain()?;
+    request.end()?;
+    let stations = stations(list.len(), &chain);
+    let refusal = fill(&mut list, stations);
+    Ok(with_entries(refusal, &list))
+}
+
+/// Of a list with so many entries and the bytes of a chain: 1 for either length, then 5.
+fn stations(entries: usize, chain: &[u8]) -> Result<[u32; CHAIN_NUMBERS], u32> {
+    records::fits(entries, CHAIN_NUMBERS)?;
+    let chain = records::raw_chain(chain)?;
+    chart::admit_chain(&chain)?;
+    Ok(chart::chain_numbers(&chain))
+}
+
+fn write_chain(mut request: Request) -> Result<String, String> {
+    let buffer = request.lent()?;
+    let stations: Vec<u32> = request.numbers()?;
+    let record = records::write_chain(buffer.len(), &stations);
+    Ok(written(buffer, record))
 }
 
 fn list(mut request: Request) -> Result<String, String> {
@@ -217,10 +323,18 @@ fn list(mut request: Request) -> Result<String, String> {
 mod tests {
     use super::answer;
 
-    const CHAIN_1: &str = "0 0 30000 0 0 40000";
+    const CHAIN_1: &str = "0,0,30000,0,0,40000";
+    const CHAIN_1_BYTES: &str = "0000000000000000307500000000000000000000409c0000";
+    const UNSOUND: &str = "0,0,30000,0,0,0";
+    const JOB: &str = "30750000409c0000010000000000000064000000000000000000000000000000";
 
     fn ok(line: &str) -> String {
         answer(line).unwrap()
+    }
+
+    #[test]
+    fn the_version() {
+        assert_eq!(ok("version"), "1");
     }
 
     #[test]
@@ -233,29 +347,99 @@ mod tests {
 
     #[test]
     fn expected_readings() {
-        assert_eq!(ok(&format!("expected {CHAIN_1} 30000 40000")), "0 -10000 -20000");
-        assert_eq!(ok("expected 0 0 0 0 0 0 100000001 0"), "4 0 0");
+        assert_eq!(ok(&format!("expected 2 -9 {CHAIN_1} 30000 40000")), "0 -10000 -20000");
+        assert_eq!(ok(&format!("expected 2 -9 {CHAIN_1_BYTES} 30000 40000")), "0 -10000 -20000");
+        assert_eq!(ok(&format!("expected 3 -9 {UNSOUND} 100000001 0")), "1 0 0 0");
+        assert_eq!(ok(&format!("expected 0 -9 {CHAIN_1} 0 0")), "1");
+        assert_eq!(ok(&format!("expected 2 -9 {CHAIN_1_BYTES}00 100000001 0")), "1 0 0");
+        assert_eq!(ok(&format!("expected 2 -9 {UNSOUND} 100000001 0")), "4 0 0");
+        assert_eq!(ok(&format!("expected 2 -9 {UNSOUND} 0 0")), "5 0 0");
     }
 
     #[test]
     fn a_dirty_list_of_odd_length() {
         let ask =
-            |entries, allowance| ok(&format!("search {entries} 7 {CHAIN_1} -10000 -20000 30000 40000 1 0 {allowance}"));
+            |entries, allowance| ok(&format!("search {entries} 7 {CHAIN_1} 30000,40000,1,0,{allowance} -10000 -20000"));
         assert_eq!(ask(5, 5), "0 2 5 30000 40000 30001 40001 0");
         assert_eq!(ask(3, 5), "9 0 5 0 0 0");
         assert_eq!(ask(3, 4), "10 0 4 0 0 0");
         assert_eq!(ask(0, 0), "10 0 0");
+        let by_bytes = ok(&format!("search 5 7 {CHAIN_1_BYTES} {JOB} -10000 -20000"));
+        assert_eq!(by_bytes, "0 2 5 30000 40000 30001 40001 0");
+    }
+
+    #[test]
+    fn a_search_by_bytes_refuses_in_order() {
+        let ask = |rest: &str| ok(&format!("search 3 7 {rest}"));
+        let (job, beyond) = ("01".repeat(32), "1000000001 0");
+        for rest in [
+            format!("{}00 {job} {beyond}", CHAIN_1_BYTES),
+            format!("{} {job} {beyond}", &CHAIN_1_BYTES[2..]),
+            format!("{CHAIN_1_BYTES}{CHAIN_1_BYTES} {job} {beyond}"),
+            format!("- {job} {beyond}"),
+            format!("{UNSOUND} {job}"),
+            format!("{UNSOUND} {job} 1000000001"),
+            format!("{UNSOUND} {job} {beyond} 0"),
+            format!("{UNSOUND} {job}00 {beyond}"),
+            format!("{UNSOUND} {} {beyond}", &job[2..]),
+            format!("{UNSOUND} - {beyond}"),
+        ] {
+            assert_eq!(ask(&rest), "1 0 0 0 0 0", "{rest}");
+        }
+        assert_eq!(ask(&format!("{UNSOUND} {job} {beyond}")), "2 0 0 0 0 0");
+        assert_eq!(ask(&format!("{UNSOUND} 0,0,25,100001,0 {beyond}")), "3 0 0 0 0 0");
+        assert_eq!(ask(&format!("{UNSOUND} 0,0,25,100001,0 0 0")), "5 0 0 0 0 0");
+        assert_eq!(ask(&format!("{CHAIN_1} 0,0,25,100001,0 0 0")), "6 0 0 0 0 0");
+        assert_eq!(ask(&format!("{CHAIN_1} 0,0,24,100001,0 0 0")), "7 0 0 0 0 0");
+    }
+
+    #[test]
+    fn every_zero_byte_of_a_job_counts() {
+        for index in 0..32 {
+            let job = format!("{}01{}", &JOB[..2 * index], &JOB[2 * index + 2..]);
+            let refusal = ok(&format!("search 0 7 {CHAIN_1} {job} 1000000001 0"));
+            let zero = (9..=11).contains(&index) || index >= 24;
+            assert_eq!(refusal, if zero { "2 0 0" } else { "3 0 0" }, "{index}");
+        }
     }
 
     #[test]
     fn records_read_and_written() {
         let bytes = "010100000100000000000000000059c000000000000069c00000000000000000";
-        assert_eq!(ok(&format!("record {bytes}")), "0 1 1 1 -10000 -20000");
-        assert_eq!(ok("write 32 255 1 1 1 -10000 -20000"), format!("0 {bytes}"));
-        assert_eq!(ok("write 3 255 1 1 1 0 0"), "1 000000");
-        assert_eq!(ok("write 0 255 1 1 1 0 0"), "1 -");
-        assert_eq!(ok(&format!("record 09{}", &bytes[2..])), "2 0 0 1 0 0");
-        assert_eq!(ok("record -"), "1 0 0 0 0 0");
+        assert_eq!(ok(&format!("read_record {bytes}")), "0 1 1 1 -10000 -20000");
+        assert_eq!(ok("write_record 32 255 1 1 1 -10000 -20000"), format!("0 {bytes}"));
+        assert_eq!(ok("write_record 3 255 1 1 1 0 0"), "1 000000");
+        assert_eq!(ok("write_record 0 255 1 1 1 0 0"), "1 -");
+        assert_eq!(ok(&format!("read_record 09{}", &bytes[2..])), "2 0 0 1 0 0");
+        assert_eq!(ok("read_record -"), "1 0 0 0 0 0");
+    }
+
+    #[test]
+    fn jobs_read_and_written() {
+        assert_eq!(ok(&format!("read_job {JOB}")), "0 30000 40000 1 0 100");
+        assert_eq!(ok("write_job 32 255 30000 40000 1 0 100"), format!("0 {JOB}"));
+        assert_eq!(ok("write_job 3 255 30000 40000 25 100001 100"), "1 000000");
+        assert_eq!(ok("write_job 32 255 30000 40000 256 100001 100"), format!("6 {}", "00".repeat(32)));
+        assert_eq!(ok("write_job 32 255 30000 40000 0 100001 100"), format!("7 {}", "00".repeat(32)));
+    }
+
+    #[test]
+    fn chains_taken_out_read_and_written() {
+        let table = format!("{}{CHAIN_1_BYTES}", "00".repeat(24));
+        assert_eq!(ok(&format!("count_chains {table}")), "0 2");
+        assert_eq!(ok(&format!("chain 24 9 2 {table}")), format!("0 {CHAIN_1_BYTES}"));
+        assert_eq!(ok(&format!("chain 2 9 2 {table}")), "1 0000");
+        assert_eq!(ok(&format!("chain 2 9 1 {table}")), "5 0000");
+        assert_eq!(ok(&format!("chain 2 9 3 {table}")), "5 0000");
+        assert_eq!(ok(&format!("chain 24 9 3 {table}00")), format!("1 {}", "00".repeat(24)));
+        assert_eq!(ok(&format!("read_chain 6 9 {CHAIN_1_BYTES}")), "0 0 0 30000 0 0 40000");
+        assert_eq!(ok(&format!("read_chain 7 9 {UNSOUND}")), "1 0 0 0 0 0 0 0");
+        assert_eq!(ok("read_chain 6 9 00"), "1 0 0 0 0 0 0");
+        assert_eq!(ok(&format!("read_chain 6 9 {UNSOUND}")), "5 0 0 0 0 0 0");
+        assert_eq!(ok("write_chain 24 9 0 0 30000 0 0 40000"), format!("0 {CHAIN_1_BYTES}"));
+        assert_eq!(ok("write_chain 3 9 0 0 30000 0 0 0"), "1 000000");
+        assert_eq!(ok("write_chain 24 9"), format!("1 {}", "00".repeat(24)));
+        assert_eq!(ok("write_chain 24 9 0 0 30000 0 0 0"), format!("5 {}", "00".repeat(24)));
     }
 
     #[test]
@@ -270,9 +454,22 @@ mod tests {
 
     #[test]
     fn ill_formed_requests() {
-        for line in ["", "metres", "metres +1", "metres 1 ", "metres  1", "record 0", "record 0G", "centimetres 00", "fix 1"]
+        for line in
+            ["", "metres", "metres +1", "metres 1 ", "metres  1", "version 1", "read_record 0", "read_record 0G", "fix 1"]
         {
             assert!(answer(line).is_err(), "{line}");
+        }
+        for line in [
+            "centimetres 00",
+            "record -",
+            "read_job 0,0,0,0,0",
+            "expected 2 0 0,0,1,0,0 0 0",
+            "read_chain 6 0 0,0,1,0,0,1,1",
+        ] {
+            assert!(answer(line).is_err(), "{line}");
+        }
+        for job in ["0,0,256,0,0", "0,0,0,0", "0,0,0,0,0,0", "0,0,-1,0,0", "0,,0,0,0"] {
+            assert!(answer(&format!("search 0 0 {CHAIN_1} {job} 0 0")).is_err(), "{job}");
         }
     }
 }

@@ -1,6 +1,6 @@
 //! Requests for the answers, made from a seed: every verb, with edges, dirty buffers and odd lengths.
 
-use crate::answers::LINE_BYTES;
+use crate::answers::{CHAIN_NUMBERS, CHAIN_READINGS, LINE_BYTES};
 use crate::chart::{self, Chain, Place, Readings, MOST_EASTING, MOST_NORTHING};
 use crate::numbers::MOST_CENTIMETRES;
 use crate::pieces;
@@ -13,19 +13,29 @@ use crate::words::hex;
 const FEW_VISITS: u64 = 2000;
 const MANY_VISITS: u64 = 50_000;
 
+/// One request in so many asks for the version, which never changes.
+const VERSION_EVERY: u64 = 1000;
+
 /// The request of an index; a seed decides it whatever the count.
 pub fn request(seed: u64, index: u64) -> String {
     let random = &mut Random::for_item(seed, index);
-    match index % 14 {
+    if index.is_multiple_of(VERSION_EVERY) {
+        return "version".into();
+    }
+    match index % 20 {
         0 => format!("centimetres {:016x}", pattern(random)),
         1 => format!("metres {}", centimetres(random)),
-        2 => expected(random),
-        3..=5 => searching(random),
-        6 | 7 => format!("record {}", hex(&record(random))),
-        8 => writing(random),
-        9 => format!("job {}", hex(&job(random))),
-        10 => format!("count {}", hex(&table(random))),
-        11 => chain_asked(random),
+        2 | 3 => expected(random),
+        4..=6 => searching(random),
+        7 => faulty_searching(random),
+        8 | 9 => format!("read_record {}", hex(&record(random))),
+        10 => record_writing(random),
+        11 => format!("read_job {}", hex(&job(random))),
+        12 => job_writing(random),
+        13 => format!("count_chains {}", hex(&table(random))),
+        14 | 15 => chain_asked(random),
+        16 => chain_reading(random),
+        17 => chain_writing(random),
         _ => listing(random),
     }
 }
@@ -72,8 +82,65 @@ fn place_words(place: Place) -> String {
     format!("{} {}", place.easting, place.northing)
 }
 
-fn chain_words(chain: &Chain) -> String {
-    [chain.master, chain.a, chain.b].map(place_words).join(" ")
+fn joined(numbers: &[u32], between: &str) -> String {
+    numbers.iter().map(u32::to_string).collect::<Vec<_>>().join(between)
+}
+
+/// A chain by its numbers or by its bytes.
+fn chain_word(random: &mut Random, chain: &Chain) -> String {
+    if random.once_in(2) {
+        return joined(&chart::chain_numbers(chain), ",");
+    }
+    hex(&records::chain_bytes(chain))
+}
+
+/// A chain by its numbers or by its bytes, which are too few or too many once in eight.
+fn doubtful_chain_word(random: &mut Random, chain: &Chain) -> String {
+    if !random.once_in(8) {
+        return chain_word(random, chain);
+    }
+    let mut bytes = records::chain_bytes(chain).to_vec();
+    misfit(random, &mut bytes);
+    hex(&bytes)
+}
+
+/// A job by its numbers or by its bytes.
+fn job_word(random: &mut Random, job: &Job) -> String {
+    if random.once_in(2) {
+        let Job { corner, k, tolerance, allowance } = job;
+        return format!("{},{},{k},{tolerance},{allowance}", corner.easting, corner.northing);
+    }
+    hex(&records::job_bytes(job))
+}
+
+/// A length that does not fit, mostly: beside the one that does, twice that, none or any.
+fn misfit_length(random: &mut Random, fitting: usize) -> usize {
+    let any = random.below(2 * fitting as u64 + 1) as usize;
+    random.pick(&[fitting - 1, fitting + 1, 2 * fitting, 0, any, any, any])
+}
+
+/// The length that fits mostly.
+fn length(random: &mut Random, fitting: usize) -> usize {
+    if random.once_in(4) {
+        return misfit_length(random, fitting);
+    }
+    fitting
+}
+
+/// Cuts bytes off, or puts more behind.
+fn misfit(random: &mut Random, bytes: &mut Vec<u8>) {
+    let length = misfit_length(random, bytes.len());
+    let any = random.byte();
+    bytes.resize(length, random.pick(&[0, any]));
+}
+
+/// What the bytes of a lent buffer hold, and the entries of a lent list.
+fn byte_dirt(random: &mut Random) -> u8 {
+    random.pick(&[0, 1, 0x55, 0xff])
+}
+
+fn list_dirt(random: &mut Random) -> u32 {
+    random.pick(&[0, 1, 7, u32::MAX, 123_456_789])
 }
 
 fn expected(random: &mut Random) -> String {
@@ -81,7 +148,9 @@ fn expected(random: &mut Random) -> String {
     let near = if chart::in_range(place) { place } else { pieces::anywhere(random) };
     let chain = chain(random, near);
     let place = if random.once_in(9) { random.pick(&[chain.master, chain.a, chain.b]) } else { place };
-    format!("expected {} {}", chain_words(&chain), place_words(place))
+    let dirt = random.pick(&[0, 1, -1, i64::MAX, i64::MIN]);
+    let entries = length(random, CHAIN_READINGS);
+    format!("expected {entries} {dirt} {} {}", doubtful_chain_word(random, &chain), place_words(place))
 }
 
 /// What a search is asked for, before its allowance is settled.
@@ -111,7 +180,7 @@ fn entries(random: &mut Random) -> usize {
 fn search_job(random: &mut Random, place: Place) -> Job {
     let k = match random.below(30) {
         0 => random.between(20, 40) as u32,
-        1 => random.pick(&[24, 25, 31, 32, 33, 63, 64, 256, 257, u32::MAX]),
+        1 => random.pick(&[24, 25, 31, 32, 33, 63, 64, 127, 128, 255]),
         2..=8 => random.below(25) as u32,
         _ => random.below(7) as u32,
     };
@@ -158,17 +227,62 @@ fn searching(random: &mut Random) -> String {
     let wanted = wanted(random, &chain, place);
     let (entries, job) = (entries(random), search_job(random, place));
     let asked = Asked { chain, wanted, job, room: entries / 2 };
-    let dirt = random.pick(&[0, 1, 7, u32::MAX, 123_456_789]);
-    let allowance = allowance(random, &asked);
-    format!(
-        "search {entries} {dirt} {} {} {} {} {} {} {allowance}",
-        chain_words(&chain),
-        wanted.a,
-        wanted.b,
-        place_words(job.corner),
-        job.k,
-        job.tolerance
-    )
+    let dirt = list_dirt(random);
+    let job = Job { allowance: allowance(random, &asked), ..job };
+    let (chain, job) = (chain_word(random, &chain), job_word(random, &job));
+    format!("search {entries} {dirt} {chain} {job} {} {}", wanted.a, wanted.b)
+}
+
+/// A search with faults, often several at once, so that the order of the tests shows.
+fn faulty_searching(random: &mut Random) -> String {
+    let place = pieces::anywhere(random);
+    let chain = if random.once_in(3) { pieces::unsound_chain(random) } else { pieces::sound_chain(random, place, 5000) };
+    let (entries, dirt, readings) = (random.below(12), list_dirt(random), faulty_readings(random, &chain, place));
+    let (chain, job) = (doubtful_chain_word(random, &chain), faulty_job(random, place));
+    format!("search {entries} {dirt} {chain} {job}{readings}")
+}
+
+/// Readings, each with a space before it: two mostly, and within the limit mostly.
+fn faulty_readings(random: &mut Random, chain: &Chain, place: Place) -> String {
+    let exact = chart::expected(chain, place).unwrap_or(Readings { a: 1, b: 2 });
+    let count = if random.once_in(6) { random.pick(&[0, 1, 3, 4]) } else { CHAIN_READINGS };
+    let mut reading = |index| match random.below(6) {
+        0 => centimetres(random),
+        1 => random.pick(&[-1, 1]) * (MOST_CENTIMETRES + 1),
+        _ => [exact.a, exact.b][index % 2],
+    };
+    (0..count).map(|index| format!(" {}", reading(index))).collect()
+}
+
+/// The word of a job that may have a wrong window, tolerance, zero byte and length, with an allowance of few visits.
+fn faulty_job(random: &mut Random, place: Place) -> String {
+    let allowance = random.pick(&[0, 1, FEW_VISITS]);
+    let job = Job { allowance, ..doubtful_job(random, place) };
+    if random.once_in(3) {
+        return job_word(random, &job);
+    }
+    let mut bytes = pieces::job(&job);
+    if random.once_in(2) {
+        let zero = random.pick(&[9, 10, 11, 24, 25, 26, 27, 28, 29, 30, 31]);
+        bytes[zero] = random.pick(&[1, 0x80, 0xff]);
+    }
+    if random.once_in(6) {
+        misfit(random, &mut bytes);
+    }
+    hex(&bytes)
+}
+
+/// A job whose window is wrong once in three, and its tolerance too.
+fn doubtful_job(random: &mut Random, place: Place) -> Job {
+    let mut job = search_job(random, place);
+    if random.once_in(3) {
+        let beyond = chart::place(MOST_EASTING + 1, MOST_NORTHING + 1);
+        (job.corner, job.k) = random.pick(&[(job.corner, 25), (job.corner, 255), (beyond, job.k), (beyond, 0)]);
+    }
+    if random.once_in(3) {
+        job.tolerance = random.pick(&[MOST_TOLERANCE + 1, 1 << 31, u32::MAX]);
+    }
+    job
 }
 
 /// An allowance at an edge, or ample where the search is cheap.
@@ -234,9 +348,8 @@ fn spoil(random: &mut Random, bytes: &mut Vec<u8>) {
     }
 }
 
-fn writing(random: &mut Random) -> String {
-    let length = if random.once_in(3) { random.below(65) } else { 32 };
-    let dirt = random.pick(&[0, 1, 0x55, 0xff]);
+fn record_writing(random: &mut Random) -> String {
+    let (length, dirt) = (length(random, RECORD), byte_dirt(random));
     let kind = random.pick(&[1, 1, 1, 2, 2, 2, 3, 3, 0, 4, 257, u32::MAX]);
     let chain = random.pick(&[0, 1, 2, 15, 16, 17, 255, 257, u32::MAX]);
     let place = pieces::anywhere(random);
@@ -245,13 +358,28 @@ fn writing(random: &mut Random) -> String {
         1 => (centimetres(random).rem_euclid(1 << 28), centimetres(random).rem_euclid(1 << 30)),
         _ => (centimetres(random), centimetres(random)),
     };
-    format!("write {length} {dirt} {kind} {chain} {} {x} {y}", pieces::line(random))
+    format!("write_record {length} {dirt} {kind} {chain} {} {x} {y}", pieces::line(random))
+}
+
+/// A job with any allowance; once in three its window and tolerance are doubtful.
+fn any_job(random: &mut Random) -> Job {
+    let place = pieces::anywhere(random);
+    let job = if random.once_in(3) { doubtful_job(random, place) } else { search_job(random, place) };
+    let any = random.next();
+    Job { allowance: random.pick(&[0, 1, u64::MAX, 1 << 32, 1 << 63, any]), ..job }
+}
+
+/// Once in twelve with an exponent beyond a byte, whose lowest byte would often be allowed.
+fn job_writing(random: &mut Random) -> String {
+    let (length, dirt) = (length(random, RECORD), byte_dirt(random));
+    let Job { corner, k, tolerance, allowance } = any_job(random);
+    let wide = random.pick(&[k + 256, k + (1 << 16), k + (1 << 31), u32::MAX]);
+    let k = if random.once_in(12) { wide } else { k };
+    format!("write_job {length} {dirt} {} {k} {tolerance} {allowance}", place_words(corner))
 }
 
 fn job(random: &mut Random) -> Vec<u8> {
-    let place = pieces::anywhere(random);
-    let job = Job { allowance: random.pick(&[0, 1, u64::MAX, 1 << 32, 1 << 63]), ..search_job(random, place) };
-    let mut bytes = pieces::job(&job);
+    let mut bytes = pieces::job(&any_job(random));
     if random.once_in(20) {
         bytes = random.bytes(RECORD);
     }
@@ -278,7 +406,33 @@ fn chain_asked(random: &mut Random) -> String {
         0 => random.pick(&[0, 1, 16, 17, 255, 256, 257, u32::MAX.into(), count + 1]),
         _ => random.between(1, count.max(1) as i64) as u64,
     };
-    format!("chain {number} {}", hex(&bytes))
+    let (length, dirt) = (length(random, CHAIN_RECORD), byte_dirt(random));
+    format!("chain {length} {dirt} {number} {}", hex(&bytes))
+}
+
+/// A chain that is unsound once in three at least.
+fn doubtful_chain(random: &mut Random) -> Chain {
+    if random.once_in(3) {
+        return pieces::unsound_chain(random);
+    }
+    let place = pieces::anywhere(random);
+    chain(random, place)
+}
+
+fn chain_reading(random: &mut Random) -> String {
+    let chain = doubtful_chain(random);
+    let (entries, dirt) = (length(random, CHAIN_NUMBERS), list_dirt(random));
+    format!("read_chain {entries} {dirt} {}", doubtful_chain_word(random, &chain))
+}
+
+fn chain_writing(random: &mut Random) -> String {
+    let mut numbers = chart::chain_numbers(&doubtful_chain(random)).to_vec();
+    if random.once_in(6) {
+        let count = misfit_length(random, CHAIN_NUMBERS);
+        numbers.resize(count, list_dirt(random));
+    }
+    let (length, dirt) = (length(random, CHAIN_RECORD), byte_dirt(random));
+    format!("write_chain {length} {dirt} {}", joined(&numbers, " ")).trim_end().into()
 }
 
 fn listing(random: &mut Random) -> String {

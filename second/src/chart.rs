@@ -29,6 +29,22 @@ pub fn place(easting: u32, northing: u32) -> Place {
     Place { easting, northing }
 }
 
+/// A chain of its six numbers: easting and northing of master, A and B.
+pub fn chain(numbers: [u32; 6]) -> Chain {
+    let [master_easting, master_northing, a_easting, a_northing, b_easting, b_northing] = numbers;
+    Chain {
+        master: place(master_easting, master_northing),
+        a: place(a_easting, a_northing),
+        b: place(b_easting, b_northing),
+    }
+}
+
+/// The six numbers of a chain.
+pub fn chain_numbers(chain: &Chain) -> [u32; 6] {
+    let Chain { master, a, b } = chain;
+    [master.easting, master.northing, a.easting, a.northing, b.easting, b.northing]
+}
+
 pub fn in_range(place: Place) -> bool {
     place.easting <= MOST_EASTING && place.northing <= MOST_NORTHING
 }
@@ -36,6 +52,14 @@ pub fn in_range(place: Place) -> bool {
 pub fn is_sound(chain: &Chain) -> bool {
     let distinct = chain.master != chain.a && chain.master != chain.b && chain.a != chain.b;
     distinct && [chain.master, chain.a, chain.b].into_iter().all(in_range)
+}
+
+/// The refusal of a chain: 5.
+pub fn admit_chain(chain: &Chain) -> Result<(), u32> {
+    if !is_sound(chain) {
+        return Err(refusals::CHAIN);
+    }
+    Ok(())
 }
 
 /// Sixteen times the root of a leading byte and a half, to begin the root with.
@@ -109,9 +133,7 @@ pub fn expected(chain: &Chain, place: Place) -> Result<Readings, u32> {
     if !in_range(place) {
         return Err(refusals::RANGE);
     }
-    if !is_sound(chain) {
-        return Err(refusals::CHAIN);
-    }
+    admit_chain(chain)?;
     Ok(readings(chain, place))
 }
 
@@ -163,6 +185,12 @@ pub mod tests {
         assert_eq!(expected(&unsound, place(0, 0)), Err(5));
         assert_eq!(expected(&Chain { b: far, ..CHAIN_1 }, place(0, 0)), Err(5));
         assert!(expected(&CHAIN_1, place(MOST_EASTING, MOST_NORTHING)).is_ok());
+    }
+
+    #[test]
+    fn a_chain_has_six_numbers() {
+        assert_eq!(chain([0, 0, 30000, 0, 0, 40000]), CHAIN_1);
+        assert_eq!(chain_numbers(&chain([1, 2, 3, 4, 5, 6])), [1, 2, 3, 4, 5, 6]);
     }
 
     #[test]

@@ -1,7 +1,7 @@
 //! Logs at the edges: refusals, limits, holds, lengths, missing files, unsound chains and line numbers.
 
 use crate::chart::{self, Chain, Place, Readings, MOST_EASTING, MOST_NORTHING};
-use crate::making::Folder;
+use crate::folder::Folder;
 use crate::pieces;
 use crate::random::Random;
 use crate::records::RECORD;

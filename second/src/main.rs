@@ -4,6 +4,7 @@ mod answers;
 mod asking;
 mod chart;
 mod edges;
+mod folder;
 mod listing;
 mod making;
 mod numbers;

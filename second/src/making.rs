@@ -1,24 +1,14 @@
-//! Folders of made logs, each with the listing expected of it.
+//! Folders of made logs, of all kinds in turn.
 
-use std::fs;
 use std::io;
 use std::path::Path;
 
-use crate::chart::Chain;
+use crate::chart::{Chain, Readings};
 use crate::edges;
-use crate::listing;
-use crate::pieces;
+use crate::folder::Folder;
 use crate::random::Random;
 use crate::records::{self, Entry, RECORD};
-use crate::search::Job;
 use crate::tracks::{self, Purse};
-
-/// A log with its job and its table; a file may be missing.
-pub struct Folder {
-    pub job: Option<Vec<u8>>,
-    pub table: Option<Vec<u8>>,
-    pub log: Option<Vec<u8>>,
-}
 
 type Kind = fn(&mut Random, u64) -> Folder;
 
@@ -46,42 +36,23 @@ const KINDS: [Kind; 17] = [
 /// One folder in so many holds a long log.
 const LONG_EVERY: u64 = 400;
 
-impl Folder {
-    pub fn new(job: &Job, chains: &[Chain], log: &[[u8; RECORD]]) -> Folder {
-        Folder { job: Some(pieces::job(job)), table: Some(pieces::table(chains)), log: Some(log.concat()) }
-    }
-
-    pub fn set_job_byte(&mut self, index: usize, value: u8) {
-        if let Some(job) = &mut self.job {
-            job[index] = value;
-        }
-    }
-
-    fn listing(&self) -> io::Result<Vec<u8>> {
-        let bytes = |file: &Option<Vec<u8>>| file.clone().unwrap_or_default();
-        let mut text = Vec::new();
-        listing::list(&bytes(&self.job), &bytes(&self.table), &bytes(&self.log), None, &mut text)?;
-        Ok(text)
-    }
-
-    /// Whether all searches together cost no more visits than many logs can afford.
-    fn is_cheap(&self) -> bool {
-        let (Some(job), Some(table), Some(log)) = (&self.job, &self.table, &self.log) else {
-            return true;
-        };
-        let Ok(job) = records::job(job) else {
-            return true;
-        };
-        let mut purse = Purse(40_000 + 2 * log.len() as u64);
-        log.chunks(RECORD).all(|record| match named(table, record) {
-            Some((chain, wanted)) => purse.pays(&chain, wanted, &job),
-            None => true,
-        })
-    }
+/// Whether all searches together cost no more visits than many logs can afford.
+fn is_cheap(folder: &Folder) -> bool {
+    let (Some(job), Some(table), Some(log)) = (&folder.job, &folder.table, &folder.log) else {
+        return true;
+    };
+    let Ok(job) = records::job(job) else {
+        return true;
+    };
+    let mut purse = Purse(40_000 + 2 * log.len() as u64);
+    log.chunks(RECORD).all(|record| match named(table, record) {
+        Some((chain, wanted)) => purse.pays(&chain, wanted, &job),
+        None => true,
+    })
 }
 
 /// The search that a record asks for, if it comes to one.
-fn named(table: &[u8], record: &[u8]) -> Option<(Chain, crate::chart::Readings)> {
+fn named(table: &[u8], record: &[u8]) -> Option<(Chain, Readings)> {
     match records::entry(record).ok()? {
         Entry::Hyperbolic { chain, wanted } => Some((records::chain(table, chain.into()).ok()?, wanted)),
         _ => None,
@@ -93,35 +64,16 @@ fn made(seed: u64, index: u64) -> Folder {
     let kinds = KINDS.len() as u64;
     let (kind, turn) = (KINDS[(index % kinds) as usize], index / kinds);
     let mut folder = if index % LONG_EVERY == 5 { edges::long(&mut random, turn) } else { kind(&mut random, turn) };
-    if !folder.is_cheap() {
+    if !is_cheap(&folder) {
         let allowance = random.below(300);
         (16..24).zip(allowance.to_le_bytes()).for_each(|(byte, value)| folder.set_job_byte(byte, value));
     }
     folder
 }
 
-fn write(folder: &Folder, path: &Path) -> io::Result<()> {
-    fs::create_dir_all(path)?;
-    for (name, bytes) in [("job.dat", &folder.job), ("chain.dat", &folder.table), ("lay.dat", &folder.log)] {
-        match bytes {
-            Some(bytes) => fs::write(path.join(name), bytes)?,
-            None => remove(&path.join(name))?,
-        }
-    }
-    fs::write(path.join("expected"), folder.listing()?)
-}
-
-/// A file left by an earlier run must not stand where one is to be missing.
-fn remove(path: &Path) -> io::Result<()> {
-    match fs::remove_file(path) {
-        Err(error) if error.kind() != io::ErrorKind::NotFound => Err(error),
-        _ => Ok(()),
-    }
-}
-
 /// Makes so many folders below a root, named 00000 and on.
 pub fn make(seed: u64, count: u64, root: &Path) -> io::Result<()> {
-    (0..count).try_for_each(|index| write(&made(seed, index), &root.join(format!("{index:05}"))))
+    (0..count).try_for_each(|index| made(seed, index).write(&root.join(format!("{index:05}"))))
 }
 
 #[cfg(test)]

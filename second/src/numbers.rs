@@ -97,7 +97,7 @@ mod tests {
         assert_eq!(centimetres(most), Ok(1_000_000_000));
         assert_eq!(centimetres(most | 1 << 63), Ok(-1_000_000_000));
         assert_eq!(centimetres(most - 1), Ok(1_000_000_000));
-        for pattern in [most + 1, most + 1 | 1 << 63, f64::MAX.to_bits()] {
+        for pattern in [most + 1, (most + 1) | (1 << 63), f64::MAX.to_bits()] {
             assert_eq!(centimetres(pattern), Err(3));
         }
     }

@@ -3,7 +3,7 @@
 use crate::chart::{self, Chain, Place, Readings, MOST_EASTING, MOST_NORTHING};
 use crate::numbers::{self, MOST_CENTIMETRES};
 use crate::random::Random;
-use crate::records::RECORD;
+use crate::records::{self, RECORD};
 use crate::search::Job;
 
 const SIGN: u64 = 1 << 63;
@@ -183,14 +183,11 @@ pub fn hold(line: u32) -> [u8; RECORD] {
 }
 
 pub fn table(chains: &[Chain]) -> Vec<u8> {
-    let stations = chains.iter().flat_map(|chain| [chain.master, chain.a, chain.b]);
-    stations.flat_map(|station| [station.easting, station.northing]).flat_map(u32::to_le_bytes).collect()
+    chains.iter().flat_map(records::chain_bytes).collect()
 }
 
 pub fn job(job: &Job) -> Vec<u8> {
-    let corner = u64::from(job.corner.northing) << 32 | u64::from(job.corner.easting);
-    let middle = u64::from(job.tolerance) << 32 | u64::from(job.k as u8);
-    [corner, middle, job.allowance, 0].into_iter().flat_map(u64::to_le_bytes).collect()
+    records::job_bytes(job).to_vec()
 }
 
 /// Line numbers with the ends of their range among them.
@@ -222,7 +219,7 @@ pub fn damage(random: &mut Random, bytes: &mut Vec<u8>) {
 #[cfg(test)]
 mod tests {
     use super::*;
-    use crate::records::{self, Entry};
+    use crate::records::Entry;
 
     #[test]
     fn what_is_made_is_read() {

@@ -38,15 +38,21 @@ fn zero_under(mask: u32, bytes: &[u8]) -> bool {
     bytes.iter().enumerate().all(|(index, &byte)| mask >> index & 1 == 0 || byte == 0)
 }
 
+/// The refusal of a length: 1 for another one than is wanted.
+pub fn fits(length: usize, wanted: usize) -> Result<(), u32> {
+    if length != wanted {
+        return Err(refusals::LENGTH);
+    }
+    Ok(())
+}
+
 pub fn line_number(record: &[u8]) -> u32 {
     word(record, 4)
 }
 
 /// A log record by itself: 1, 2, 3, 4.
 pub fn entry(record: &[u8]) -> Result<Entry, u32> {
-    if record.len() != RECORD {
-        return Err(refusals::LENGTH);
-    }
+    fits(record.len(), RECORD)?;
     let zeros = match record[0] {
         1 => HYPERBOLIC_ZEROS,
         2 => GRID_ZEROS,
@@ -79,21 +85,64 @@ fn grid_place(easting: i64, northing: i64) -> Result<Place, u32> {
     Ok(place)
 }
 
-pub fn job(bytes: &[u8]) -> Result<Job, u32> {
-    if bytes.len() != RECORD {
-        return Err(refusals::LENGTH);
-    }
+/// The job as its bytes have it, whatever its window and its tolerance: 1, 2.
+pub fn raw_job(bytes: &[u8]) -> Result<Job, u32> {
+    fits(bytes.len(), RECORD)?;
     if !zero_under(JOB_ZEROS, bytes) {
         return Err(refusals::BYTES);
     }
-    let job =
-        Job { corner: place_at(bytes, 0), k: u32::from(bytes[8]), tolerance: word(bytes, 12), allowance: long(bytes, 16) };
+    Ok(Job { corner: place_at(bytes, 0), k: u32::from(bytes[8]), tolerance: word(bytes, 12), allowance: long(bytes, 16) })
+}
+
+/// A job: 1, 2, 6, 7.
+pub fn job(bytes: &[u8]) -> Result<Job, u32> {
+    let job = raw_job(bytes)?;
     search::admit_job(&job)?;
     Ok(job)
 }
 
+/// The bytes of a job; of k they have the lowest byte alone.
+pub fn job_bytes(job: &Job) -> [u8; RECORD] {
+    let mut bytes = [0; RECORD];
+    bytes[..4].copy_from_slice(&job.corner.easting.to_le_bytes());
+    bytes[4..8].copy_from_slice(&job.corner.northing.to_le_bytes());
+    bytes[8] = job.k as u8;
+    bytes[12..16].copy_from_slice(&job.tolerance.to_le_bytes());
+    bytes[16..24].copy_from_slice(&job.allowance.to_le_bytes());
+    bytes
+}
+
+/// The job written into a buffer of a length: 1, 6, 7.
+pub fn write_job(length: usize, job: &Job) -> Result<[u8; RECORD], u32> {
+    fits(length, RECORD)?;
+    search::admit_job(job)?;
+    Ok(job_bytes(job))
+}
+
 pub fn chain_count(table: &[u8]) -> Result<usize, u32> {
     (1..=MOST_CHAINS).find(|count| count * CHAIN_RECORD == table.len()).ok_or(refusals::LENGTH)
+}
+
+/// The chain as its bytes have it, sound or not: 1.
+pub fn raw_chain(record: &[u8]) -> Result<Chain, u32> {
+    fits(record.len(), CHAIN_RECORD)?;
+    Ok(Chain { master: place_at(record, 0), a: place_at(record, 8), b: place_at(record, 16) })
+}
+
+pub fn chain_bytes(chain: &Chain) -> [u8; CHAIN_RECORD] {
+    let mut bytes = [0; CHAIN_RECORD];
+    for (index, number) in chart::chain_numbers(chain).into_iter().enumerate() {
+        bytes[4 * index..][..4].copy_from_slice(&number.to_le_bytes());
+    }
+    bytes
+}
+
+/// The chain of some numbers written into a buffer of a length: 1 for either length, then 5.
+pub fn write_chain(length: usize, numbers: &[u32]) -> Result<[u8; CHAIN_RECORD], u32> {
+    let chain = chart::chain(numbers.try_into().map_err(|_| refusals::LENGTH)?);
+    fits(length, CHAIN_RECORD)?;
+    chart::admit_chain(&chain)?;
+    Ok(chain_bytes(&chain))
 }
 
 /// The chain of a number: 1 for the table, then 5.
@@ -102,11 +151,8 @@ pub fn chain(table: &[u8], number: u32) -> Result<Chain, u32> {
     if number == 0 || number > count {
         return Err(refusals::CHAIN);
     }
-    let record = &table[(number as usize - 1) * CHAIN_RECORD..];
-    let chain = Chain { master: place_at(record, 0), a: place_at(record, 8), b: place_at(record, 16) };
-    if !chart::is_sound(&chain) {
-        return Err(refusals::CHAIN);
-    }
+    let chain = raw_chain(&table[(number as usize - 1) * CHAIN_RECORD..][..CHAIN_RECORD])?;
+    chart::admit_chain(&chain)?;
     Ok(chain)
 }
 
@@ -122,9 +168,7 @@ pub struct Draft {
 
 /// The record written into a buffer of a length: 1 to 5 in this order.
 pub fn write(length: usize, draft: &Draft) -> Result<[u8; RECORD], u32> {
-    if length != RECORD {
-        return Err(refusals::LENGTH);
-    }
+    fits(length, RECORD)?;
     if !(1..=3).contains(&draft.kind) {
         return Err(refusals::BYTES);
     }
@@ -202,6 +246,32 @@ mod tests {
         bytes[8] = 24;
         bytes[31] = 0;
         assert_eq!(job(&bytes), Err(7));
+    }
+
+    #[test]
+    fn a_job_is_written_or_refused_by_number() {
+        let sound = Job { corner: chart::place(1, 0x0203_0405), k: 6, tolerance: 7, allowance: 0x0809 << 48 };
+        let bytes = write_job(32, &sound).unwrap();
+        assert_eq!(bytes[..12], [1, 0, 0, 0, 5, 4, 3, 2, 6, 0, 0, 0]);
+        assert_eq!(bytes[12..], [7, 0, 0, 0, 0, 0, 0, 0, 0, 0, 9, 8, 0, 0, 0, 0, 0, 0, 0, 0]);
+        assert_eq!(job(&bytes), Ok(sound));
+        let wrong = Job { k: 256, tolerance: 100_001, ..sound };
+        assert_eq!(write_job(33, &wrong), Err(1));
+        assert_eq!(write_job(32, &wrong), Err(6));
+        assert_eq!(write_job(32, &Job { k: 0, ..wrong }), Err(7));
+    }
+
+    #[test]
+    fn a_chain_is_written_or_refused_by_number() {
+        let bytes = write_chain(24, &[1, 2, 3, 4, 5, 0x0607]).unwrap();
+        assert_eq!(bytes, [1, 0, 0, 0, 2, 0, 0, 0, 3, 0, 0, 0, 4, 0, 0, 0, 5, 0, 0, 0, 7, 6, 0, 0]);
+        assert_eq!(raw_chain(&bytes), Ok(chart::chain([1, 2, 3, 4, 5, 0x0607])));
+        assert_eq!(raw_chain(&bytes[1..]), Err(1));
+        assert_eq!(
+            [(24, 5), (24, 7), (23, 6), (25, 6)].map(|(length, count)| write_chain(length, &[0; 9][..count])),
+            [Err(1); 4]
+        );
+        assert_eq!(write_chain(24, &[0; 6]), Err(5));
     }
 
     #[test]

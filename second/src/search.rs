@@ -36,6 +36,10 @@ impl Found {
     fn refused(refusal: u32, visits: u64) -> Found {
         Found { refusal, places: Vec::new(), visits }
     }
+
+    pub fn unvisited(refusal: u32) -> Found {
+        Found::refused(refusal, 0)
+    }
 }
 
 impl Square {
@@ -78,16 +82,14 @@ fn admit(chain: &Chain, wanted: Readings, job: &Job) -> Result<(), u32> {
     if !limits.contains(&wanted.a) || !limits.contains(&wanted.b) {
         return Err(refusals::NUMBER);
     }
-    if !chart::is_sound(chain) {
-        return Err(refusals::CHAIN);
-    }
+    chart::admit_chain(chain)?;
     admit_job(job)
 }
 
 /// The matching cells of the job's window in chart order, as many as there is room for.
 pub fn search(chain: &Chain, wanted: Readings, job: &Job, room: usize) -> Found {
     if let Err(refusal) = admit(chain, wanted, job) {
-        return Found::refused(refusal, 0);
+        return Found::unvisited(refusal);
     }
     let found = walk(chain, wanted, job, room);
     let complete = found.refusal == 0 || found.refusal == refusals::NOWHERE;

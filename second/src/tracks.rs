@@ -1,8 +1,8 @@
 //! Logs that search: tracks, double crossings, crowded windows and allowances at their edge.
 
 use crate::chart::{self, Chain, Place, Readings};
+use crate::folder::Folder;
 use crate::listing::ROOM;
-use crate::making::Folder;
 use crate::pieces;
 use crate::random::Random;
 use crate::search::{self, Job};

@@ -17,7 +17,7 @@ use Rattle.search.specs.declared.Window.{Window}
 use Rattle.search.specs.Windows.{isWindow, IsCellIn}
 use Rattle.search.specs.Questions.{Question, ruleOf, questionOf, noneTooLarge}
 use Rattle.search.specs.Answers.{Accepted, searchOf, searchFigures}
-use Rattle.search.specs.Cells.{Listed, AmpleRoom, AmpleAllowance}
+use Rattle.search.specs.Cells.{IsListed, AmpleRoom, AmpleAllowance}
 use Rattle.search.proofs.Outcomes.{ending}
 use Rattle.search.proofs.Theorems.{own-readings-found}
 use Rattle.listing.specs.Answers.{searched, placesOf}
@@ -40,10 +40,10 @@ own-readings c p readings e = go (inRange p) (isSound c) refl e
 -- A search with them finds the place.
 pub found-by : (c : Chain) (p : Place) (readings : List ℤ) (w : Window) (tolerance allowance entries : ℕ) →
     let q = questionOf c readings tolerance allowance entries in
-    expectedAt c p ≡ Expects readings → IsCellIn w p → Accepted (q .rule) w → AmpleRoom q w → AmpleAllowance q w → Listed p (searchOf q w .places)
+    expectedAt c p ≡ Expects readings → IsCellIn w p → Accepted (q .rule) w → AmpleRoom q w → AmpleAllowance q w → IsListed p (searchOf q w .places)
 found-by c p readings w tolerance allowance entries e inside =
     let asked : List ℤ → Question = λ rs. questionOf c rs tolerance allowance entries in
-    subst (λ (rs : List ℤ). Accepted (asked rs .rule) w → AmpleRoom (asked rs) w → AmpleAllowance (asked rs) w → Listed p (searchOf (asked rs) w .places))
+    subst (λ (rs : List ℤ). Accepted (asked rs .rule) w → AmpleRoom (asked rs) w → AmpleAllowance (asked rs) w → IsListed p (searchOf (asked rs) w .places))
     (own-readings c p readings e .0)
     (λ accepted room enough. own-readings-found c p w tolerance allowance entries accepted room enough inside)
 

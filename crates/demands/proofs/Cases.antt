@@ -10,9 +10,9 @@ use Rattle.search.specs.Windows.{isWindow}
 use Rattle.search.specs.Questions.{noneTooLarge}
 use Rattle.search.specs.Walk.{visited, cell, visit}
 use Rattle.search.specs.Answers.{ended, searchOf, searchFigures}
-use Rattle.demands.specs.Cases.{table, answerTo, answersTo, answersIn}
+use Rattle.demands.specs.Cases.{pCases, answerTo, answersTo, answersIn}
 
 -- To every case of the table the definitions answer what 01 says.
-pub as-01-says : answersTo table ≡ answersIn table
+pub as-01-says : answersTo pCases ≡ answersIn pCases
 unfolding answersTo answersIn answerTo figuresOf expectedAt wholeFigures centimetresOf div ofInt searchFigures searchOf ended visit visited cell noneTooLarge isWindow within differ readingOf rangeOf distanceOf isSound inRange samePlace root
 as-01-says = refl

@@ -31,7 +31,7 @@ use Rattle.records.specs.declared.JobAnswer.{JobAnswer}
 use Rattle.records.specs.declared.JobAnswer.the-variants as answer
 use Rattle.records.specs.Bytes.{byteAt}
 use Rattle.records.specs.LogRecords.{rawRecordOf, logRecordOf, logEntryOf}
-use Rattle.records.specs.ChainTables.{chainCountOf, chainOf}
+use Rattle.records.specs.ChainTables.{chainCountOf, rawChainOf, chainOf}
 use Rattle.records.specs.Jobs.{jobOf}
 use Rattle.records.specs.Refusals.{rawRefusal, logRefusal, entryRefusal, countRefusal, chainRefusal, jobRefusal, isAmong}
 use Rattle.records.proofs.Theorems.{raw-refusals, log-refusals, entry-refusals, count-refusals, chain-refusals, job-refusals}
@@ -44,12 +44,13 @@ use Rattle.listing.specs.declared.Carried.{Carried}
 use Rattle.listing.specs.declared.Carried.the-variants as carried
 use Rattle.listing.specs.Answers.{Refused, answerOf}
 use Rattle.text.specs.Texts.{spaced, bytesIn}
-use Rattle.listing.specs.Listings.{Part, listingOf, hasRoom, listedIn, bufferWith}
+use Rattle.listing.specs.Listings.{Part, listingOf, hasListingRoom, listedIn, bufferWith}
 use Rattle.listing.proofs.Theorems.{job-first, then-chain}
-use Rattle.desk.specs.Figures.{chainBy, windowBy, recordFigures, countFigures, chainFigures, jobFigures, heldFigures, listedFigures}
-use Rattle.demands.specs.Numbers.{recordRefusal, listedRefusal, NoneOr, Refuses, Leaves}
+use Rattle.chart.specs.Places.{placeOf}
+use Rattle.lay.specs.Figures.{jobBy, chainBy, chainTold, chainWritten, stationsTold, expectedTold, searchTold, recordFigures, countFigures, jobAnswered, heldFigures, listedFigures}
+use Rattle.demands.specs.Numbers.{recordRefusal, listedRefusal, NoneOr, Refuses, Leaves, SearchIsTold}
 use Rattle.demands.proofs.NumberLaws.{some-number, whole-number, length-number, readings-number, listed-number, search-number, refused-lists, refused-early, answered-lists, room-kept, list-length, job-good, answer-number}
-use Rattle.demands.proofs.LibraryLaws.{record-told, count-told, chain-told, job-told, listing-told}
+use Rattle.demands.proofs.LibraryLaws.{record-told, count-told, chain-told, stations-counted, bytes-counted, stations-told, expected-told, job-told, listing-told, search-told}
 use Rattle.demands.proofs.NeverLaws.{raw-never, log-never, entry-never, count-never, chain-never, job-never, answer-never}
 
 -- A number of metres gets its centimetres, or 3 and then 0 centimetres.
@@ -195,7 +196,7 @@ pub listing-answered : (out log : List ℕ) (p : Part) →
     let answer = listedIn (length out) log p in
     NoneOr (9 ∷ []) (listedRefusal answer) × (Refuses (listedRefusal answer) → bufferWith out log p ≡ out)
 unfolding listedIn bufferWith
-listing-answered out log p = listed-number (hasRoom (length out) log) p out (p .text ++ drop (length (p .text)) out)
+listing-answered out log p = listed-number (hasListingRoom (length out) log) p out (p .text ++ drop (length (p .text)) out)
 
 -- The library for C tells the same numbers in its figures. A log record: after 1 to 4 kind, chain number and both numbers
 -- are 0.
@@ -205,22 +206,41 @@ pub record-figures-told : (s : List ℕ) →
     × (Refuses (f .refusal) → (f .kind ≡ 0) × (f .chain ≡ 0) × (f .x ≡ pos 0) × (f .y ≡ pos 0))
 record-figures-told s = record-told (rawRecordOf s) (logEntryOf s) (raw-refusals s) (entry-refusals s)
 
--- A table: after 1 the count is 0; and after 1 or 5 all six numbers of a chain are.
-pub table-figures-told : (s : List ℕ) (number : ℕ) →
+-- A table: after 1 the count is 0; and after 1 or 5 all bytes of a chain are, as when it is written by its stations.
+pub table-figures-told : (s stations : List ℕ) (number bytes : ℕ) →
     let f = countFigures (chainCountOf s) in
-    let g = chainFigures (chainOf s number) in
+    let g = chainTold bytes s number in
+    let w = chainWritten bytes stations in
     (NoneOr (1 ∷ []) (f .refusal) × (Refuses (f .refusal) → f .count ≡ 0))
-    × (NoneOr (1 ∷ 5 ∷ []) (g .refusal) × (Refuses (g .refusal) → g .chain ≡ chainBy 0 0 0 0 0 0))
-table-figures-told s number = (
+    × (NoneOr (1 ∷ 5 ∷ []) (g .refusal) × (Refuses (g .refusal) → g .holds ≡ replicate bytes 0))
+    × (NoneOr (1 ∷ 5 ∷ []) (w .refusal) × (Refuses (w .refusal) → w .holds ≡ replicate bytes 0))
+table-figures-told s stations number bytes = (
   count-told (chainCountOf s) (1 ∷ []) (count-refusals s),
-  chain-told (chainOf s number) (1 ∷ 5 ∷ []) (chain-refusals s number),
+  chain-told bytes (chainOf s number) (chain-refusals s number),
+  chain-told bytes (chainBy stations) (stations-counted stations),
 )
+
+-- A chain of any bytes: after 1 or 5 the numbers of its stations are all 0, and after 1, 4 or 5 the readings expected at a place.
+pub chain-figures-told : (chain : List ℕ) (entries e n : ℕ) →
+    let s = stationsTold entries chain in
+    let x = expectedTold entries chain e n in
+    (NoneOr (1 ∷ 5 ∷ []) (s .refusal) × (Refuses (s .refusal) → s .holds ≡ replicate entries 0))
+    × (NoneOr (1 ∷ 4 ∷ 5 ∷ []) (x .refusal) × (Refuses (x .refusal) → x .holds ≡ replicate entries (pos 0)))
+chain-figures-told chain entries e n = (
+  stations-told entries (rawChainOf chain) (bytes-counted chain),
+  expected-told entries (rawChainOf chain) (placeOf e n) (bytes-counted chain),
+)
+
+-- A search by the bytes of a chain and of a job: 1 or 2 for the bytes, or what the search gets; after a refusal zeros and nought.
+pub search-figures-told : (chain : List ℕ) (readings : List ℤ) (job : List ℕ) (entries : ℕ) →
+    SearchIsTold entries (searchTold chain readings job entries)
+search-figures-told chain readings job entries = search-told chain readings job entries (λ q w. search-answered q w entries)
 
 -- A job: after 1, 2, 6 or 7 window, tolerance and allowance are all 0.
 pub job-figures-told : (s : List ℕ) →
-    let f = jobFigures (jobOf s) in
+    let f = jobAnswered (jobOf s) in
     NoneOr (1 ∷ 2 ∷ 6 ∷ 7 ∷ []) (f .refusal)
-    × (Refuses (f .refusal) → f .job ≡ record { window = windowBy 0 0 0; tolerance = 0; allowance = 0 })
+    × (Refuses (f .refusal) → f .job ≡ jobBy 0 0 0 0 0)
 job-figures-told s = job-told (jobOf s) (1 ∷ 2 ∷ 6 ∷ 7 ∷ []) (job-refusals s)
 
 -- A listing: after 9 the length of the text is 0, and no place is handed on.

@@ -33,7 +33,7 @@ use Rattle.search.specs.declared.Window.{Window}
 use Rattle.search.specs.Windows.{isWindow, IsCellIn}
 use Rattle.search.specs.Questions.{ruleOf, questionOf}
 use Rattle.search.specs.Answers.{searchOf}
-use Rattle.search.specs.Cells.{matchingIn, Listed, AmpleRoom, AmpleAllowance}
+use Rattle.search.specs.Cells.{matchingIn, IsListed, AmpleRoom, AmpleAllowance}
 use Rattle.search.proofs.Theorems.{always-enough}
 use Rattle.records.specs.declared.RawAnswer.the-variants as raw
 use Rattle.records.specs.declared.LogEntry.the-variants as entry
@@ -50,12 +50,12 @@ use Rattle.writing.specs.ChainWriting.{chainRefusalOf, chainBufferOf, allSound,
 use Rattle.writing.specs.JobWriting.{jobRefusalOf, jobBufferOf}
 use Rattle.writing.proofs.Theorems.{reads-back, chains-written, chains-counted, chains-read-back, window-written, job-reads-back}
 use Rattle.text.specs.Texts.{spaced, figuresText, bytesIn}
-use Rattle.typed.specs.declared.TypedJob.the-variants as typed-job
-use Rattle.typed.specs.declared.TypedChain.the-variants as typed-chain
-use Rattle.typed.specs.declared.TypedDraft.the-variants as typed-draft
-use Rattle.typed.specs.declared.TypedQuestion.the-variants as typed-question
-use Rattle.typed.specs.Numbers.{numberAt}
-use Rattle.typed.specs.Typed.{jobIn, chainIn, draftIn, questionIn}
+use Rattle.parsing.specs.declared.ParsedJob.the-variants as parsed-job
+use Rattle.parsing.specs.declared.ParsedChain.the-variants as parsed-chain
+use Rattle.parsing.specs.declared.ParsedDraft.the-variants as parsed-draft
+use Rattle.parsing.specs.declared.ParsedQuestion.the-variants as parsed-question
+use Rattle.parsing.specs.Numbers.{valueAt}
+use Rattle.parsing.specs.Parsed.{parsedJob, parsedChain, parsedDraft, parsedQuestion}
 use Rattle.shown.specs.Lines.{jobText, jobLine, stationFigures, chainLine, recordText, recordLine}
 use Rattle.shown.specs.Expected.{expectedIn}
 use Rattle.listing.specs.declared.Carried.{Carried}
@@ -147,7 +147,7 @@ job-there-and-back j small = (window-written j, job-reads-back j small)
 -- the same draft again, with 0 for what its kind does not use.
 pub record-shown-and-typed : (d : Draft) → d .line < 2 ^ 32 → refusalOf 32 d ≡ 0 →
     let fields = recordText (bufferOf 32 d) in
-    (recordLine (bufferOf 32 d) ≡ bytesIn "LOG" ++ (fields ++ bytesIn "\n")) × (draftIn fields ≡ typed-draft.Draft (usedOf d))
+    (recordLine (bufferOf 32 d) ≡ bytesIn "LOG" ++ (fields ++ bytesIn "\n")) × (parsedDraft fields ≡ parsed-draft.Draft (usedOf d))
 record-shown-and-typed d small accepted = (record-line-shown d small accepted, record-typed-again d small accepted)
 
 -- Every sound chain that is written is shown as a line of `CHAIN`, its number in the table, its fields and a newline, with no
@@ -155,20 +155,20 @@ record-shown-and-typed d small accepted = (record-line-shown d small accepted, r
 pub chain-shown-and-typed : (c : Chain) (number : ℕ) → isSound c ≡ true →
     let fields = figuresText (stationFigures c) in
     (chainLine number (chainBufferOf 24 c) ≡ bytesIn "CHAIN" ++ (spaced number ++ (fields ++ bytesIn "\n")))
-    × (chainIn fields ≡ typed-chain.Chain c)
+    × (parsedChain fields ≡ parsed-chain.Chain c)
 chain-shown-and-typed c number sound = (chain-line-shown c sound number, chain-typed-again c sound)
 
 -- Whatever job is accepted is shown as a line of `JOB`, its fields and a newline, with no refusal; and the fields, typed, are
 -- the same job again.
 pub job-shown-and-typed : (j : Job) → j .allowance < 2 ^ 64 → jobRefusalOf 32 j ≡ 0 →
     let fields = jobText (jobBufferOf 32 j) in
-    (jobLine (jobBufferOf 32 j) ≡ bytesIn "JOB" ++ (fields ++ bytesIn "\n")) × (jobIn fields ≡ typed-job.Job j)
+    (jobLine (jobBufferOf 32 j) ≡ bytesIn "JOB" ++ (fields ++ bytesIn "\n")) × (parsedJob fields ≡ parsed-job.Job j)
 job-shown-and-typed j small accepted = (job-line-shown j small accepted, job-typed-again j small accepted)
 
 -- The readings shown for a question that was typed are those of the chain's number and the place as they were typed, whatever
 -- their size.
-pub question-as-typed : (table s : List ℕ) (number : ℕ) (p : Place) → questionIn s ≡ typed-question.Question number p →
-    expectedIn table number p ≡ expectedIn table (numberAt s 0) (record { easting = numberAt s 1; northing = numberAt s 2 })
+pub question-as-typed : (table s : List ℕ) (number : ℕ) (p : Place) → parsedQuestion s ≡ parsed-question.Question number p →
+    expectedIn table number p ≡ expectedIn table (valueAt s 0) (record { easting = valueAt s 1; northing = valueAt s 2 })
 question-as-typed table s number p e = expected-as-typed table s number p e
 
 -- The writer accepts any two readings up to 1,000,000,000 in size for a chain from 1 to 16, any place in range, and any hold;
@@ -204,7 +204,7 @@ pub readings-give-place : (c : Chain) (p : Place) (readings : List ℤ) (w : Win
     let q = questionOf c readings tolerance allowance entries in
     expectedAt c p ≡ Expects readings → EachSmall readings →
     isWindow w ≡ true → IsCellIn w p → tolerance ≤ 100_000 → AmpleRoom q w → AmpleAllowance q w →
-    Listed p (searchOf q w .places)
+    IsListed p (searchOf q w .places)
 readings-give-place c p readings w tolerance allowance entries e small window inside few room enough =
     found-by c p readings w tolerance allowance entries e inside
     (tests-pass c readings w tolerance small (own-readings c p readings e .1) window few)
@@ -219,11 +219,11 @@ pub place-to-place : (c : Chain) (p : Place) (x y : ℤ) (chain line : ℕ) (job
     1 ≤ chain → chain ≤ 16 → line < 2 ^ 32 → chainOf table chain ≡ named.Chain c →
     jobOf job ≡ answer.Job j → IsCellIn (j .window) p → (4 ^ (j .window .k + 1) - 1) / 3 ≤ j .allowance →
     length (matchingIn (ruleOf c (x ∷ y ∷ []) (j .tolerance)) (j .window)) ≤ 256 →
-    (logEntryOf s ≡ entry.Readings x y) × Listed p (placesOf (answerOf j table before s))
+    (logEntryOf s ≡ entry.Readings x y) × IsListed p (placesOf (answerOf j table before s))
 unfolding answerOf answerBy fixBy EachSmall
 place-to-place c p x y chain line job table j before e hx hy some few small known good inside enough room =
     let there = readings-there-and-back chain line x y some few small hx hy in
     let q = questionOf c (x ∷ y ∷ []) (j .tolerance) (j .allowance) 512 in
     let accepted = job-good job j good in
     let found = readings-give-place c p (x ∷ y ∷ []) (j .window) (j .tolerance) (j .allowance) 512 e (hx, (hy, tt)) (accepted .0) inside (leb-true _ _ (accepted .1)) room (always-enough q (j .window) enough) in
-    (there .1, rw (there .1, chain-byte chain line x y (there .0), known) (subst⁻¹ (Listed p) (fix-places q (j .window)) found))
+    (there .1, rw (there .1, chain-byte chain line x y (there .0), known) (subst⁻¹ (IsListed p) (fix-places q (j .window)) found))

@@ -21,7 +21,7 @@ use Rattle.search.specs.declared.Answer.the-variants.{Places}
 use Rattle.search.specs.Windows.{east, north, northEast, isWindow, IsCellIn}
 use Rattle.search.specs.Questions.{Rule, Question, ruleOf, questionOf, noneTooLarge, matches, isKept}
 use Rattle.search.specs.Answers.{Accepted, searchOf, searchFigures, figuresIn}
-use Rattle.search.specs.Cells.{chartNumber, Rises, Listed, matching, matchingIn, visitsOf, visitsIn, AmpleRoom, AmpleAllowance}
+use Rattle.search.specs.Cells.{chartNumber, Rises, IsListed, matching, matchingIn, visitsOf, visitsIn, AmpleRoom, AmpleAllowance}
 use Rattle.search.proofs.Whole.{visits-kept, visits-dropped}
 use Rattle.search.proofs.Dropping.{dropped-none}
 use Rattle.search.proofs.Theorems.{listed-iff-matches, numbers-rise, only-list, eight-only-then, eight-when-none, visits-are-counted, places-are-counted, listed-are-counted, always-enough, nine-when-short, nine-only-then, visits-in-allowance}
@@ -136,7 +136,7 @@ pub every-such-cell : (c : Chain) (readings : List ℤ) (w : Window) (tolerance 
     let places = searchOf q w .places in
     isSound c ≡ true → EachSmall readings → isWindow w ≡ true → tolerance ≤ 100_000 →
     length (matchingIn (q .rule) w) ≤ entries / 2 → (4 ^ (w .k + 1) - 1) / 3 ≤ allowance →
-    ((o : Place) → Listed o places ↔ (IsCellIn w o × EachWithin tolerance c (wantedOf c readings) o))
+    ((o : Place) → IsListed o places ↔ (IsCellIn w o × EachWithin tolerance c (wantedOf c readings) o))
     × EachOnce places
     × Rises (chartNumber w) places
     × (figuresIn q w .count ≡ length places)

@@ -1,8 +1,24 @@
 -- What the library for C tells of each answer: the same number, and zeros beside a refusal.
 use Prim.Native.Nat.{ℕ}
-use mathlib.Core.Path.{_≡_, refl}
+use mathlib.Core.Path.{_≡_, refl, sym, ap, _∙_}
+use mathlib.Core.Bool.{Bool, true, false, _&&_}
 use mathlib.Core.List.{List, [], _∷_}
-use lib.IntN.{pos}
+use lib.Dec.{eqb}
+use lib.IntN.{ℤ, pos}
+use lib.ListN.{length, replicate}
+use borrow.Author.Tests.{eqb-true}
+use Rattle.chart.specs.declared.Place.{Place}
+use Rattle.chart.specs.declared.Chain.{Chain}
+use Rattle.chart.specs.declared.Figures.{Figures}
+use Rattle.chart.specs.Chains.{stationsOf, isSound}
+use Rattle.chart.specs.Readings.{expectedAt, figuresOf}
+use Rattle.search.specs.declared.Window.{Window}
+use Rattle.search.specs.Questions.{Question, questionOf}
+use Rattle.search.specs.Answers.{entriesOf, figuresIn}
+use Rattle.records.specs.Bytes.{areZero, unless}
+use Rattle.records.specs.ChainTables.{chainBytes, chainAt, rawChainOf}
+use Rattle.records.specs.Jobs.{jobBytes, jobIn, formedJobOf}
+use Rattle.writing.proofs.Theorems.{chain-write-refusals, refused-chain-zeros}
 use Rattle.records.specs.declared.RawAnswer.{RawAnswer}
 use Rattle.records.specs.declared.RawAnswer.the-variants as raw
 use Rattle.records.specs.declared.LogEntry.{LogEntry}
@@ -17,9 +33,9 @@ use Rattle.records.specs.Refusals.{rawRefusal, entryRefusal, countRefusal, chai
 use Rattle.listing.specs.declared.Listed.{Listed}
 use Rattle.listing.specs.declared.Listed.the-variants as listed
 use Rattle.listing.specs.declared.Carried.the-variants as carried
-use Rattle.desk.specs.Figures.{chainBy, windowBy, entryFigures, recordBy, countFigures, chainFigures, jobFigures, heldFigures, listedFigures}
-use Rattle.demands.specs.Numbers.{listedRefusal, NoneOr, Refuses}
-use Rattle.demands.proofs.NumberLaws.{wider}
+use Rattle.lay.specs.Figures.{jobBy, chainNumbers, chainWith, chainBy, refusedWith, chainLent, stationsLent, chainReadings, readingsLent, expectedLent, unsearched, searchedBy, searchedIn, searchTold, entryFigures, recordBy, countFigures, jobAnswered, heldFigures, listedFigures}
+use Rattle.demands.specs.Numbers.{listedRefusal, NoneOr, Refuses, Leaves, searchNumbers, SearchIsTold}
+use Rattle.demands.proofs.NumberLaws.{wider, readings-number}
 
 -- Nothing but the line number stands beside a refusal.
 entry-told : (line chain : ℕ) (e : LogEntry) (numbers : List ℕ) → NoneOr numbers (entryRefusal e) →
@@ -46,17 +62,71 @@ unfolding countFigures countRefusal
 count-told (count.Chains n) numbers h = (h, λ r. absurd (r refl))
 count-told (count.Refused number) numbers h = (h, λ r. refl)
 
-pub chain-told : (a : NamedChain) (numbers : List ℕ) → NoneOr numbers (chainRefusal a) →
-    let f = chainFigures a in
-    NoneOr numbers (f .refusal) × (Refuses (f .refusal) → f .chain ≡ chainBy 0 0 0 0 0 0)
-unfolding chainFigures chainRefusal
-chain-told (named.Chain c) numbers h = (h, λ r. absurd (r refl))
-chain-told (named.Refused number) numbers h = (h, λ r. refl)
+-- The bytes of a chain.
+pub chain-told : (bytes : ℕ) (a : NamedChain) → NoneOr (1 ∷ 5 ∷ []) (chainRefusal a) →
+    let l = chainLent bytes a in
+    NoneOr (1 ∷ 5 ∷ []) (l .refusal) × (Refuses (l .refusal) → l .holds ≡ replicate bytes 0)
+unfolding chainLent chainRefusal
+chain-told bytes (named.Chain c) h = (chain-write-refusals bytes c, refused-chain-zeros bytes c)
+chain-told bytes (named.Refused number) h = (h, λ r. refl)
+
+-- A chain by its stations, and one by its bytes: only that there are not as many is refused.
+pub stations-counted : (s : List ℕ) → NoneOr (1 ∷ 5 ∷ []) (chainRefusal (chainBy s))
+unfolding chainBy chainRefusal isAmong
+stations-counted s = go (eqb (length s) chainNumbers)
+  where
+    go : (t : Bool) → NoneOr (1 ∷ 5 ∷ []) (chainRefusal (unless t (named.Refused 1) (named.Chain (chainWith s))))
+    go true = refl
+    go false = refl
+
+pub bytes-counted : (s : List ℕ) → NoneOr (1 ∷ []) (chainRefusal (rawChainOf s))
+unfolding rawChainOf chainRefusal isAmong
+bytes-counted s = go (eqb (length s) chainBytes)
+  where
+    go : (t : Bool) → NoneOr (1 ∷ []) (chainRefusal (unless t (named.Refused 1) (named.Chain (chainAt s 0))))
+    go true = refl
+    go false = refl
+
+-- The stations of a chain.
+pub stations-told : (entries : ℕ) (a : NamedChain) → NoneOr (1 ∷ []) (chainRefusal a) →
+    let l = stationsLent entries a in
+    NoneOr (1 ∷ 5 ∷ []) (l .refusal) × (Refuses (l .refusal) → l .holds ≡ replicate entries 0)
+unfolding stationsLent chainRefusal isAmong
+stations-told entries (named.Chain c) h = go (eqb entries chainNumbers) (isSound c)
+  where
+    go : (t u : Bool) →
+        let l = unless t (refusedWith 1 entries) (unless u (refusedWith 5 entries) (record { refusal = 0; holds = entriesOf (stationsOf c) })) in
+        NoneOr (1 ∷ 5 ∷ []) (l .refusal) × (Refuses (l .refusal) → l .holds ≡ replicate entries 0)
+    go false u = (refl, λ r. refl)
+    go true false = (refl, λ r. refl)
+    go true true = (refl, λ r. absurd (r refl))
+stations-told entries (named.Refused number) h = (wider number (0 ∷ 1 ∷ []) (0 ∷ 1 ∷ 5 ∷ []) refl h, λ r. refl)
+
+-- The readings expected at a place.
+pub expected-told : (entries : ℕ) (a : NamedChain) (p : Place) → NoneOr (1 ∷ []) (chainRefusal a) →
+    let l = expectedLent entries a p in
+    NoneOr (1 ∷ 4 ∷ 5 ∷ []) (l .refusal) × (Refuses (l .refusal) → l .holds ≡ replicate entries (pos 0))
+unfolding expectedLent chainRefusal isAmong
+expected-told entries (named.Chain c) p h = go (eqb entries chainReadings) refl
+  where
+    f : Figures
+    f = figuresOf (expectedAt c p)
+
+    go : (t : Bool) → eqb entries chainReadings ≡ t →
+        let l = unless t (record { refusal = 1; holds = replicate entries (pos 0) }) (readingsLent f) in
+        NoneOr (1 ∷ 4 ∷ 5 ∷ []) (l .refusal) × (Refuses (l .refusal) → l .holds ≡ replicate entries (pos 0))
+    go false e = (refl, λ r. refl)
+    go true e =
+        let told = readings-number c p in (
+          wider (f .refusal) (0 ∷ 4 ∷ 5 ∷ []) (0 ∷ 1 ∷ 4 ∷ 5 ∷ []) refl (told .0),
+          λ r. ap (λ (x : Figures). readingsLent x .holds) (told .1 r) ∙ ap (λ (n : ℕ). replicate n (pos 0)) (sym (eqb-true entries chainReadings e)),
+        )
+expected-told entries (named.Refused number) p h = (wider number (0 ∷ 1 ∷ []) (0 ∷ 1 ∷ 4 ∷ 5 ∷ []) refl h, λ r. refl)
 
 pub job-told : (a : JobAnswer) (numbers : List ℕ) → NoneOr numbers (jobRefusal a) →
-    let f = jobFigures a in
-    NoneOr numbers (f .refusal) × (Refuses (f .refusal) → f .job ≡ record { window = windowBy 0 0 0; tolerance = 0; allowance = 0 })
-unfolding jobFigures jobRefusal
+    let f = jobAnswered a in
+    NoneOr numbers (f .refusal) × (Refuses (f .refusal) → f .job ≡ jobBy 0 0 0 0 0)
+unfolding jobAnswered jobRefusal
 job-told (job.Job j) numbers h = (h, λ r. absurd (r refl))
 job-told (job.Refused number) numbers h = (h, λ r. refl)
 
@@ -66,3 +136,41 @@ pub listing-told : (a : Listed) (numbers : List ℕ) → NoneOr numbers (listedR
 unfolding listedFigures listedRefusal
 listing-told (listed.Text n c) numbers h = (h, λ r. absurd (r refl))
 listing-told (listed.Refused number) numbers h = (h, λ r. (refl, refl))
+
+-- A search: what the bytes are refused for, then what the search is.
+not-searched : (number entries : ℕ) → NoneOr (1 ∷ 2 ∷ []) number → SearchIsTold entries (unsearched number entries)
+unfolding isAmong
+not-searched number entries h = (wider number (0 ∷ 1 ∷ 2 ∷ []) (0 ∷ searchNumbers) refl h, λ r. (refl, refl))
+
+formed-numbers : (s : List ℕ) → NoneOr (1 ∷ 2 ∷ []) (jobRefusal (formedJobOf s))
+unfolding formedJobOf jobRefusal isAmong
+formed-numbers s = go (eqb (length s) jobBytes) (areZero 3 s 9 && areZero 8 s 24)
+  where
+    go : (t u : Bool) → NoneOr (1 ∷ 2 ∷ []) (jobRefusal (unless t (job.Refused 1) (unless u (job.Refused 2) (job.Job (jobIn s)))))
+    go false u = refl
+    go true false = refl
+    go true true = refl
+
+searched-told : (c : Chain) (readings : List ℤ) (j : JobAnswer) (entries : ℕ) → NoneOr (1 ∷ 2 ∷ []) (jobRefusal j) →
+    ((q : Question) (w : Window) → Leaves q w entries) → SearchIsTold entries (searchedBy c readings j entries)
+unfolding searchedBy jobRefusal isAmong
+searched-told c readings (job.Job j) entries h answered =
+    let q = questionOf c readings (j .tolerance) (j .allowance) entries in
+    let left = answered q (j .window) in (
+      wider (figuresIn q (j .window) .refusal) (0 ∷ 3 ∷ 5 ∷ 6 ∷ 7 ∷ 8 ∷ 9 ∷ 10 ∷ []) (0 ∷ searchNumbers) refl (left .number),
+      λ r. (left .zeros r, left .nought r),
+    )
+searched-told c readings (job.Refused number) entries h answered = not-searched number entries h
+
+pub search-told : (chain : List ℕ) (readings : List ℤ) (job : List ℕ) (entries : ℕ) → ((q : Question) (w : Window) → Leaves q w entries) →
+    SearchIsTold entries (searchTold chain readings job entries)
+unfolding searchedIn chainRefusal isAmong
+search-told chain readings job entries answered = by-chain (rawChainOf chain) (bytes-counted chain)
+  where
+    by-count : (c : Chain) (t : Bool) → SearchIsTold entries (unless t (unsearched 1 entries) (searchedBy c readings (formedJobOf job) entries))
+    by-count c true = searched-told c readings (formedJobOf job) entries (formed-numbers job) answered
+    by-count c false = not-searched 1 entries refl
+
+    by-chain : (a : NamedChain) → NoneOr (1 ∷ []) (chainRefusal a) → SearchIsTold entries (searchedIn a readings (formedJobOf job) entries)
+    by-chain (named.Chain c) h = by-count c (eqb (length readings) chainReadings)
+    by-chain (named.Refused number) h = not-searched number entries (wider number (0 ∷ 1 ∷ []) (0 ∷ 1 ∷ 2 ∷ []) refl h)

@@ -1,7 +1,7 @@
 -- No refusal has the number 0: the tests leave answers that refuse by another number, or do not refuse.
 use Prim.Native.Nat.{ℕ, _-_, _*_}
-use mathlib.Core.Path.{_≡_, refl}
-use mathlib.Core.Bool.{Bool, true, false, cond, _&&_}
+use mathlib.Core.Path.{_≡_, refl, subst⁻¹}
+use mathlib.Core.Bool.{Bool, true, false, cond}
 use mathlib.Core.List.{List, [], _∷_}
 use native.Mathlib.Omega.{arith}
 use borrow.Author.Tests.{eqb-false}
@@ -26,11 +26,11 @@ use Rattle.records.specs.declared.NamedChain.{NamedChain}
 use Rattle.records.specs.declared.NamedChain.the-variants as named
 use Rattle.records.specs.declared.Job.{Job}
 use Rattle.records.specs.declared.JobAnswer.the-variants as job
-use Rattle.records.specs.Bytes.{areZero}
-use Rattle.records.specs.LogRecords.{logBytes, rawRecordOf, isHyperbolic, isGrid, isHold, logRecordOf, isPlace, placed, withBoth, inCentimetres, logEntryOf}
+use Rattle.records.specs.LogRecords.{logBytes, rawRecordOf, isHyperbolic, isGrid, isHold, logRecordOf, isPlace, placed, pairOf, withPair, inCentimetres, logEntryOf}
 use Rattle.records.specs.ChainTables.{chainBytes, oneTo, chainsIn, isTable, chainCountOf, chainAt, chainOf}
 use Rattle.records.specs.Jobs.{jobBytes, jobIn, jobOf}
-use Rattle.records.proofs.RefusalLaws.{either, either-kind}
+use Rattle.records.proofs.RefusalLaws.{unless-either, either-kind}
+use Rattle.records.proofs.JobLaws.{zerosKept, job-by-tests}
 use Rattle.listing.specs.declared.Carried.{Carried}
 use Rattle.listing.specs.declared.Carried.the-variants as carried
 use Rattle.listing.specs.Answers.{Fix, Refused, searched, fixBy, holdOf, answerBy}
@@ -45,25 +45,25 @@ absurd-equal e = omega (arith, e)
 
 pub raw-never : (s : List ℕ) → rawRecordOf s ≡ raw.Refused 0 → ⊥
 unfolding rawRecordOf
-raw-never s = either (Not (raw.Refused 0)) (eqb (length s) logBytes) (λ e. absurd-equal cc) (λ e. absurd-equal cc)
+raw-never s = unless-either (Not (raw.Refused 0)) (eqb (length s) logBytes) (λ e. absurd-equal cc) (λ e. absurd-equal cc)
 
 pub log-never : (s : List ℕ) → logRecordOf s ≡ log.Refused 0 → ⊥
 unfolding logRecordOf
 log-never s =
     let never = Not (log.Refused 0) in
-    either never (eqb (length s) logBytes) (λ e. absurd-equal cc)
+    unless-either never (eqb (length s) logBytes) (λ e. absurd-equal cc)
     (either-kind never (isHyperbolic s) (λ e. absurd-equal cc)
     (either-kind never (isGrid s) (λ e. absurd-equal cc)
     (either-kind never (isHold s) (λ e. absurd-equal cc) (λ e. absurd-equal cc))))
 
-both-never : (give : ℤ → ℤ → LogEntry) (x y : Whole) → ((a b : ℤ) → give a b ≡ entry.Refused 0 → ⊥) → withBoth give x y ≡ entry.Refused 0 → ⊥
+both-never : (give : ℤ → ℤ → LogEntry) (x y : Whole) → ((a b : ℤ) → give a b ≡ entry.Refused 0 → ⊥) → withPair give (pairOf x y) ≡ entry.Refused 0 → ⊥
 both-never give (whole.Centimetres x) (whole.Centimetres y) h e = h x y e
 both-never give (whole.Centimetres x) whole.Refused h e = absurd-equal cc
 both-never give whole.Refused y h e = absurd-equal cc
 
 placed-never : (e n : ℤ) → placed e n ≡ entry.Refused 0 → ⊥
 unfolding placed
-placed-never e n = either (Not (entry.Refused 0)) (isPlace e n) (λ e. absurd-equal cc) (λ e. absurd-equal cc)
+placed-never e n = unless-either (Not (entry.Refused 0)) (isPlace e n) (λ e. absurd-equal cc) (λ e. absurd-equal cc)
 
 in-never : (r : LogRecord) → (r ≡ log.Refused 0 → ⊥) → inCentimetres r ≡ entry.Refused 0 → ⊥
 unfolding inCentimetres
@@ -78,24 +78,24 @@ entry-never s = in-never (logRecordOf s) (log-never s)
 
 pub count-never : (s : List ℕ) → chainCountOf s ≡ count.Refused 0 → ⊥
 unfolding chainCountOf
-count-never s = either (Not (count.Refused 0)) (isTable s) (λ e. absurd-equal cc) (λ e. absurd-equal cc)
+count-never s = unless-either (Not (count.Refused 0)) (isTable s) (λ e. absurd-equal cc) (λ e. absurd-equal cc)
 
 pub chain-never : (s : List ℕ) (number : ℕ) → chainOf s number ≡ named.Refused 0 → ⊥
 unfolding chainOf
 chain-never s number =
     let never = Not (named.Refused 0) in
-    either never (isTable s) (λ e. absurd-equal cc)
-    (either never (oneTo (chainsIn s) number) (λ e. absurd-equal cc)
-    (either never (isSound (chainAt s (chainBytes * (number - 1)))) (λ e. absurd-equal cc) (λ e. absurd-equal cc)))
+    unless-either never (isTable s) (λ e. absurd-equal cc)
+    (unless-either never (oneTo (chainsIn s) number) (λ e. absurd-equal cc)
+    (unless-either never (isSound (chainAt s (chainBytes * (number - 1)))) (λ e. absurd-equal cc) (λ e. absurd-equal cc)))
 
 pub job-never : (s : List ℕ) → jobOf s ≡ job.Refused 0 → ⊥
-unfolding jobOf
 job-never s =
     let never = Not (job.Refused 0) in
-    either never (eqb (length s) jobBytes) (λ e. absurd-equal cc)
-    (either never (areZero 3 s 9 && areZero 8 s 24) (λ e. absurd-equal cc)
-    (either never (isWindow (jobIn s .window)) (λ e. absurd-equal cc)
-    (either never (leb (jobIn s .tolerance) mostTolerance) (λ e. absurd-equal cc) (λ e. absurd-equal cc))))
+    subst⁻¹ never (job-by-tests s)
+    (unless-either never (eqb (length s) jobBytes) (λ e. absurd-equal cc)
+    (unless-either never (zerosKept s) (λ e. absurd-equal cc)
+    (unless-either never (isWindow (jobIn s .window)) (λ e. absurd-equal cc)
+    (unless-either never (leb (jobIn s .tolerance) mostTolerance) (λ e. absurd-equal cc) (λ e. absurd-equal cc)))))
 
 module _ (visits : ℕ) where
   searched-never : (o : Outcome) → searched o ≡ Refused 0 visits → ⊥

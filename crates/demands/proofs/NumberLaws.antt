@@ -1,6 +1,6 @@
 -- Which numbers an answer may have, and what a refused search leaves: by the answers that the tests and the walk can end in.
 use Prim.Native.Nat.{ℕ, _-_, _*_, _≤_}
-use mathlib.Core.Path.{_≡_, refl, _∙_, subst, subst⁻¹}
+use mathlib.Core.Path.{_≡_, refl, sym, _∙_, subst, subst⁻¹}
 use mathlib.Core.Bool.{Bool, true, false, cond, _&&_, _||_, false≢true}
 use mathlib.Core.List.{List, [], _∷_}
 use native.Mathlib.Omega.{arith}
@@ -8,6 +8,7 @@ use borrow.Author.Tests.{eqb-true, ne-eqb}
 use lib.Dec.{leb, eqb}
 use lib.IntN.{ℤ, pos}
 use lib.ListN.{length, replicate, length-append, length-replicate}
+use Rattle.fields.specs.Choices.{whereSo}
 use Rattle.metres.specs.declared.Whole.{Whole}
 use Rattle.metres.specs.declared.Whole.the-variants as whole
 use Rattle.metres.specs.declared.Length.{Length}
@@ -25,7 +26,7 @@ use Rattle.search.specs.declared.Answer.the-variants.{Places, ReadingTooLarge, 
 use Rattle.search.specs.Windows.{isWindow}
 use Rattle.search.specs.Questions.{Question, questionOf, mostTolerance, noneTooLarge}
 use Rattle.search.specs.Walk.{Standing, start}
-use Rattle.search.specs.Answers.{Outcome, refused, gone, ended, unless, searchOf, entriesOf, listOf, searchFigures}
+use Rattle.search.specs.Answers.{Outcome, refused, gone, ended, searchOf, entriesOf, listOf, searchFigures}
 use Rattle.search.specs.Cells.{matchingIn, visitsIn}
 use Rattle.search.proofs.AnswerLaws.{length-entries}
 use Rattle.search.proofs.Keeping.{visit-keeps}
@@ -36,8 +37,9 @@ use Rattle.records.specs.declared.LogEntry.{LogEntry}
 use Rattle.records.specs.declared.LogEntry.the-variants as entry
 use Rattle.records.specs.declared.NamedChain.{NamedChain}
 use Rattle.records.specs.declared.NamedChain.the-variants as named
-use Rattle.records.specs.Bytes.{areZero, unless as test}
+use Rattle.records.specs.Bytes.{unless}
 use Rattle.records.specs.Jobs.{jobBytes, jobIn, jobOf}
+use Rattle.records.proofs.JobLaws.{zerosKept, job-by-tests}
 use Rattle.records.specs.Refusals.{entryRefusal, chainRefusal, isAmong}
 use Rattle.listing.specs.declared.Carried.{Carried}
 use Rattle.listing.specs.declared.Carried.the-variants as carried
@@ -105,12 +107,12 @@ module _ (P : Outcome → Type 0) where
   either-way true x y h k = h
   either-way false x y h k = k
 
-  tested : (b : Bool) (a : Answer) (rest : Unit {0} → Outcome) → P (refused a) → P (rest tt) → P (unless b a rest)
+  tested : (b : Bool) (a : Answer) (rest : Unit {0} → Outcome) → P (refused a) → P (rest tt) → P (whereSo b (refused a) rest)
   tested true a rest h k = k
   tested false a rest h k = h
 
-  passed : (b : Bool) (a : Answer) (rest : Unit {0} → Outcome) → b ≡ true → P (rest tt) → P (unless b a rest)
-  passed b a rest e h = subst⁻¹ (λ (x : Bool). P (unless x a rest)) e h
+  passed : (b : Bool) (a : Answer) (rest : Unit {0} → Outcome) → b ≡ true → P (rest tt) → P (whereSo b (refused a) rest)
+  passed b a rest e h = subst⁻¹ (λ (x : Bool). P (whereSo x (refused a) rest)) e h
 
   pub at-end : (s : Standing) → P (refused (AllowanceUsed (s .visits))) → P (refused (NoRoom (s .visits))) → P (gone (s .places) (s .visits)) → P (ended s)
   unfolding ended
@@ -219,11 +221,10 @@ list-length n ps h =
 
 -- The window and the tolerance of an accepted job are good.
 pub job-good : (s : List ℕ) (j : Job) → jobOf s ≡ job.Job j → (isWindow (j .window) ≡ true) × (leb (j .tolerance) mostTolerance ≡ true)
-unfolding jobOf
-job-good s j e = go (eqb (length s) jobBytes) (areZero 3 s 9 && areZero 8 s 24) (isWindow (jobIn s .window)) (leb (jobIn s .tolerance) mostTolerance) refl refl e
+job-good s j e = go (eqb (length s) jobBytes) (zerosKept s) (isWindow (jobIn s .window)) (leb (jobIn s .tolerance) mostTolerance) refl refl (sym (job-by-tests s) ∙ e)
   where
     go : (a b c d : Bool) → isWindow (jobIn s .window) ≡ c → leb (jobIn s .tolerance) mostTolerance ≡ d →
-        test a (job.Refused 1) (test b (job.Refused 2) (test c (job.Refused 6) (test d (job.Refused 7) (job.Job (jobIn s))))) ≡ job.Job j →
+        unless a (job.Refused 1) (unless b (job.Refused 2) (unless c (job.Refused 6) (unless d (job.Refused 7) (job.Job (jobIn s))))) ≡ job.Job j →
         (isWindow (j .window) ≡ true) × (leb (j .tolerance) mostTolerance ≡ true)
     go false b c d ec ed e = (cc, cc)
     go true false c d ec ed e = (cc, cc)

@@ -16,6 +16,7 @@ use Rattle.squares.proofs.root as root
 use Rattle.squares.proofs.root_near as root-near
 use Rattle.fields.proofs.four_at as four-at
 use Rattle.fields.proofs.eight_at as eight-at
+use Rattle.fields.proofs.lies_inside as lies-inside
 use Rattle.fields.proofs.put_four as put-four
 use Rattle.fields.proofs.put_eight as put-eight
 use Rattle.metres.proofs.centimetres as centimetres
@@ -37,291 +38,272 @@ use Rattle.chart.proofs.ReadingLaws.{said-once}
 use Rattle.search.proofs.is_window as is-window
 use Rattle.search.proofs.search as search
 use Rattle.search.proofs.as_figures as search-as-figures
+use Rattle.search.proofs.clear_entries as clear-entries
 use Rattle.records.proofs.raw_record as raw-record
 use Rattle.records.proofs.log_record as log-record
 use Rattle.records.proofs.log_entry as log-entry
 use Rattle.records.proofs.is_place as is-place
+use Rattle.records.proofs.one_to as one-to
 use Rattle.records.proofs.chain_count as chain-count
 use Rattle.records.proofs.chain_of as chain-of
 use Rattle.records.proofs.raw_chain as raw-chain
 use Rattle.records.proofs.raw_job as raw-job
+use Rattle.records.proofs.formed_job as formed-job
 use Rattle.records.proofs.job_of as job-of
+use Rattle.records.proofs.piece_end as piece-end
 use Rattle.writing.proofs.write as write
 use Rattle.writing.proofs.write_chain as write-chain
 use Rattle.writing.proofs.write_job as write-job
+use Rattle.writing.proofs.clear_buffer as clear-buffer
 use Rattle.text.proofs.put as text-put
 use Rattle.text.proofs.put_number as text-put-number
 use Rattle.text.proofs.put_whole as put-whole
 use Rattle.text.proofs.put_bytes as put-bytes
-use Rattle.typed.proofs.line_end as line-end
-use Rattle.typed.proofs.is_word as is-word
-use Rattle.typed.proofs.job as typed-job
-use Rattle.typed.proofs.chain as typed-chain
-use Rattle.typed.proofs.draft as typed-draft
-use Rattle.typed.proofs.question as typed-question
+use Rattle.parsing.proofs.line_end as line-end
+use Rattle.parsing.proofs.is_word as is-word
+use Rattle.parsing.proofs.job as parsed-job
+use Rattle.parsing.proofs.chain as parsed-chain
+use Rattle.parsing.proofs.draft as parsed-draft
+use Rattle.parsing.proofs.question as parsed-question
 use Rattle.shown.proofs.job as shown-job
 use Rattle.shown.proofs.chain as shown-chain
 use Rattle.shown.proofs.record as shown-record
 use Rattle.shown.proofs.expected as shown-expected
+use Rattle.files.proofs.none_given as none-given
 use Rattle.files.proofs.refused as refused
 use Rattle.listing.proofs.list as list
-use Rattle.desk.proofs.desk_centimetres as desk-centimetres
-use Rattle.desk.proofs.desk_metres as desk-metres
-use Rattle.desk.proofs.desk_expected as desk-expected
-use Rattle.desk.proofs.desk_search as desk-search
-use Rattle.desk.proofs.desk_log_record as desk-log-record
-use Rattle.desk.proofs.desk_write as desk-write
-use Rattle.desk.proofs.desk_job as desk-job
-use Rattle.desk.proofs.desk_chain_count as desk-chain-count
-use Rattle.desk.proofs.desk_chain as desk-chain
-use Rattle.desk.proofs.desk_list as desk-list
+use Rattle.lay.proofs.lay_version as lay-version
+use Rattle.lay.proofs.lay_centimetres as lay-centimetres
+use Rattle.lay.proofs.lay_metres as lay-metres
+use Rattle.lay.proofs.lay_expected as lay-expected
+use Rattle.lay.proofs.lay_search as lay-search
+use Rattle.lay.proofs.lay_read_record as lay-read-record
+use Rattle.lay.proofs.lay_write_record as lay-write-record
+use Rattle.lay.proofs.lay_read_job as lay-read-job
+use Rattle.lay.proofs.lay_write_job as lay-write-job
+use Rattle.lay.proofs.lay_count_chains as lay-count-chains
+use Rattle.lay.proofs.lay_chain as lay-chain
+use Rattle.lay.proofs.lay_read_chain as lay-read-chain
+use Rattle.lay.proofs.lay_write_chain as lay-write-chain
+use Rattle.lay.proofs.lay_list as lay-list
 
 -- The logic in which the contracts are stated, any.
 module _ {M : Type 1} (𝓤 : URA M) (H : Heap 𝓤) (A : Atoms 𝓤) (mem : Memory → SProp 𝓤) (run : Routine → Fun 𝓤) where
-  -- squares::root, by `ensures-1`.
   pub root-only : OneAnswer 𝓤 root.ended (root.clauses 𝓤 H A mem run)
   root-only κs a g x y = only 𝓤 same (λ answer. answer & refl)
 
-  -- squares::root_near, by `ensures-1`.
   pub root-near-only : OneAnswer 𝓤 root-near.ended (root-near.clauses 𝓤 H A mem run)
   root-near-only κs a g x y = only 𝓤 same (λ answer. answer & refl)
 
-  -- fields::four_at, by `ensures-1`.
   pub four-at-only : OneAnswer 𝓤 four-at.ended (four-at.clauses 𝓤 H A mem run)
   four-at-only κs a g x y = only 𝓤 same (λ answer. answer & refl)
 
-  -- fields::eight_at, by `ensures-1`.
   pub eight-at-only : OneAnswer 𝓤 eight-at.ended (eight-at.clauses 𝓤 H A mem run)
   eight-at-only κs a g x y = only 𝓤 same (λ answer. answer & refl)
 
-  -- fields::put_four, by `ensures-answer`, `ensures-buffer`.
+  pub lies-inside-only : OneAnswer 𝓤 lies-inside.ended (lies-inside.clauses 𝓤 H A mem run)
+  lies-inside-only κs a g x y = only 𝓤 same (λ answer. answer & refl)
+
   pub put-four-only : OneAnswer 𝓤 put-four.ended (put-four.clauses 𝓤 H A mem run)
   put-four-only κs a g x y = only 𝓤 (same beside same) (λ (answer, buffer). answer & buffer & refl)
 
-  -- fields::put_eight, by `ensures-answer`, `ensures-buffer`.
   pub put-eight-only : OneAnswer 𝓤 put-eight.ended (put-eight.clauses 𝓤 H A mem run)
   put-eight-only κs a g x y = only 𝓤 (same beside same) (λ (answer, buffer). answer & buffer & refl)
 
-  -- metres::centimetres, by `ensures-1`.
   pub centimetres-only : OneAnswer 𝓤 centimetres.ended (centimetres.clauses 𝓤 H A mem run)
   centimetres-only κs a g x y = only 𝓤 same (λ answer. answer & refl)
 
-  -- metres::metres, by `ensures-answer`; `ensures-back` says more of the same.
   pub metres-only : OneAnswer 𝓤 metres.ended (metres.clauses 𝓤 H A mem run)
   metres-only κs a g x y = only 𝓤 (same beside told) (λ (answer, back). answer & refl)
 
-  -- metres::size, by `ensures-1`.
   pub size-only : OneAnswer 𝓤 size.ended (size.clauses 𝓤 H A mem run)
   size-only κs a g x y = only 𝓤 same (λ answer. answer & refl)
 
-  -- metres::whole_figures, by `ensures-1`.
   pub whole-figures-only : OneAnswer 𝓤 whole-figures.ended (whole-figures.clauses 𝓤 H A mem run)
   whole-figures-only κs a g x y = only 𝓤 same (λ answer. answer & refl)
 
-  -- metres::length_figures, by `ensures-1`.
   pub length-figures-only : OneAnswer 𝓤 length-figures.ended (length-figures.clauses 𝓤 H A mem run)
   length-figures-only κs a g x y = only 𝓤 same (λ answer. answer & refl)
 
-  -- metres::number_of, by `ensures-1`.
   pub number-of-only : OneAnswer 𝓤 number-of.ended (number-of.clauses 𝓤 H A mem run)
   number-of-only κs a g x y = only 𝓤 same (λ answer. answer & refl)
 
-  -- metres::pattern_of, by `ensures-1`.
   pub pattern-of-only : OneAnswer 𝓤 pattern-of.ended (pattern-of.clauses 𝓤 H A mem run)
   pattern-of-only κs a g x y = only 𝓤 same (λ answer. answer & refl)
 
-  -- metres::is_plus_zero, by `ensures-1`.
   pub is-plus-zero-only : OneAnswer 𝓤 is-plus-zero.ended (is-plus-zero.clauses 𝓤 H A mem run)
   is-plus-zero-only κs a g x y = only 𝓤 same (λ answer. answer & refl)
 
-  -- metres::number_at, by `ensures-1`.
   pub number-at-only : OneAnswer 𝓤 number-at.ended (number-at.clauses 𝓤 H A mem run)
   number-at-only κs a g x y = only 𝓤 same (λ answer. answer & refl)
 
-  -- metres::put_number, by `ensures-answer`, `ensures-buffer`; `ensures-back` says more of the same.
   pub put-number-only : OneAnswer 𝓤 put-number.ended (put-number.clauses 𝓤 H A mem run)
   put-number-only κs a g x y = only 𝓤 (same beside same beside told) (λ (answer, (buffer, back)). answer & buffer & refl)
 
-  -- chart::in_range, by `ensures-1`.
   pub in-range-only : OneAnswer 𝓤 in-range.ended (in-range.clauses 𝓤 H A mem run)
   in-range-only κs a g x y = only 𝓤 same (λ answer. answer & refl)
 
-  -- chart::sound, by `ensures-1`.
   pub sound-only : OneAnswer 𝓤 sound.ended (sound.clauses 𝓤 H A mem run)
   sound-only κs a g x y = only 𝓤 same (λ answer. answer & refl)
 
-  -- chart::readings, by `ensures-1`: it fixes what the answer says, and no two say the same.
   pub readings-only : OneAnswer 𝓤 readings.ended (readings.clauses 𝓤 H A mem run)
   readings-only κs a g x y = only 𝓤 same (λ says. said-once (x .0) (y .0) says & refl)
 
-  -- chart::as_figures, by `ensures-1`.
   pub chart-as-figures-only : OneAnswer 𝓤 chart-as-figures.ended (chart-as-figures.clauses 𝓤 H A mem run)
   chart-as-figures-only κs a g x y = only 𝓤 same (λ answer. answer & refl)
 
-  -- chart::gap, by `ensures-1`.
   pub gap-only : OneAnswer 𝓤 gap.ended (gap.clauses 𝓤 H A mem run)
   gap-only κs a g x y = only 𝓤 same (λ answer. answer & refl)
 
-  -- search::is_window, by `ensures-1`.
   pub is-window-only : OneAnswer 𝓤 is-window.ended (is-window.clauses 𝓤 H A mem run)
   is-window-only κs a g x y = only 𝓤 same (λ answer. answer & refl)
 
-  -- search::search, by `ensures-answer`, `ensures-list`.
   pub search-only : OneAnswer 𝓤 search.ended (search.clauses 𝓤 H A mem run)
   search-only κs a g x y = only 𝓤 (same beside same) (λ (answer, list). answer & list & refl)
 
-  -- search::as_figures, by `ensures-1`.
   pub search-as-figures-only : OneAnswer 𝓤 search-as-figures.ended (search-as-figures.clauses 𝓤 H A mem run)
   search-as-figures-only κs a g x y = only 𝓤 same (λ answer. answer & refl)
 
-  -- records::raw_record, by `ensures-1`.
+  pub clear-entries-only : OneAnswer 𝓤 clear-entries.ended (clear-entries.clauses 𝓤 H A mem run)
+  clear-entries-only κs a g x y = only 𝓤 same (λ list. refl & list & refl)
+
   pub raw-record-only : OneAnswer 𝓤 raw-record.ended (raw-record.clauses 𝓤 H A mem run)
   raw-record-only κs a g x y = only 𝓤 same (λ answer. answer & refl)
 
-  -- records::log_record, by `ensures-1`.
   pub log-record-only : OneAnswer 𝓤 log-record.ended (log-record.clauses 𝓤 H A mem run)
   log-record-only κs a g x y = only 𝓤 same (λ answer. answer & refl)
 
-  -- records::log_entry, by `ensures-1`.
   pub log-entry-only : OneAnswer 𝓤 log-entry.ended (log-entry.clauses 𝓤 H A mem run)
   log-entry-only κs a g x y = only 𝓤 same (λ answer. answer & refl)
 
-  -- records::is_place, by `ensures-1`.
   pub is-place-only : OneAnswer 𝓤 is-place.ended (is-place.clauses 𝓤 H A mem run)
   is-place-only κs a g x y = only 𝓤 same (λ answer. answer & refl)
 
-  -- records::chain_count, by `ensures-1`.
+  pub one-to-only : OneAnswer 𝓤 one-to.ended (one-to.clauses 𝓤 H A mem run)
+  one-to-only κs a g x y = only 𝓤 same (λ answer. answer & refl)
+
   pub chain-count-only : OneAnswer 𝓤 chain-count.ended (chain-count.clauses 𝓤 H A mem run)
   chain-count-only κs a g x y = only 𝓤 same (λ answer. answer & refl)
 
-  -- records::chain_of, by `ensures-1`.
   pub chain-of-only : OneAnswer 𝓤 chain-of.ended (chain-of.clauses 𝓤 H A mem run)
   chain-of-only κs a g x y = only 𝓤 same (λ answer. answer & refl)
 
-  -- records::raw_chain, by `ensures-1`.
   pub raw-chain-only : OneAnswer 𝓤 raw-chain.ended (raw-chain.clauses 𝓤 H A mem run)
   raw-chain-only κs a g x y = only 𝓤 same (λ answer. answer & refl)
 
-  -- records::raw_job, by `ensures-1`.
   pub raw-job-only : OneAnswer 𝓤 raw-job.ended (raw-job.clauses 𝓤 H A mem run)
   raw-job-only κs a g x y = only 𝓤 same (λ answer. answer & refl)
 
-  -- records::job_of, by `ensures-1`.
+  pub formed-job-only : OneAnswer 𝓤 formed-job.ended (formed-job.clauses 𝓤 H A mem run)
+  formed-job-only κs a g x y = only 𝓤 same (λ answer. answer & refl)
+
   pub job-of-only : OneAnswer 𝓤 job-of.ended (job-of.clauses 𝓤 H A mem run)
   job-of-only κs a g x y = only 𝓤 same (λ answer. answer & refl)
 
-  -- writing::write, by `ensures-answer`, `ensures-buffer`.
+  pub piece-end-only : OneAnswer 𝓤 piece-end.ended (piece-end.clauses 𝓤 H A mem run)
+  piece-end-only κs a g x y = only 𝓤 same (λ answer. answer & refl)
+
   pub write-only : OneAnswer 𝓤 write.ended (write.clauses 𝓤 H A mem run)
   write-only κs a g x y = only 𝓤 (same beside same) (λ (answer, buffer). answer & buffer & refl)
 
-  -- writing::write_chain, by `ensures-answer`, `ensures-buffer`.
   pub write-chain-only : OneAnswer 𝓤 write-chain.ended (write-chain.clauses 𝓤 H A mem run)
   write-chain-only κs a g x y = only 𝓤 (same beside same) (λ (answer, buffer). answer & buffer & refl)
 
-  -- writing::write_job, by `ensures-answer`, `ensures-buffer`.
   pub write-job-only : OneAnswer 𝓤 write-job.ended (write-job.clauses 𝓤 H A mem run)
   write-job-only κs a g x y = only 𝓤 (same beside same) (λ (answer, buffer). answer & buffer & refl)
 
-  -- text::put, by `ensures-end`, `ensures-out`.
+  pub clear-buffer-only : OneAnswer 𝓤 clear-buffer.ended (clear-buffer.clauses 𝓤 H A mem run)
+  clear-buffer-only κs a g x y = only 𝓤 same (λ buffer. refl & buffer & refl)
+
   pub text-put-only : OneAnswer 𝓤 text-put.ended (text-put.clauses 𝓤 H A mem run)
   text-put-only κs a g x y = only 𝓤 (same beside same) (λ (end, out). end & out & refl)
 
-  -- text::put_number, by `ensures-end`, `ensures-out`.
   pub text-put-number-only : OneAnswer 𝓤 text-put-number.ended (text-put-number.clauses 𝓤 H A mem run)
   text-put-number-only κs a g x y = only 𝓤 (same beside same) (λ (end, out). end & out & refl)
 
-  -- text::put_whole, by `ensures-end`, `ensures-out`.
   pub put-whole-only : OneAnswer 𝓤 put-whole.ended (put-whole.clauses 𝓤 H A mem run)
   put-whole-only κs a g x y = only 𝓤 (same beside same) (λ (end, out). end & out & refl)
 
-  -- text::put_bytes, by `ensures-end`, `ensures-out`.
   pub put-bytes-only : OneAnswer 𝓤 put-bytes.ended (put-bytes.clauses 𝓤 H A mem run)
   put-bytes-only κs a g x y = only 𝓤 (same beside same) (λ (end, out). end & out & refl)
 
-  -- typed::line_end, by `ensures-1`.
   pub line-end-only : OneAnswer 𝓤 line-end.ended (line-end.clauses 𝓤 H A mem run)
   line-end-only κs a g x y = only 𝓤 same (λ answer. answer & refl)
 
-  -- typed::is_word, by `ensures-1`.
   pub is-word-only : OneAnswer 𝓤 is-word.ended (is-word.clauses 𝓤 H A mem run)
   is-word-only κs a g x y = only 𝓤 same (λ answer. answer & refl)
 
-  -- typed::job, by `ensures-1`.
-  pub typed-job-only : OneAnswer 𝓤 typed-job.ended (typed-job.clauses 𝓤 H A mem run)
-  typed-job-only κs a g x y = only 𝓤 same (λ answer. answer & refl)
+  pub parsed-job-only : OneAnswer 𝓤 parsed-job.ended (parsed-job.clauses 𝓤 H A mem run)
+  parsed-job-only κs a g x y = only 𝓤 same (λ answer. answer & refl)
 
-  -- typed::chain, by `ensures-1`.
-  pub typed-chain-only : OneAnswer 𝓤 typed-chain.ended (typed-chain.clauses 𝓤 H A mem run)
-  typed-chain-only κs a g x y = only 𝓤 same (λ answer. answer & refl)
+  pub parsed-chain-only : OneAnswer 𝓤 parsed-chain.ended (parsed-chain.clauses 𝓤 H A mem run)
+  parsed-chain-only κs a g x y = only 𝓤 same (λ answer. answer & refl)
 
-  -- typed::draft, by `ensures-1`.
-  pub typed-draft-only : OneAnswer 𝓤 typed-draft.ended (typed-draft.clauses 𝓤 H A mem run)
-  typed-draft-only κs a g x y = only 𝓤 same (λ answer. answer & refl)
+  pub parsed-draft-only : OneAnswer 𝓤 parsed-draft.ended (parsed-draft.clauses 𝓤 H A mem run)
+  parsed-draft-only κs a g x y = only 𝓤 same (λ answer. answer & refl)
 
-  -- typed::question, by `ensures-1`.
-  pub typed-question-only : OneAnswer 𝓤 typed-question.ended (typed-question.clauses 𝓤 H A mem run)
-  typed-question-only κs a g x y = only 𝓤 same (λ answer. answer & refl)
+  pub parsed-question-only : OneAnswer 𝓤 parsed-question.ended (parsed-question.clauses 𝓤 H A mem run)
+  parsed-question-only κs a g x y = only 𝓤 same (λ answer. answer & refl)
 
-  -- shown::job, by `ensures-answer`, `ensures-out`.
   pub shown-job-only : OneAnswer 𝓤 shown-job.ended (shown-job.clauses 𝓤 H A mem run)
   shown-job-only κs a g x y = only 𝓤 (same beside same) (λ (answer, out). answer & out & refl)
 
-  -- shown::chain, by `ensures-answer`, `ensures-out`.
   pub shown-chain-only : OneAnswer 𝓤 shown-chain.ended (shown-chain.clauses 𝓤 H A mem run)
   shown-chain-only κs a g x y = only 𝓤 (same beside same) (λ (answer, out). answer & out & refl)
 
-  -- shown::record, by `ensures-answer`, `ensures-out`.
   pub shown-record-only : OneAnswer 𝓤 shown-record.ended (shown-record.clauses 𝓤 H A mem run)
   shown-record-only κs a g x y = only 𝓤 (same beside same) (λ (answer, out). answer & out & refl)
 
-  -- shown::expected, by `ensures-answer`, `ensures-out`.
   pub shown-expected-only : OneAnswer 𝓤 shown-expected.ended (shown-expected.clauses 𝓤 H A mem run)
   shown-expected-only κs a g x y = only 𝓤 (same beside same) (λ (answer, out). answer & out & refl)
 
-  -- files::refused, by `ensures-1`.
+  pub none-given-only : OneAnswer 𝓤 none-given.ended (none-given.clauses 𝓤 H A mem run)
+  none-given-only κs a g x y = only 𝓤 same (λ answer. answer & refl)
+
   pub refused-only : OneAnswer 𝓤 refused.ended (refused.clauses 𝓤 H A mem run)
   refused-only κs a g x y = only 𝓤 same (λ answer. answer & refl)
 
-  -- listing::list, by `ensures-answer`, `ensures-out`.
   pub list-only : OneAnswer 𝓤 list.ended (list.clauses 𝓤 H A mem run)
   list-only κs a g x y = only 𝓤 (same beside same) (λ (answer, out). answer & out & refl)
 
-  -- desk::desk_centimetres, by `ensures-answer`, `ensures-centimetres`.
-  pub desk-centimetres-only : OneAnswer 𝓤 desk-centimetres.ended (desk-centimetres.clauses 𝓤 H A mem run)
-  desk-centimetres-only κs a g x y = only 𝓤 (same beside same) (λ (answer, centimetres). answer & refl & centimetres & refl)
+  pub lay-version-only : OneAnswer 𝓤 lay-version.ended (lay-version.clauses 𝓤 H A mem run)
+  lay-version-only κs a g x y = only 𝓤 same (λ answer. answer & refl)
 
-  -- desk::desk_metres, by `ensures-answer`, `ensures-metres`.
-  pub desk-metres-only : OneAnswer 𝓤 desk-metres.ended (desk-metres.clauses 𝓤 H A mem run)
-  desk-metres-only κs a g x y = only 𝓤 (same beside same) (λ (answer, metres). answer & refl & metres & refl)
+  pub lay-centimetres-only : OneAnswer 𝓤 lay-centimetres.ended (lay-centimetres.clauses 𝓤 H A mem run)
+  lay-centimetres-only κs a g x y = only 𝓤 (same beside same) (λ (answer, centimetres). answer & refl & centimetres & refl)
 
-  -- desk::desk_expected, by `ensures-answer`, `ensures-a`, `ensures-b`.
-  pub desk-expected-only : OneAnswer 𝓤 desk-expected.ended (desk-expected.clauses 𝓤 H A mem run)
-  desk-expected-only κs a g x y = only 𝓤 (same beside same beside same) (λ (answer, (ra, rb)). answer & refl & refl & refl & refl & refl & refl & refl & refl & ra & rb & refl)
+  pub lay-metres-only : OneAnswer 𝓤 lay-metres.ended (lay-metres.clauses 𝓤 H A mem run)
+  lay-metres-only κs a g x y = only 𝓤 (same beside same) (λ (answer, metres). answer & refl & metres & refl)
 
-  -- desk::desk_search, by `ensures-answer`, `ensures-list`, `ensures-count`, `ensures-visits`.
-  pub desk-search-only : OneAnswer 𝓤 desk-search.ended (desk-search.clauses 𝓤 H A mem run)
-  desk-search-only κs a g x y = only 𝓤 (same beside same beside same beside same) (λ (answer, (list, (count, visits))). answer & list & refl & refl & refl & refl & refl & refl & refl & refl & refl & refl & refl & refl & refl & count & visits & refl)
+  pub lay-expected-only : OneAnswer 𝓤 lay-expected.ended (lay-expected.clauses 𝓤 H A mem run)
+  lay-expected-only κs a g x y = only 𝓤 (same beside same) (λ (answer, readings). answer & readings & refl & refl & refl & refl)
 
-  -- desk::desk_log_record, by `ensures-answer`, `ensures-kind`, `ensures-chain`, `ensures-line`, `ensures-x`, `ensures-y`.
-  pub desk-log-record-only : OneAnswer 𝓤 desk-log-record.ended (desk-log-record.clauses 𝓤 H A mem run)
-  desk-log-record-only κs a g x y = only 𝓤 (same beside same beside same beside same beside same beside same) (λ (answer, (kind, (chain, (line, (first, second))))). answer & refl & kind & chain & line & first & second & refl)
+  pub lay-search-only : OneAnswer 𝓤 lay-search.ended (lay-search.clauses 𝓤 H A mem run)
+  lay-search-only κs a g x y = only 𝓤 (same beside same beside same) (λ (answer, (list, found)). answer & list & refl & refl & refl & found & refl)
 
-  -- desk::desk_write, by `ensures-answer`, `ensures-buffer`.
-  pub desk-write-only : OneAnswer 𝓤 desk-write.ended (desk-write.clauses 𝓤 H A mem run)
-  desk-write-only κs a g x y = only 𝓤 (same beside same) (λ (answer, buffer). answer & buffer & refl)
+  pub lay-read-record-only : OneAnswer 𝓤 lay-read-record.ended (lay-read-record.clauses 𝓤 H A mem run)
+  lay-read-record-only κs a g x y = only 𝓤 (same beside same beside same beside same beside same beside same) (λ (answer, (kind, (chain, (line, (first, second))))). answer & refl & kind & chain & line & first & second & refl)
 
-  -- desk::desk_job, by `ensures-answer`, `ensures-e`, `ensures-n`, `ensures-k`, `ensures-tolerance`, `ensures-allowance`.
-  pub desk-job-only : OneAnswer 𝓤 desk-job.ended (desk-job.clauses 𝓤 H A mem run)
-  desk-job-only κs a g x y = only 𝓤 (same beside same beside same beside same beside same beside same) (λ (answer, (easting, (northing, (k, (tolerance, allowance))))). answer & refl & easting & northing & k & tolerance & allowance & refl)
+  pub lay-write-record-only : OneAnswer 𝓤 lay-write-record.ended (lay-write-record.clauses 𝓤 H A mem run)
+  lay-write-record-only κs a g x y = only 𝓤 (same beside same) (λ (answer, buffer). answer & buffer & refl)
 
-  -- desk::desk_chain_count, by `ensures-answer`, `ensures-count`.
-  pub desk-chain-count-only : OneAnswer 𝓤 desk-chain-count.ended (desk-chain-count.clauses 𝓤 H A mem run)
-  desk-chain-count-only κs a g x y = only 𝓤 (same beside same) (λ (answer, count). answer & refl & count & refl)
+  pub lay-read-job-only : OneAnswer 𝓤 lay-read-job.ended (lay-read-job.clauses 𝓤 H A mem run)
+  lay-read-job-only κs a g x y = only 𝓤 (same beside same beside same beside same beside same beside same) (λ (answer, (easting, (northing, (k, (tolerance, allowance))))). answer & refl & easting & northing & k & tolerance & allowance & refl)
 
-  -- desk::desk_chain, by `ensures-answer`, `ensures-me`, `ensures-mn`, `ensures-ae`, `ensures-an`, `ensures-be`, `ensures-bn`.
-  pub desk-chain-only : OneAnswer 𝓤 desk-chain.ended (desk-chain.clauses 𝓤 H A mem run)
-  desk-chain-only κs a g x y = only 𝓤 (same beside same beside same beside same beside same beside same beside same) (λ (answer, (me, (mn, (ae, (an, (be, bn)))))). answer & refl & refl & me & mn & ae & an & be & bn & refl)
+  pub lay-write-job-only : OneAnswer 𝓤 lay-write-job.ended (lay-write-job.clauses 𝓤 H A mem run)
+  lay-write-job-only κs a g x y = only 𝓤 (same beside same) (λ (answer, buffer). answer & buffer & refl)
 
-  -- desk::desk_list, by `ensures-answer`, `ensures-text`, `ensures-size`, `ensures-next`, `ensures-easting`, `ensures-northing`.
-  pub desk-list-only : OneAnswer 𝓤 desk-list.ended (desk-list.clauses 𝓤 H A mem run)
-  desk-list-only κs a g x y = only 𝓤 (same beside same beside same beside same beside same beside same) (λ (answer, (text, (size, (next, (easting, northing))))). answer & text & refl & refl & refl & refl & refl & refl & size & next & easting & northing & refl)
+  pub lay-count-chains-only : OneAnswer 𝓤 lay-count-chains.ended (lay-count-chains.clauses 𝓤 H A mem run)
+  lay-count-chains-only κs a g x y = only 𝓤 (same beside same) (λ (answer, count). answer & refl & count & refl)
+
+  pub lay-chain-only : OneAnswer 𝓤 lay-chain.ended (lay-chain.clauses 𝓤 H A mem run)
+  lay-chain-only κs a g x y = only 𝓤 (same beside same) (λ (answer, buffer). answer & buffer & refl & refl)
+
+  pub lay-read-chain-only : OneAnswer 𝓤 lay-read-chain.ended (lay-read-chain.clauses 𝓤 H A mem run)
+  lay-read-chain-only κs a g x y = only 𝓤 (same beside same) (λ (answer, stations). answer & refl & stations & refl)
+
+  pub lay-write-chain-only : OneAnswer 𝓤 lay-write-chain.ended (lay-write-chain.clauses 𝓤 H A mem run)
+  lay-write-chain-only κs a g x y = only 𝓤 (same beside same) (λ (answer, buffer). answer & buffer & refl & refl)
+
+  pub lay-list-only : OneAnswer 𝓤 lay-list.ended (lay-list.clauses 𝓤 H A mem run)
+  lay-list-only κs a g x y = only 𝓤 (same beside same beside same) (λ (answer, (text, part)). answer & text & refl & refl & refl & part & refl)

@@ -16,7 +16,7 @@ use Rattle.search.specs.Windows.{east, north, northEast}
 use Rattle.search.specs.Questions.{Rule, Question, matches, isKept}
 use Rattle.search.specs.Walk.{Standing, either, unchanged, start, visit}
 use Rattle.search.specs.Answers.{Outcome, Accepted, searchFigures, figuresIn}
-use Rattle.search.specs.Cells.{Rises, cells, ifSo, those, matching, matchingIn, visitsIn, Listed, AmpleRoom}
+use Rattle.search.specs.Cells.{Rises, cells, ifSo, those, matching, matchingIn, visitsIn, IsListed, AmpleRoom}
 use Rattle.search.proofs.WalkLaws.{visit-after, visit-out, visit-cell, visit-square, quarters, cell-missed, cell-listed}
 use Rattle.search.proofs.AnswerLaws.{ended-out, search-walks}
 use Rattle.search.proofs.CellLaws.{matching-counted}
@@ -28,12 +28,12 @@ use Rattle.search.proofs.Telling.{gone-small}
 use Rattle.demands.specs.Finding.{EachOnce}
 
 -- The numbers behind the first are larger: so it stands once.
-above : (number : Place → ℕ) (p : Place) (l : List Place) → Rises number (p ∷ l) → (o : Place) → Listed o l → number p < number o
+above : (number : Place → ℕ) (p : Place) (l : List Place) → Rises number (p ∷ l) → (o : Place) → IsListed o l → number p < number o
 unfolding Rises
 above number p [] r o m = absurd (List·Memᴰ·not-nil m)
 above number p (q ∷ l) r o m = go (List·Memᴰ·cases-cons m) (above number q l (r .1) o)
   where
-    go : (o ≡ q) ⊎ Listed o l → (Listed o l → number q < number o) → number p < number o
+    go : (o ≡ q) ⊎ IsListed o l → (IsListed o l → number q < number o) → number p < number o
     go (inl e) rest = omega (arith, r .0, ap number e)
     go (inr m) rest = omega (arith, r .0, rest m)
 

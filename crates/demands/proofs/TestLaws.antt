@@ -7,14 +7,15 @@ use mathlib.Core.List.{List, [], _∷_, List·Memᴰ·not-nil}
 use borrow.Author.Tests.{eqb-false}
 use lib.Dec.{leb}
 use lib.ListN.{length}
+use Rattle.fields.specs.Choices.{whereSo}
 use Rattle.chart.specs.declared.Place.{Place}
 use Rattle.chart.specs.Chains.{isSound}
 use Rattle.search.specs.declared.Window.{Window}
 use Rattle.search.specs.declared.Answer.the-variants.{Places, ReadingTooLarge, Unsound, BadWindow, BadTolerance}
 use Rattle.search.specs.Windows.{isWindow, IsCellIn}
 use Rattle.search.specs.Questions.{Question, mostTolerance, noneTooLarge, matches}
-use Rattle.search.specs.Answers.{Outcome, gone, ended, unless, searchOf, searchFigures, figuresIn}
-use Rattle.search.specs.Cells.{matchingIn, visitsIn, Listed}
+use Rattle.search.specs.Answers.{Outcome, refused, gone, ended, searchOf, searchFigures, figuresIn}
+use Rattle.search.specs.Cells.{matchingIn, visitsIn, IsListed}
 use Rattle.search.proofs.CellLaws.{matching-all}
 use Rattle.search.proofs.Outcomes.{walk, ample-complete}
 use Rattle.records.specs.Refusals.{isAmong}
@@ -22,15 +23,15 @@ use Rattle.demands.specs.Finding.{Enough}
 use Rattle.demands.proofs.NumberLaws.{at-end}
 
 -- The number of a search, by how the four tests come out. Behind them it is none of theirs.
-abbrev Number : Bool → Bool → Bool → Bool → ℕ → Type 0
-Number false b c d n = n ≡ 3
-Number true false c d n = n ≡ 5
-Number true true false d n = n ≡ 6
-Number true true true false n = n ≡ 7
-Number true true true true n = isAmong n (3 ∷ 5 ∷ 6 ∷ 7 ∷ []) ≡ false
+abbrev NumberBy : Bool → Bool → Bool → Bool → ℕ → Type 0
+NumberBy false b c d n = n ≡ 3
+NumberBy true false c d n = n ≡ 5
+NumberBy true true false d n = n ≡ 6
+NumberBy true true true false n = n ≡ 7
+NumberBy true true true true n = isAmong n (3 ∷ 5 ∷ 6 ∷ 7 ∷ []) ≡ false
 
 number-by : (q : Question) (w : Window) →
-    Number (noneTooLarge (q .rule .wanted)) (isSound (q .rule .chain)) (isWindow w) (leb (q .rule .tolerance) mostTolerance) (figuresIn q w .refusal)
+    NumberBy (noneTooLarge (q .rule .wanted)) (isSound (q .rule .chain)) (isWindow w) (leb (q .rule .tolerance) mostTolerance) (figuresIn q w .refusal)
 unfolding searchOf searchFigures isAmong
 number-by q w = go (noneTooLarge (q .rule .wanted)) (isSound (q .rule .chain)) (isWindow w) (leb (q .rule .tolerance) mostTolerance)
   where
@@ -39,8 +40,8 @@ number-by q w = go (noneTooLarge (q .rule .wanted)) (isSound (q .rule .chain)) (
     last (p ∷ ps) v = refl
 
     go : (a b c d : Bool) →
-        let o = unless a ReadingTooLarge (λ _. unless b Unsound (λ _. unless c BadWindow (λ _. unless d BadTolerance (λ _. ended (walk q w))))) in
-        Number a b c d (searchFigures (o .answer) .refusal)
+        let o = whereSo a (refused ReadingTooLarge) (λ _. whereSo b (refused Unsound) (λ _. whereSo c (refused BadWindow) (λ _. whereSo d (refused BadTolerance) (λ _. ended (walk q w))))) in
+        NumberBy a b c d (searchFigures (o .answer) .refusal)
     go false b c d = refl
     go true false c d = refl
     go true true false d = refl
@@ -64,7 +65,7 @@ InOrder a b c d n =
     × ((n ≡ 6) ↔ ((a ≡ true) × (b ≡ true) × (c ≡ false)))
     × ((n ≡ 7) ↔ ((a ≡ true) × (b ≡ true) × (c ≡ true) × (d ≡ false)))
 
-first-failure : (a b c d : Bool) (n : ℕ) → Number a b c d n → InOrder a b c d n
+first-failure : (a b c d : Bool) (n : ℕ) → NumberBy a b c d n → InOrder a b c d n
 unfolding isAmong
 first-failure false b c d n h = (
   hold h refl,
@@ -107,7 +108,7 @@ module _ (q : Question) (w : Window) where
       (figuresIn q w .refusal) (number-by q w)
 
   -- A walk that found a cell ended with places.
-  some-gone : (ps : List Place) (v : ℕ) (o : Place) → Listed o ps → gone ps v .answer ≡ Places (length ps) v
+  some-gone : (ps : List Place) (v : ℕ) (o : Place) → IsListed o ps → gone ps v .answer ≡ Places (length ps) v
   some-gone [] v o m = absurd (List·Memᴰ·not-nil m)
   some-gone (p ∷ ps) v o m = refl
 

@@ -1,7 +1,7 @@
 -- What is shown of a record that was written: a line without a refusal, whose fields, typed, are what the record was written from.
 use Prim.Native.Nat.{ℕ, _^_, _≤_, _<_}
 use mathlib.Core.Path.{_≡_, refl, sym, ap, ap₂, _∙_}
-use mathlib.Core.Bool.{true, false≢true, _&&_}
+use mathlib.Core.Bool.{true, false≢true}
 use mathlib.Core.List.{List, [], _∷_, _++_, map, append-nil, append-assoc}
 use native.Mathlib.Omega.{arith}
 use borrow.Author.Tests.{lt-ltb}
@@ -21,7 +21,6 @@ use Rattle.records.specs.declared.Job.{Job}
 use Rattle.records.specs.declared.JobAnswer.the-variants as answer
 use Rattle.records.specs.declared.NamedChain.the-variants as named
 use Rattle.records.specs.declared.LogEntry.{LogEntry}
-use Rattle.records.specs.Bytes.{areZero}
 use Rattle.records.specs.LogRecords.{logEntryOf}
 use Rattle.records.specs.ChainTables.{oneTo, chainsIn, isTable, chainAt, rawChainOf, chainOf}
 use Rattle.records.specs.Jobs.{jobBytes, jobIn, rawJobOf, jobOf}
@@ -35,17 +34,18 @@ use Rattle.writing.specs.JobWriting.{jobRefusalOf, jobBufferOf}
 use Rattle.writing.proofs.Theorems.{reads-back, chains-read-back, job-reads-back}
 use Rattle.text.specs.Texts.{digitsOf, figuresText, spaced, wholeText, numeral, bytesIn}
 use Rattle.text.proofs.Digits.{reads-back as digits-back}
-use Rattle.typed.specs.declared.TypedJob.the-variants as typed-job
-use Rattle.typed.specs.declared.TypedChain.the-variants as typed-chain
-use Rattle.typed.specs.declared.TypedDraft.the-variants as typed-draft
-use Rattle.typed.specs.Words.{wordAt}
-use Rattle.typed.specs.Numbers.{isNumber, isBelow, sizeIn, isReading, areNumbers, fits, numberAt, readingAt}
-use Rattle.typed.specs.Typed.{jobIn as jobTypedIn, chainIn, isDraft, draftIn}
-use Rattle.typed.proofs.WordLaws.{spacedWords, spaced-both, spaced-one, words-back}
-use Rattle.typed.proofs.NumberLaws.{digits-word, digits-number, whole-word, whole-reading, whole-back, figures-spaced, figures-line, figures-back}
+use Rattle.parsing.specs.declared.ParsedJob.the-variants as parsed-job
+use Rattle.parsing.specs.declared.ParsedChain.the-variants as parsed-chain
+use Rattle.parsing.specs.declared.ParsedDraft.the-variants as parsed-draft
+use Rattle.parsing.specs.Words.{wordAt}
+use Rattle.parsing.specs.Numbers.{isNumber, isBelow, sizeIn, isReading, areNumbers, fits, valueAt, readingAt}
+use Rattle.parsing.specs.Parsed.{parsedJob, parsedChain, isDraft, parsedDraft}
+use Rattle.parsing.proofs.WordLaws.{spacedWords, spaced-both, spaced-one, words-back}
+use Rattle.parsing.proofs.NumberLaws.{digits-word, digits-number, whole-word, whole-reading, whole-back, figures-spaced, figures-line, figures-back}
 use Rattle.records.proofs.RefusalLaws.{passed}
-use Rattle.typed.proofs.HeldRecords.{used-fits}
-use Rattle.typed.proofs.Fields.{jobTyped, chainTyped, draftTyped, job-taken, chain-taken, draft-taken}
+use Rattle.records.proofs.JobLaws.{zerosKept, job-by-tests}
+use Rattle.parsing.proofs.HeldRecords.{used-fits}
+use Rattle.parsing.proofs.Fields.{jobTyped, chainTyped, draftTyped, job-taken, chain-taken, draft-taken}
 use Rattle.shown.specs.Fields.{wholeOr, centimetresText, refusedText}
 use Rattle.shown.specs.Lines.{lineWith, jobFigures, jobFields, jobText, jobLine, stationFigures, chainFields, chainText, refusalIn, chainLine, rawText, rawFields, recordText, recordLine}
 
@@ -57,10 +57,10 @@ plain-line word fields number s e = rw e
 
 -- A job.
 raw-job-back : (s : List ℕ) (j : Job) → jobOf s ≡ answer.Job j → rawJobOf s ≡ answer.Job j
-unfolding jobOf rawJobOf
+unfolding rawJobOf
 raw-job-back s j e =
-    let size = passed (eqb (length s) jobBytes) (λ f. false≢true (cc)) e in
-    let zeros = passed (areZero 3 s 9 && areZero 8 s 24) (λ f. false≢true (cc)) (size .1) in
+    let size = passed (eqb (length s) jobBytes) (λ f. false≢true (cc)) (sym (job-by-tests s) ∙ e) in
+    let zeros = passed (zerosKept s) (λ f. false≢true (cc)) (size .1) in
     let window = passed (isWindow (jobIn s .window)) (λ f. false≢true (cc)) (zeros .1) in
     let tolerance = passed (leb (jobIn s .tolerance) mostTolerance) (λ f. false≢true (cc)) (window .1) in
     rw (size .0) (tolerance .1)
@@ -76,14 +76,14 @@ module _ (j : Job) (small : j .allowance < 2 ^ 64) (accepted : jobRefusalOf 32 j
       plain-line (bytesIn "JOB") (jobText (jobBufferOf 32 j)) (jobRefusal (jobOf (jobBufferOf 32 j))) (jobBufferOf 32 j)
       (ap jobRefusal (job-reads-back j small accepted))
 
-  pub job-typed-again : jobTypedIn (jobText (jobBufferOf 32 j)) ≡ typed-job.Job j
+  pub job-typed-again : parsedJob (jobText (jobBufferOf 32 j)) ≡ parsed-job.Job j
   job-typed-again =
       let ns = jobFigures j in
       let at = figures-back ns in
       let same : jobTyped (figuresText ns) ≡ j = rw (at 0, at 1, at 2, at 3, at 4) in
-      ap jobTypedIn job-shown
+      ap parsedJob job-shown
       ∙ job-taken 32 (figuresText ns) (figures-line ns) (omega (arith, at 4)) (ap (jobRefusalOf 32) same ∙ accepted)
-      ∙ ap typed-job.Job same
+      ∙ ap parsed-job.Job same
 
 -- A chain.
 module _ (c : Chain) (sound : isSound c ≡ true) where
@@ -129,13 +129,13 @@ module _ (c : Chain) (sound : isSound c ≡ true) where
   unfolding chainRefusalOf
   accepted = rw sound
 
-  pub chain-typed-again : chainIn (figuresText (stationFigures c)) ≡ typed-chain.Chain c
+  pub chain-typed-again : parsedChain (figuresText (stationFigures c)) ≡ parsed-chain.Chain c
   chain-typed-again =
       let ns = stationFigures c in
       let at = figures-back ns in
       let same : chainTyped (figuresText ns) ≡ c = rw (at 0, at 1, at 2, at 3, at 4, at 5) in
       chain-taken 24 (figuresText ns) (figures-line ns) (ap (chainRefusalOf 24) same ∙ accepted)
-      ∙ ap typed-chain.Chain same
+      ∙ ap parsed-chain.Chain same
 
 -- A draft: three numbers and two readings.
 abbrev draftWords : Draft → List (List ℕ)
@@ -154,7 +154,7 @@ module _ (d : Draft) where
       let words = draft-words d in
       let number : (i n : ℕ) → wordAt i s ≡ digitsOf n → isNumber (wordAt i s) ≡ true = λ i n e. ap isNumber e ∙ digits-number n in
       let reading : (i : ℕ) (z : ℤ) → wordAt i s ≡ wholeText z → isReading (wordAt i s) ≡ true = λ i z e. ap isReading e ∙ whole-reading z in
-      let line : numberAt s 2 ≡ d .line = ap numeral (words 2) ∙ digits-back (d .line) in
+      let line : valueAt s 2 ≡ d .line = ap numeral (words 2) ∙ digits-back (d .line) in
       and-both (and-both (and-both (number 0 (d .kind) (words 0)) (number 1 (d .chain) (words 1))) (number 2 (d .line) (words 2)))
       (and-both (reading 3 (d .x) (words 3))
       (and-both (reading 4 (d .y) (words 4))
@@ -164,7 +164,7 @@ module _ (d : Draft) where
   same-draft =
       let s = spacedWords (draftWords d) in
       let words = draft-words d in
-      let number : (i n : ℕ) → wordAt i s ≡ digitsOf n → numberAt s i ≡ n = λ i n e. ap numeral e ∙ digits-back n in
+      let number : (i n : ℕ) → wordAt i s ≡ digitsOf n → valueAt s i ≡ n = λ i n e. ap numeral e ∙ digits-back n in
       let reading : (i : ℕ) (z : ℤ) → wordAt i s ≡ wholeText z → readingAt s i ≡ z =
       λ i z e. ap (λ (w : List ℕ). signed (isBelow w) (numeral (sizeIn w))) e ∙ whole-back z in
       rw (
@@ -203,8 +203,8 @@ module _ (d : Draft) (small : d .line < 2 ^ 32) (accepted : refusalOf 32 d ≡ 0
       (ap entryRefusal (reads-back d small accepted .entry)
       ∙ either-kind none (eqb (usedOf d .kind) 1) refl (either-kind none (eqb (usedOf d .kind) 2) refl refl))
 
-  pub record-typed-again : draftIn (recordText (bufferOf 32 d)) ≡ typed-draft.Draft (usedOf d)
+  pub record-typed-again : parsedDraft (recordText (bufferOf 32 d)) ≡ parsed-draft.Draft (usedOf d)
   record-typed-again =
       let line : usedOf d .line < 2 ^ 32 = unfold usedOf in small in
-      ap draftIn record-shown
+      ap parsedDraft record-shown
       ∙ draft-taken 32 (spacedWords (draftWords (usedOf d))) d (is-draft (usedOf d) line) (same-draft (usedOf d)) accepted

@@ -10,6 +10,7 @@ use Rattle.metres.specs.Metres.{centimetresOf, wholeFigures}
 use Rattle.chart.specs.declared.Place.{Place}
 use Rattle.chart.specs.declared.Chain.{Chain}
 use Rattle.chart.specs.declared.Figures.{Figures}
+use Rattle.chart.specs.Places.{placeOf}
 use Rattle.chart.specs.Readings.{expectedAt, figuresOf}
 use Rattle.search.specs.declared.Window.{Window}
 use Rattle.search.specs.declared.SearchFigures.{SearchFigures}
@@ -28,7 +29,7 @@ pub data Asked : Type 0 where
 -- What they answer: figures, with the places of a search.
 pub data Answered : Type 0 where
   readings : Figures → Answered
-  searched : SearchFigures → List Place → Answered
+  found : SearchFigures → List Place → Answered
   centimetres : WholeFigures → Answered
 
 -- A case by its name in 01.
@@ -37,17 +38,14 @@ pub record Case : Type 0 where
   pub asked : Asked
   pub answered : Answered
 
--- A place, and a number below zero.
-abbrev pub at : ℕ → ℕ → Place
-at e n = record { easting = e; northing = n }
-
+-- A number below zero.
 abbrev pub minus : ℕ → ℤ
 minus n = negℤ (pos n)
 
 -- What holds of all cases unless said otherwise: chain 1, readings of -100.0 m and -200.0 m, the window's corner, and room
 -- and allowance ample.
 abbrev pub chain1 : Chain
-chain1 = record { master = at 0 0; a = at 30_000 0; b = at 0 40_000 }
+chain1 = record { master = placeOf 0 0; a = placeOf 30_000 0; b = placeOf 0 40_000 }
 
 abbrev pub rA : ℤ
 rA = minus 10_000
@@ -56,7 +54,7 @@ abbrev pub rB : ℤ
 rB = minus 20_000
 
 abbrev pub corner : Place
-corner = at 30_000 40_000
+corner = placeOf 30_000 40_000
 
 abbrev pub ample : ℕ
 ample = 100
@@ -67,8 +65,8 @@ unfolding div ofInt
 thousandths n = div binary64 (ofInt binary64 n) (ofInt binary64 (pos 1000))
 
 -- The question of a search by chain 1. Room for a place is two entries of a list.
-abbrev pub questionBy : ℕ → ℤ → ℤ → ℕ → ℕ → Question
-questionBy t a b room allowance = questionOf chain1 (a ∷ b ∷ []) t allowance (2 * room)
+abbrev pub caseQuestion : ℕ → ℤ → ℤ → ℕ → ℕ → Question
+caseQuestion t a b room allowance = questionOf chain1 (a ∷ b ∷ []) t allowance (2 * room)
 
 abbrev pub windowAt : Place → ℕ → Window
 windowAt o k = record { corner = o; k = k }
@@ -77,7 +75,7 @@ windowAt o k = record { corner = o; k = k }
 unfoldable pub answerTo : Asked → Answered
 answerTo (readingsAt p) = readings (figuresOf (expectedAt chain1 p))
 answerTo (search o k t a b room allowance) =
-    searched (figuresIn (questionBy t a b room allowance) (windowAt o k)) (searchOf (questionBy t a b room allowance) (windowAt o k) .places)
+    found (figuresIn (caseQuestion t a b room allowance) (windowAt o k)) (searchOf (caseQuestion t a b room allowance) (windowAt o k) .places)
 answerTo (centimetresIn x) = centimetres (wholeFigures (centimetresOf x))
 
 -- Answers as 01 says them: two readings; places and visits; a refusal and visits; centimetres.
@@ -85,10 +83,10 @@ abbrev pub theReadings : ℤ → ℤ → Answered
 theReadings a b = readings (record { refusal = 0; a = a; b = b })
 
 abbrev pub thePlaces : List Place → ℕ → Answered
-thePlaces ps visits = searched (record { refusal = 0; count = length ps; visits = visits }) ps
+thePlaces ps visits = found (record { refusal = 0; count = length ps; visits = visits }) ps
 
 abbrev pub theRefusal : ℕ → ℕ → Answered
-theRefusal number visits = searched (record { refusal = number; count = 0; visits = visits }) []
+theRefusal number visits = found (record { refusal = number; count = 0; visits = visits }) []
 
 abbrev pub theCentimetres : ℤ → Answered
 theCentimetres z = centimetres (record { refusal = 0; centimetres = z })
@@ -96,18 +94,18 @@ theCentimetres z = centimetres (record { refusal = 0; centimetres = z })
 abbrev pub case : String → Asked → Answered → Case
 case name asked answered = record { name = name; asked = asked; answered = answered }
 
--- The table.
-abbrev pub table : List Case
-table =
-    case "P1" (readingsAt (at 30_000 40_000)) (theReadings (minus 10_000) (minus 20_000))
-    ∷ case "P2" (readingsAt (at 30_001 40_000)) (theReadings (minus 10_000) (minus 19_999))
-    ∷ case "P3" (readingsAt (at 30_000 40_001)) (theReadings (minus 9_999) (minus 20_000))
-    ∷ case "P4" (search corner 1 0 rA rB ample ample) (thePlaces (at 30_000 40_000 ∷ at 30_001 40_001 ∷ []) 5)
-    ∷ case "P5" (search corner 1 1 rA rB ample ample) (thePlaces (at 30_000 40_000 ∷ at 30_001 40_000 ∷ at 30_000 40_001 ∷ at 30_001 40_001 ∷ []) 5)
+-- The table of the ten P cases.
+abbrev pub pCases : List Case
+pCases =
+    case "P1" (readingsAt (placeOf 30_000 40_000)) (theReadings (minus 10_000) (minus 20_000))
+    ∷ case "P2" (readingsAt (placeOf 30_001 40_000)) (theReadings (minus 10_000) (minus 19_999))
+    ∷ case "P3" (readingsAt (placeOf 30_000 40_001)) (theReadings (minus 9_999) (minus 20_000))
+    ∷ case "P4" (search corner 1 0 rA rB ample ample) (thePlaces (placeOf 30_000 40_000 ∷ placeOf 30_001 40_001 ∷ []) 5)
+    ∷ case "P5" (search corner 1 1 rA rB ample ample) (thePlaces (placeOf 30_000 40_000 ∷ placeOf 30_001 40_000 ∷ placeOf 30_000 40_001 ∷ placeOf 30_001 40_001 ∷ []) 5)
     ∷ case "P6" (search corner 1 0 rA rB 1 ample) (theRefusal 9 5)
     ∷ case "P7" (search corner 1 0 rA rB ample 4) (theRefusal 10 4)
     ∷ case "P7, with room 1 as well" (search corner 1 0 rA rB 1 4) (theRefusal 10 4)
-    ∷ case "P8" (search (at 30_001 40_000) 0 0 rA rB ample ample) (theRefusal 8 1)
+    ∷ case "P8" (search (placeOf 30_001 40_000) 0 0 rA rB ample ample) (theRefusal 8 1)
     ∷ case "P9" (search corner 1 0 (pos 0) (pos 0) ample ample) (theRefusal 8 1)
     ∷ case "P10, 0.125" (centimetresIn (thousandths (pos 125))) (theCentimetres (pos 12))
     ∷ case "P10, 0.375" (centimetresIn (thousandths (pos 375))) (theCentimetres (pos 38))

@@ -11,7 +11,7 @@ use Rattle.search.specs.declared.Window.{Window}
 use Rattle.search.specs.Windows.{IsCellIn}
 use Rattle.search.specs.Questions.{Question, matches}
 use Rattle.search.specs.Answers.{Accepted}
-use Rattle.search.specs.Cells.{chartNumber, Rises, Listed, AmpleRoom, AmpleAllowance}
+use Rattle.search.specs.Cells.{chartNumber, Rises, IsListed, AmpleRoom, AmpleAllowance}
 
 -- A sound chain, its readings, a window and a tolerance, all within their limits; room for every matching cell; and an
 -- allowance for every visit that the rule counts.
@@ -33,11 +33,11 @@ EachWithin t c (w ∷ ws) o = (differ (readingOf c (w .slave) o) (w .reading) �
 -- No place stands twice in a list.
 unfoldable pub EachOnce : List Place → Type 0
 EachOnce [] = Unit {0}
-EachOnce (p ∷ ps) = (Listed p ps → ⊥) × EachOnce ps
+EachOnce (p ∷ ps) = (IsListed p ps → ⊥) × EachOnce ps
 
 -- The list holds every matching cell of the window and no other, each once, in chart order: by rising interleaved numbers.
 pub record IsTheList (q : Question) (w : Window) (places : List Place) : Type 0 where
-  pub every : (o : Place) → IsCellIn w o → matches (q .rule) o ≡ true → Listed o places
-  pub no-other : (o : Place) → Listed o places → IsCellIn w o × (matches (q .rule) o ≡ true)
+  pub every : (o : Place) → IsCellIn w o → matches (q .rule) o ≡ true → IsListed o places
+  pub no-other : (o : Place) → IsListed o places → IsCellIn w o × (matches (q .rule) o ≡ true)
   pub once : EachOnce places
   pub in-order : Rises (chartNumber w) places

@@ -10,6 +10,7 @@ use Rattle.search.specs.Answers.{searchOf, listOf, figuresIn}
 use Rattle.records.specs.Refusals.{isAmong}
 use Rattle.listing.specs.declared.Listed.{Listed}
 use Rattle.listing.specs.declared.Listed.the-variants as listed
+use Rattle.lay.specs.Figures.{SearchTold}
 use Rattle.listing.specs.Answers.{RecordAnswer, Fix, Grid, Hold, Refused}
 
 -- The number in what a record of a log answers, and in what a listing does.
@@ -42,3 +43,13 @@ pub record Leaves (q : Question) (w : Window) (entries : ℕ) : Type 0 where
   pub unvisited : isAmong (figuresIn q w .refusal) (3 ∷ 5 ∷ 6 ∷ 7 ∷ []) ≡ true → figuresIn q w .visits ≡ 0
   pub allowed : figuresIn q w .visits ≤ q .limits .allowance
   pub used-up : figuresIn q w .refusal ≡ 10 → figuresIn q w .visits ≡ q .limits .allowance
+
+-- What the library for C tells of any search by bytes, in a list of so many entries: one of these numbers, and after a refusal
+-- zeros and nought.
+abbrev pub searchNumbers : List ℕ
+searchNumbers = 1 ∷ 2 ∷ 3 ∷ 5 ∷ 6 ∷ 7 ∷ 8 ∷ 9 ∷ 10 ∷ []
+
+abbrev pub SearchIsTold : ℕ → SearchTold → Type 0
+SearchIsTold entries t =
+    NoneOr searchNumbers (t .figures .refusal)
+    × (Refuses (t .figures .refusal) → (t .list ≡ replicate entries 0) × (t .figures .count ≡ 0))

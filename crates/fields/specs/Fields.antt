@@ -23,9 +23,13 @@ bytesOf (suc width) n = n % 256 ∷ bytesOf width (n / 256)
 abbrev pub Bytes : List ℕ → Type 0
 Bytes s = (i : ℕ) → getD s i 0 < 256
 
+-- So many bytes from `at` on lie inside a slice of so many.
+abbrev pub liesInside : ℕ → ℕ → ℕ → Bool
+liesInside bytes at width = leb (at + width) bytes
+
 -- A field of so many bytes, from `at` on, lies inside s.
 abbrev pub inside : ℕ → List ℕ → ℕ → Bool
-inside width s at = leb (at + width) (length s)
+inside width s at = liesInside (length s) at width
 
 -- The number in such a field.
 abbrev pub fieldAt : ℕ → List ℕ → ℕ → ℕ

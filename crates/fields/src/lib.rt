@@ -1,9 +1,8 @@
 // Numbers of four and eight bytes in a slice, the lowest byte first.
 ghost use mathlib.Core.Path.{_≡_};
 ghost use Prim.Native.Nat.{_+_, _≤_, _<_, _^_};
-ghost use lib.Dec.{leb};
 ghost use lib.ListN.{length};
-ghost use Rattle.fields.specs.Fields.{inside, fieldAt, filled, fourAt, eightAt, putAt};
+ghost use Rattle.fields.specs.Fields.{liesInside, inside, fieldAt, filled, fourAt, eightAt, putAt};
 
 // What stands in four bytes: a number, or nothing where they are not all inside the slice.
 pub enum Four {
@@ -53,7 +52,17 @@ pub fn put_eight(s: &mut [u8], at: usize, n: u64) -> bool
     put(s, at, 8, n)
 }
 
-// The same at any width.
+// Whether so many bytes from `at` on lie inside a slice of so many. The sum of at and width may be too large for a usize.
+pub fn lies_inside(bytes: usize, at: usize, width: usize) -> bool
+    ensures { λ r. ⌜ r ≡ liesInside bytes at width ⌝ }
+{
+    if bytes < width {
+        return false;
+    }
+    at <= bytes - width
+}
+
+// Puts n at any width.
 fn put(s: &mut [u8], at: usize, width: usize, n: u64) -> bool
     ensures answer { λ r. ⌜ r ≡ inside width (now (s .entry)) at ⌝ }
     ensures buffer { λ r. ⌜ now (s .exit) ≡ putAt width (now (s .entry)) at n ⌝ }
@@ -63,16 +72,6 @@ fn put(s: &mut [u8], at: usize, width: usize, n: u64) -> bool
     }
     scatter(s, at, width, n);
     true
-}
-
-// Whether so many bytes from `at` on lie inside a slice of so many. The sum of at and width may be too large for a usize.
-fn lies_inside(len: usize, at: usize, width: usize) -> bool
-    ensures { λ r. ⌜ r ≡ leb (at + width) len ⌝ }
-{
-    if len < width {
-        return false;
-    }
-    at <= len - width
 }
 
 // The number in a field that lies inside s, from its highest byte down.

@@ -1,3 +1,6 @@
--- The laws on what opening a file comes to, and on words that are put into a line.
+-- The laws on what opening a file comes to, on words that are put into a line, on bytes that are moved to the front of a buffer,
+-- and on the line that comes next.
 mod OpenLaws
-mod WordLaws
+pub mod WordLaws
+mod FrontLaws
+pub mod LineLaws

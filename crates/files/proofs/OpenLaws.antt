@@ -9,7 +9,7 @@ use lib.IntN.{ℤ, pos, negsuc}
 use lib.Signed.{leZ}
 use mir.Syntax.{w32}
 use mir.Val.{ofZ}
-use Rattle.files.specs.Answers.{openedBy, notOpened, IsOpen, bytesOf, noBytes, IsStarted}
+use Rattle.files.specs.Answers.{openedBy, notOpened, IsOpen, filledBytes, noBytes, IsStarted}
 use Rattle.files.specs.declared.Filled.{Filled}
 use Rattle.files.specs.declared.Filled.the-variants as filled
 use Rattle.files.specs.declared.Opened.{Opened}
@@ -47,7 +47,7 @@ pub failed-started : {file : Opened} (room : ℕ) → file ≡ opened.Failed →
 failed-started room e = subst⁻¹ (λ (o : Opened). IsStarted o room filled.Failed) e refl
 
 -- The start of a file has no more bytes than there is room for, however opening it went.
-pub started-room : (file : Opened) {room : ℕ} (r : Filled) → IsStarted file room r → bytesOf r ≤ room
+pub started-room : (file : Opened) {room : ℕ} (r : Filled) → IsStarted file room r → filledBytes r ≤ room
 started-room (opened.File descriptor) r h = h
-started-room opened.Missing r h = omega (arith, ap bytesOf h)
-started-room opened.Failed r h = omega (arith, ap bytesOf h)
+started-room opened.Missing r h = omega (arith, ap filledBytes h)
+started-room opened.Failed r h = omega (arith, ap filledBytes h)

@@ -9,8 +9,8 @@ use borrow.Author.Tests.{leb-true}
 use lib.Dec.{leb, eqb}
 use lib.ListN.{length, take, drop, set, length-append, length-take}
 use lib.Seq.{length-take-le, take-suc-set, take-add, append-snoc}
-use Rattle.typed.specs.Words.{run, isInWord, isOneWord}
-use Rattle.files.specs.Answers.{AreWords, none, one, more, IsLineOf, IsGiven, IsArguments, PutsWord}
+use Rattle.parsing.specs.Words.{run, isInWord, isOneWord}
+use Rattle.files.specs.Answers.{AreWords, none, one, more, IsLineOf, IsGiven, IsArguments, IsSpare, PutsWord}
 use Rattle.files.specs.declared.Words.{Words}
 use Rattle.files.specs.declared.Words.the-variants as words
 
@@ -71,3 +71,13 @@ given-line true line r same = subst⁻¹ (IsArguments line) same tt
 given-line false line (words.Line n) given = (given .1 .0, (given .0, given .1 .1))
 given-line false line words.Unfit given = tt
 given-line false line words.Helped given = tt
+
+-- The line of the arguments ends in its buffer.
+pub line-inside : (line : List ℕ) (r : Words) {n : ℕ} → IsArguments line r → r ≡ words.Line n → n ≤ length line
+line-inside line r given is = subst (IsArguments line) is given .0
+
+-- In a line of a byte it has a byte at most.
+pub is-spare : (line : List ℕ) (r : Words) → length line ≡ 1 → IsArguments line r → IsSpare r
+is-spare line (words.Line n) size given = omega (arith, given .0, size)
+is-spare line words.Unfit size given = tt
+is-spare line words.Helped size given = tt

@@ -7,7 +7,7 @@ use lib.Dec.{T, eqb}
 use lib.IntN.{ℤ, pos, negsuc}
 use lib.ListN.{length, take, drop}
 use lib.Signed.{nonNeg}
-use Rattle.typed.specs.Words.{isOneWord}
+use Rattle.parsing.specs.Words.{isOneWord}
 use Rattle.files.specs.declared.Opened.{Opened}
 use Rattle.files.specs.declared.Opened.the-variants as opened
 use Rattle.files.specs.declared.Filled.{Filled}
@@ -31,16 +31,16 @@ openedBy (pos n) error = opened.File (pos n)
 openedBy (negsuc n) error = notOpened error
 
 -- How many bytes were read.
-abbrev pub bytesOf : Filled → ℕ
-bytesOf (filled.Bytes n) = n
-bytesOf filled.Failed = 0
+abbrev pub filledBytes : Filled → ℕ
+filledBytes (filled.Bytes n) = n
+filledBytes filled.Failed = 0
 
 abbrev pub noBytes : Filled
 noBytes = filled.Bytes 0
 
 -- The start of a file, by how opening it went, in a buffer of so many bytes.
 abbrev pub IsStarted : Opened → ℕ → Filled → Type 0
-IsStarted (opened.File descriptor) room r = bytesOf r ≤ room
+IsStarted (opened.File descriptor) room r = filledBytes r ≤ room
 IsStarted opened.Missing room r = r ≡ noBytes
 IsStarted opened.Failed room r = r ≡ filled.Failed
 
@@ -66,6 +66,18 @@ abbrev pub IsArguments : List ℕ → Words → Type 0
 IsArguments line (words.Line n) = (n ≤ length line) × ((count : ℕ) × AreWords count (take n line))
 IsArguments line words.Unfit = Unit {0}
 IsArguments line words.Helped = Unit {0}
+
+-- None was given, and no help asked for.
+abbrev pub noneGiven : Words → Bool
+noneGiven (words.Line n) = eqb n 0
+noneGiven words.Unfit = false
+noneGiven words.Helped = false
+
+-- The arguments of a program that takes none: a line of a byte at most.
+abbrev pub IsSpare : Words → Type 0
+IsSpare (words.Line n) = n ≤ 1
+IsSpare words.Unfit = Unit {0}
+IsSpare words.Helped = Unit {0}
 
 -- A word was put into a line behind what stood before a place, up to where it ends.
 abbrev pub PutsWord : List ℕ → ℕ → List ℕ → Words → Type 0

@@ -1,16 +1,24 @@
-// What the programs share of the outside: files by name, the arguments, standard output, and what is told on standard error.
+// What the programs share of the outside: files by name, the arguments, the lines of standard input, standard output, and what is
+// told on standard error.
 // No contract can say what is read or written. Each says what it can of the answer; where that goes by what a call below answered,
 // a private function takes it as an argument, and its answer follows from it.
 ghost use mathlib.Core.Bool.{true, false};
+ghost use mathlib.Core.List.{_++_};
 ghost use mathlib.Core.Path.{_≡_};
 ghost use Prim.Native.Nat.{ℕ, _+_, _-_, _≤_};
-ghost use lib.ListN.{length, take};
-ghost use Rattle.files.specs.Answers.{openedBy, IsOpen, bytesOf, noBytes, IsStarted, AreWords, IsLineOf, IsGiven, IsArguments, PutsWord};
+ghost use lib.ListN.{length, take, drop};
+ghost use Rattle.files.specs.Answers.{openedBy, IsOpen, filledBytes, noBytes, IsStarted, AreWords, IsLineOf, IsGiven, IsArguments, IsSpare, noneGiven, PutsWord};
+ghost use Rattle.files.specs.Input.{IsNext, IsRead, nextIn, between};
 use libc::STDERR_FILENO;
+use libc::STDIN_FILENO;
 use libc::STDOUT_FILENO;
 
 // The longest line, with its newline.
 pub const LINE_BYTES: usize = 65_535;
+
+// A loop over a file takes a stretch of 65,536 bytes a turn, but for the last, and must be proved to end: it counts the turns down
+// from here. No file has 2^64 stretches, so that it ends before they do.
+pub const MOST_STRETCHES: u64 = u64::MAX;
 
 // A file to read. Why opening it failed has been told.
 pub enum Opened {
@@ -30,6 +38,19 @@ pub enum Words {
     Line(usize),
     Unfit,
     Helped,
+}
+
+// What comes next: a line of the buffer, without its newline, and where the text that was read stops. Or text without a newline,
+// which was cut off or is too long for the buffer; or the end; or that reading failed, and why has been told.
+pub enum Input {
+    Line {
+        start: usize,
+        end: usize,
+        stop: usize,
+    },
+    Cut,
+    End,
+    Failed,
 }
 
 // Opens a file to read. It stays open until the program ends.
@@ -56,7 +77,7 @@ fn opened_by(name: &[u8], file: i32, error: i32) -> Opened
 
 // Fills a buffer from a file, wholly unless the file ends.
 pub fn fill(name: &[u8], file: i32, buffer: &mut [u8]) -> Filled
-    ensures room { λ r. ⌜ bytesOf r ≤ length (now (buffer .exit)) ⌝ }
+    ensures room { λ r. ⌜ filledBytes r ≤ length (now (buffer .exit)) ⌝ }
     ensures none { λ r. ⌜ (length (now (buffer .entry)) ≡ 0 → r ≡ noBytes) ⌝ }
 {
     let mut done = 0;
@@ -77,7 +98,7 @@ pub fn fill(name: &[u8], file: i32, buffer: &mut [u8]) -> Filled
 
 // The start of a file, as much as the buffer takes. A file that is missing counts as empty.
 pub fn start(name: &[u8], buffer: &mut [u8]) -> Filled
-    ensures { λ r. ⌜ bytesOf r ≤ length (now (buffer .exit)) ⌝ }
+    ensures { λ r. ⌜ filledBytes r ≤ length (now (buffer .exit)) ⌝ }
 {
     start_of(open(name), name, buffer)
 }
@@ -92,18 +113,25 @@ fn start_of(file: Opened, name: &[u8], buffer: &mut [u8]) -> Filled
     }
 }
 
-// Whether all of a text was written to standard output. Why it was not has been told.
+// Whether all of some bytes were written to a file. Why they were not has been told.
+pub fn write(name: &[u8], file: i32, s: &[u8]) -> bool
+    ensures { λ r. ⌜ (length (now (s .entry)) ≡ 0 → r ≡ true) ⌝ }
+{
+    if s.len() == 0 {
+        return true;
+    }
+    if io::write_all(file, s) {
+        return true;
+    }
+    os::fail(name);
+    false
+}
+
+// The same of a text and standard output.
 pub fn print(text: &[u8]) -> bool
     ensures { λ r. ⌜ (length (now (text .entry)) ≡ 0 → r ≡ true) ⌝ }
 {
-    if text.len() == 0 {
-        return true;
-    }
-    if io::write_all(STDOUT_FILENO, text) {
-        return true;
-    }
-    os::fail(b"standard output");
-    false
+    write(b"standard output", STDOUT_FILENO, text)
 }
 
 // The arguments of the program, with single spaces between them, as one line: none of them may be empty or have a blank in it.
@@ -113,6 +141,30 @@ pub fn arguments(line: &mut [u8], help: &[u8]) -> Words
 {
     take_standard();
     words_of(asks_help(), line, help)
+}
+
+// The arguments of a program that takes none. Any is one too many, so a line of a byte is room enough for what there is to see.
+pub fn no_arguments(help: &[u8]) -> Words
+    ensures { λ r. ⌜ IsSpare r ⌝ }
+{
+    let mut none = [0u8; 1];
+    arguments(&mut none, help)
+}
+
+// Whether a program that takes no argument goes on: none was given, and no help asked for. Any argument is told as one too many.
+pub fn none_given(tool: &[u8], words: Words, sentence: &[u8]) -> bool
+    ensures { λ r. ⌜ r ≡ noneGiven words ⌝ }
+{
+    match words {
+        Words::Line(bytes) => {
+            if bytes == 0 {
+                return true;
+            }
+            refused(tool, 0, 12, sentence)
+        }
+        Words::Unfit => refused(tool, 0, 12, sentence),
+        Words::Helped => false,
+    }
 }
 
 // Where help is asked for it is printed, and there is no line.
@@ -206,10 +258,74 @@ fn put_argument(line: &mut [u8], at: usize, i: usize) -> Words
         return Words::Unfit;
     }
     let end = at + n;
-    if !typed::is_word(&line[at..end]) {
+    if !parsing::is_word(&line[at..end]) {
         return Words::Unfit;
     }
     Words::Line(end)
+}
+
+// The next line of the text between two places of the buffer, of which more is read where there is no whole line. Text that
+// stops before the buffer does is the last. So the first line is the next one of no text at the end of the buffer, and after a
+// line the text begins behind its newline. With its newline a line is as long as the buffer at most.
+pub fn next_line(buffer: &mut [u8], from: usize, to: usize) -> Input
+    ensures { λ r. ⌜ IsNext (now (buffer .entry)) from to (now (buffer .exit)) r ⌝ }
+{
+    let room = buffer.len();
+    if to < room {
+        return next_in(buffer, from, to);
+    }
+    let there = next_in(buffer, from, room);
+    if let Input::Line { .. } = there {
+        return there;
+    }
+    read_more(buffer, from, room)
+}
+
+// What comes next in the text between two places of a buffer.
+fn next_in(buffer: &[u8], from: usize, to: usize) -> Input
+    requires { ⌜ to ≤ length (now buffer) ⌝ }
+    ensures { λ r. ⌜ r ≡ nextIn (now (buffer .entry)) from to ⌝ }
+{
+    if from >= to {
+        return Input::End;
+    }
+    let n = parsing::line_end(&buffer[from..to]);
+    if n >= to - from {
+        return Input::Cut;
+    }
+    Input::Line {
+        start: from,
+        end: from + n,
+        stop: to,
+    }
+}
+
+// What comes next where more is read behind the text between two places, which moves to the front.
+fn read_more(buffer: &mut [u8], from: usize, to: usize) -> Input
+    requires { ⌜ to ≤ length (now buffer) ⌝ }
+    ensures { λ r. ⌜ IsRead (now (buffer .entry)) from to (now (buffer .exit)) r ⌝ }
+{
+    let kept = front(buffer, from, to);
+    let Filled::Bytes(more) = fill(b"standard input", STDIN_FILENO, &mut buffer[kept..]) else {
+        return Input::Failed;
+    };
+    next_in(buffer, 0, kept + more)
+}
+
+// Moves the text between two places of a buffer to its front, and answers how many bytes it has.
+fn front(buffer: &mut [u8], from: usize, to: usize) -> usize
+    requires { ⌜ to ≤ length (now buffer) ⌝ }
+    ensures count { λ r. ⌜ r ≡ length (between from to (now (buffer .entry))) ⌝ }
+    ensures buffer { λ r. ⌜ now (buffer .exit) ≡ between from to (now (buffer .entry)) ++ drop r (now (buffer .entry)) ⌝ }
+{
+    let mut n = 0;
+    let mut at = from;
+    while at < to {
+        buffer[n] = buffer[at];
+        n += 1;
+        at += 1;
+    }
+    n
 }
 
 // Puts bytes in the place of a file. They go to a fresh file first, which then takes the name: so the old file is there, or

@@ -17,9 +17,9 @@ use Rattle.writing.specs.ChainWriting.{chainRefusalOf, chainBufferOf, allSound,
 use Rattle.writing.proofs.ChainWriteLaws.{chain-same-length}
 use Rattle.text.specs.Puts.{Put, endAfter}
 use Rattle.text.proofs.PutLaws.{put-front, put-from, put-promised, nothing-promised}
-use Rattle.typed.specs.Numbers.{isLine}
-use Rattle.typed.specs.Typed.{chainIn}
-use Rattle.typed.specs.declared.TypedChain.the-variants as typed
+use Rattle.parsing.specs.Numbers.{isLine}
+use Rattle.parsing.specs.Parsed.{parsedChain}
+use Rattle.parsing.specs.declared.ParsedChain.the-variants as parsed
 use Rattle.laychain.specs.Tables.{lineRefusal, tableWith, HoldsChains}
 
 -- The table and its soundness with one chain more.
@@ -38,7 +38,7 @@ sound-behind (x ∷ cs) c all one =
     and-both (p .0) (sound-behind cs c (p .1) one)
 
 -- A chain that is not refused has a place, and is sound.
-has-place : (before : ℕ) (c : Chain) → lineRefusal before (typed.Chain c) ≡ 0 → (before < mostChains) × (chainRefusalOf chainBytes c ≡ 0)
+has-place : (before : ℕ) (c : Chain) → lineRefusal before (parsed.Chain c) ≡ 0 → (before < mostChains) × (chainRefusalOf chainBytes c ≡ 0)
 has-place before c e = go (ltb before mostChains) refl e
   where
     go : (t : Bool) → ltb before mostChains ≡ t → unless t 1 (chainRefusalOf chainBytes c) ≡ 0 → (before < mostChains) × (chainRefusalOf chainBytes c ≡ 0)
@@ -55,15 +55,15 @@ is-sound c e = go (isSound c) e
 
 -- What is put where there is no place, and where there is one.
 pub no-place : (table : List ℕ) (before : ℕ) (c : Chain) → length table ≡ chainBytes * mostChains → mostChains ≤ before →
-    (1 ≡ lineRefusal before (typed.Chain c)) × (table ≡ tableWith table before (typed.Chain c))
+    (1 ≡ lineRefusal before (parsed.Chain c)) × (table ≡ tableWith table before (parsed.Chain c))
 no-place table before c size many =
     let none : ltb before mostChains ≡ false = le-ltb before mostChains many in
     (ap (λ (t : Bool). unless t 1 (chainRefusalOf chainBytes c)) (sym none), nothing-promised table (chainBytes * before) (chainBufferOf chainBytes c) (omega (arith, chain-same-length chainBytes c)) .1)
 
-pub placed : (table : List ℕ) (before : ℕ) (c : Chain) (bytes r : ℕ) (written : List ℕ) → length table ≡ chainBytes * mostChains → before < mostChains →
+pub chain-placed : (table : List ℕ) (before : ℕ) (c : Chain) (bytes r : ℕ) (written : List ℕ) → length table ≡ chainBytes * mostChains → before < mostChains →
     bytes ≡ chainBytes → r ≡ chainRefusalOf bytes c → written ≡ chainBufferOf bytes c →
-    (r ≡ lineRefusal before (typed.Chain c)) × (putMid (chainBytes * before) (chainBytes * before + chainBytes - chainBytes * before) table written ≡ tableWith table before (typed.Chain c))
-placed table before c bytes r written size few same answer made =
+    (r ≡ lineRefusal before (parsed.Chain c)) × (putMid (chainBytes * before) (chainBytes * before + chainBytes - chainBytes * before) table written ≡ tableWith table before (parsed.Chain c))
+chain-placed table before c bytes r written size few same answer made =
     let room : ltb before mostChains ≡ true = lt-ltb before mostChains few in
     let at = chainBytes * before in
     let text = chainBufferOf chainBytes c in
@@ -83,7 +83,7 @@ pub no-chains : (table : List ℕ) → HoldsChains table 0
 unfolding allSound tableOf
 no-chains table = record { few = omega arith; chains = []; size = refl; sound = refl; bytes = refl }
 
-one-more : (table now : List ℕ) (before : ℕ) (c : Chain) → length table ≡ chainBytes * mostChains → HoldsChains table before → lineRefusal before (typed.Chain c) ≡ 0 → now ≡ tableWith table before (typed.Chain c) → HoldsChains now (before + 1)
+one-more : (table now : List ℕ) (before : ℕ) (c : Chain) → length table ≡ chainBytes * mostChains → HoldsChains table before → lineRefusal before (parsed.Chain c) ≡ 0 → now ≡ tableWith table before (parsed.Chain c) → HoldsChains now (before + 1)
 one-more table now before c size held accepted same =
     let place = has-place before c accepted in
     let written = chainBufferOf chainBytes c in
@@ -98,11 +98,11 @@ one-more table now before c size held accepted same =
       bytes = ap (λ (n : ℕ). take n now) ends ∙ put-front put ∙ ap (λ (l : List ℕ). l ++ written) (held .bytes) ∙ sym (table-behind (held .chains) c);
     }
 
-pub one-more-line : (table now line : List ℕ) (before : ℕ) → length table ≡ chainBytes * mostChains → HoldsChains table before → lineRefusal before (chainIn line) ≡ 0 → now ≡ tableWith table before (chainIn line) → HoldsChains now (before + 1)
-unfolding chainIn
+pub one-more-line : (table now line : List ℕ) (before : ℕ) → length table ≡ chainBytes * mostChains → HoldsChains table before → lineRefusal before (parsedChain line) ≡ 0 → now ≡ tableWith table before (parsedChain line) → HoldsChains now (before + 1)
+unfolding parsedChain
 one-more-line table now line before size held accepted same = go (isLine 6 line) _ accepted same
   where
-    go : (t : Bool) (c : Chain) → lineRefusal before (unless t (typed.Refused 12) (typed.Chain c)) ≡ 0 → now ≡ tableWith table before (unless t (typed.Refused 12) (typed.Chain c)) → HoldsChains now (before + 1)
+    go : (t : Bool) (c : Chain) → lineRefusal before (unless t (parsed.Refused 12) (parsed.Chain c)) ≡ 0 → now ≡ tableWith table before (unless t (parsed.Refused 12) (parsed.Chain c)) → HoldsChains now (before + 1)
     go true c e s = one-more table now before c size held e s
     go false c e s = absurd (omega arith)
 

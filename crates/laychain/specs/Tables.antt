@@ -10,18 +10,18 @@ use Rattle.records.specs.Bytes.{unless}
 use Rattle.records.specs.ChainTables.{chainBytes, mostChains}
 use Rattle.writing.specs.ChainWriting.{chainRefusalOf, chainBufferOf, allSound, tableOf}
 use Rattle.text.specs.Puts.{withText}
-use Rattle.typed.specs.declared.TypedChain.{TypedChain}
-use Rattle.typed.specs.declared.TypedChain.the-variants as typed
+use Rattle.parsing.specs.declared.ParsedChain.{ParsedChain}
+use Rattle.parsing.specs.declared.ParsedChain.the-variants as parsed
 
 -- Why what a line stands for is not put behind so many others, 0 where it is: 1 where there are as many as a table has.
-abbrev pub lineRefusal : ℕ → TypedChain → ℕ
-lineRefusal before (typed.Chain c) = unless (ltb before mostChains) 1 (chainRefusalOf chainBytes c)
-lineRefusal before (typed.Refused number) = number
+abbrev pub lineRefusal : ℕ → ParsedChain → ℕ
+lineRefusal before (parsed.Chain c) = unless (ltb before mostChains) 1 (chainRefusalOf chainBytes c)
+lineRefusal before (parsed.Refused number) = number
 
 -- The table then: the chain's bytes behind those of the others, where there is room. Nothing else of it changes.
-abbrev pub tableWith : List ℕ → ℕ → TypedChain → List ℕ
-tableWith table before (typed.Chain c) = withText table (chainBytes * before) (chainBufferOf chainBytes c)
-tableWith table before (typed.Refused number) = table
+abbrev pub tableWith : List ℕ → ℕ → ParsedChain → List ℕ
+tableWith table before (parsed.Chain c) = withText table (chainBytes * before) (chainBufferOf chainBytes c)
+tableWith table before (parsed.Refused number) = table
 
 -- So many chains stand at the start of the table, one behind the other, each of them sound: those of some lines. Which lines
 -- were read is the outside's.

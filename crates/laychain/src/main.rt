@@ -6,23 +6,19 @@ ghost use Prim.Native.Nat.{_*_, _≤_};
 ghost use lib.Dec.{eqb};
 ghost use lib.ListN.{length};
 ghost use Rattle.records.specs.ChainTables.{chainBytes, mostChains};
-ghost use Rattle.typed.specs.Typed.{chainIn};
-ghost use Rattle.typed.specs.declared.TypedChain.the-variants as typed;
-ghost use Rattle.lines.specs.Input.{atEnd};
+ghost use Rattle.parsing.specs.Parsed.{parsedChain};
+ghost use Rattle.parsing.specs.declared.ParsedChain.the-variants as parsed;
+ghost use Rattle.files.specs.Input.{atEnd};
 ghost use Rattle.laychain.specs.Tables.{lineRefusal, tableWith, HoldsChains};
 use chart::Chain;
-use files::Words;
-use lines::Input;
+use files::Input;
+use parsing::ParsedChain;
 use records::CHAIN_BYTES;
 use records::MOST_CHAINS;
 use records::TABLE_BYTES;
-use typed::TypedChain;
 
 fn main() {
-    // Any argument is one too many.
-    let mut none = [0u8; 1];
-    let words = files::arguments(
-        &mut none,
+    let words = files::no_arguments(
         b"laychain writes chain.dat, the table of station chains, in place of the one in this folder.
 
 Each line of standard input is a chain, 1 to 16 of them, the first one chain 1:
@@ -36,23 +32,10 @@ The chain with its master at (0, 0), A at (30000, 0) and B at (0, 40000):
   echo 0 0 30000 0 0 40000 | laychain
 ",
     );
-    match words {
-        Words::Line(n) => by_arguments(n),
-        Words::Unfit => by_arguments(1),
-        Words::Helped => {}
+    let expected = b"no argument was expected; the chains stand on standard input, a line each";
+    if files::none_given(b"laychain", words, expected) {
+        make_table();
     }
-}
-
-fn by_arguments(bytes: usize) {
-    if bytes > 0 {
-        refused(
-            0,
-            12,
-            b"no argument was expected; the chains stand on standard input, a line each",
-        );
-        return;
-    }
-    make_table();
 }
 
 fn make_table() {
@@ -79,7 +62,7 @@ fn read_chains(buffer: &mut [u8], table: &mut [u8]) -> usize
     let mut count = 0;
     let mut well = true;
     while count <= MOST_CHAINS {
-        let input = lines::next(buffer, from, to);
+        let input = files::next_line(buffer, from, to);
         let Input::Line { start, end, stop } = input else {
             return ended(input, count, well);
         };
@@ -137,19 +120,19 @@ fn told(line: usize, number: u32) -> usize
 // Puts the chain of a line into the table, behind so many others, and answers with the number of its refusal, 0 for none.
 fn put_line(table: &mut [u8], before: usize, line: &[u8]) -> u32
     requires { ⌜ length (now table) ≡ chainBytes * mostChains ⌝ }
-    ensures answer { λ r. ⌜ r ≡ lineRefusal before (chainIn (now (line .entry))) ⌝ }
-    ensures table { λ r. ⌜ now (table .exit) ≡ tableWith (now (table .entry)) before (chainIn (now (line .entry))) ⌝ }
+    ensures answer { λ r. ⌜ r ≡ lineRefusal before (parsedChain (now (line .entry))) ⌝ }
+    ensures table { λ r. ⌜ now (table .exit) ≡ tableWith (now (table .entry)) before (parsedChain (now (line .entry))) ⌝ }
 {
-    match typed::chain(line) {
-        TypedChain::Chain(c) => put_chain(table, before, c),
-        TypedChain::Refused(number) => number,
+    match parsing::chain(line) {
+        ParsedChain::Chain(c) => put_chain(table, before, c),
+        ParsedChain::Refused(number) => number,
     }
 }
 
 fn put_chain(table: &mut [u8], before: usize, c: Chain) -> u32
     requires { ⌜ length (now table) ≡ chainBytes * mostChains ⌝ }
-    ensures answer { λ r. ⌜ r ≡ lineRefusal before (typed.Chain c) ⌝ }
-    ensures table { λ r. ⌜ now (table .exit) ≡ tableWith (now (table .entry)) before (typed.Chain c) ⌝ }
+    ensures answer { λ r. ⌜ r ≡ lineRefusal before (parsed.Chain c) ⌝ }
+    ensures table { λ r. ⌜ now (table .exit) ≡ tableWith (now (table .entry)) before (parsed.Chain c) ⌝ }
 {
     if before >= MOST_CHAINS {
         return 1;

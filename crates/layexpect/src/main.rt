@@ -3,8 +3,8 @@
 use chart::Place;
 use files::Filled;
 use files::Words;
+use parsing::ParsedQuestion;
 use shown::Line;
-use typed::TypedQuestion;
 
 fn main() {
     // The arguments have no newline.
@@ -31,9 +31,9 @@ The readings at (30000, 40000) for chain 1:
 }
 
 fn take(line: &[u8]) {
-    match typed::question(line) {
-        TypedQuestion::Question { chain, place } => answer(chain, place),
-        TypedQuestion::Refused(number) => tell(number),
+    match parsing::question(line) {
+        ParsedQuestion::Question { chain, place } => answer(chain, place),
+        ParsedQuestion::Refused(number) => tell(number),
     }
 }
 

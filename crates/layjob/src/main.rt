@@ -1,8 +1,8 @@
 // Writes job.dat in the folder that it is run in, from the five numbers of a job in its arguments. What is refused or fails is
 // told on standard error, and then the file stays as it was.
 use files::Words;
+use parsing::ParsedJob;
 use records::Job;
-use typed::TypedJob;
 
 fn main() {
     // The arguments have no newline.
@@ -31,9 +31,9 @@ The window of 2 by 2 cells at (30000, 40000), tolerance 0, 100 visits:
 }
 
 fn take(line: &[u8]) {
-    match typed::job(line) {
-        TypedJob::Job(j) => write(j),
-        TypedJob::Refused(number) => tell(number),
+    match parsing::job(line) {
+        ParsedJob::Job(j) => write(j),
+        ParsedJob::Refused(number) => tell(number),
     }
 }
 

@@ -1,57 +1,34 @@
 -- A part's listing has its room, and the listing of what follows goes on from its place.
-use Prim.Native.Nat.{ℕ, _+_, _-_, _/_, _≤_, min}
+use Prim.Native.Nat.{ℕ, _-_, _/_, _≤_, _<_}
 use mathlib.Core.Bool.{true, true≢false}
-use mathlib.Core.List.{List, _++_}
+use mathlib.Core.List.{List}
 use mathlib.Core.Path.{_≡_, refl, sym, ap, _∙_, subst}
 use native.Mathlib.Decide.{decLe}
 use native.Mathlib.Nat.{lt-of-not-le}
 use native.Mathlib.Omega.{arith}
 use borrow.Author.Tests.{lt-ltb}
-use lib.ListN.{length, take, drop, take-append-drop, length-append, drop-of-length-le}
-use lib.Seq.{length-take-le, take-append-seam, take-all}
+use lib.ListN.{length, take, drop, take-append-drop, drop-of-length-le}
+use lib.Seq.{length-take-le, take-all}
 use Rattle.records.specs.declared.Job.{Job}
 use Rattle.records.specs.declared.JobAnswer.{JobAnswer}
 use Rattle.records.specs.declared.JobAnswer.the-variants as job
 use Rattle.records.specs.declared.ChainCount.{ChainCount}
 use Rattle.records.specs.declared.ChainCount.the-variants as count
+use Rattle.records.specs.Bytes.{pieceEnd}
 use Rattle.records.specs.LogRecords.{logBytes}
 use Rattle.records.specs.ChainTables.{chainCountOf}
 use Rattle.records.specs.Jobs.{jobOf}
-use Rattle.records.proofs.Pieces.{piece-is, behind-is}
+use Rattle.records.proofs.Pieces.{next-piece}
 use Rattle.listing.specs.declared.Carried.{Carried}
-use Rattle.listing.specs.declared.Listed.the-variants as listed
-use Rattle.listing.specs.Listings.{Part, linesFrom, listingBy, listingFrom, hasRoom, listedIn, bufferWith}
+use Rattle.listing.specs.Listings.{Part, linesFrom, listingBy, listingFrom, hasListingRoom}
 use Rattle.listing.proofs.Theorems.{in-parts}
 use Rattle.laylist.specs.declared.Next.{Next}
 use Rattle.laylist.specs.declared.Next.the-variants as follows
-use Rattle.laylist.specs.Walks.{acceptsJob, acceptsTable, BothGood, partBytes, outBytes, BeginsWith, GoesOn}
+use Rattle.laylist.specs.Walks.{acceptsJob, acceptsTable, BothGood, partBytes, partRoom, GoesOn}
 
--- A part in its buffer.
-module _ (out part : List ℕ) (size : length out ≡ outBytes) (few : length part ≤ partBytes) (p : Part) where
-  roomy : hasRoom (length out) part ≡ true
-  roomy = lt-ltb (length part / logBytes) (length out / _) (omega arith)
-
-  -- It is listed: the buffer then begins with the text.
-  pub held : {n : ℕ} {k : Carried} {after : List ℕ} → listed.Text n k ≡ listedIn (length out) part p → after ≡ bufferWith out part p →
-      BeginsWith after p (record { length = n; carried = k })
-  unfolding listedIn bufferWith
-  held {n} {k} {after} answer buffer =
-      let told : listed.Text n k ≡ listed.Text (length (p .text)) (p .carried) = rw roomy at answer in
-      let put : after ≡ p .text ++ drop (length (p .text)) out = rw roomy at buffer in
-      let size : n ≡ length (p .text) = cc in
-      record {
-        fits = omega (arith, simp length-append at (ap length put));
-        text-is = rw (size, put, take-append-seam);
-        carried-is = cc;
-      }
-
-  -- It is not refused.
-  pub not-refused : {number : ℕ} → listed.Refused number ≡ listedIn (length out) part p → ⊥
-  unfolding listedIn
-  not-refused {number} answer =
-      let told : listed.Refused number ≡ listed.Text (length (p .text)) (p .carried) = rw roomy at answer in
-      let z : _≡_ {A = ℕ} 0 1 = cc in
-      omega arith
+-- A part has its room in the buffer.
+pub roomy : (out part : List ℕ) → length out ≡ partRoom → length part ≤ partBytes → hasListingRoom (length out) part ≡ true
+roomy out part size few = lt-ltb (length part / logBytes) (length out / _) (omega arith)
 
 -- The job that is accepted, and the count of the chains.
 job-of : (a : JobAnswer) → acceptsJob a ≡ true → (j : Job) × (a ≡ job.Job j)
@@ -97,11 +74,11 @@ module _ (job table : List ℕ) (ok : BothGood job table) where
           ∙ sym (nothing-left job table ok log partBytes after (omega arith))
 
   -- So what follows a part of a log goes on from the place that is carried on to the rest.
-  pub goes-on : (log : List ℕ) (done next : ℕ) → next ≡ min (done + partBytes) (length log) → (place : Carried) {n : Next} {after : Carried} →
+  pub goes-on : (log : List ℕ) (done next : ℕ) → done < length log → next ≡ pieceEnd done partBytes (length log) → (place : Carried) {n : Next} {after : Carried} →
       GoesOn (listingFrom job table (take (next - done) (drop done log)) place) n → n ≡ follows.From after →
       listingFrom job table (drop done log) place .carried ≡ listingFrom job table (drop next log) after .carried
-  goes-on log done next e place {n} {after} told is =
+  goes-on log done next some e place {n} {after} told is =
       let handed : after ≡ listingFrom job table (take (next - done) (drop done log)) place .carried =
       subst (GoesOn (listingFrom job table (take (next - done) (drop done log)) place)) is told in
-      rest-carries (drop done log) place
-      ∙ sym (rw (handed, piece-is partBytes log done next e, behind-is partBytes log done next e))
+      next-piece partBytes (λ c s. listingFrom job table s c .carried) (λ c x rest. rest) (λ c x. listingFrom job table x c .carried) (λ c s any. rest-carries s c) log done next some e place
+      ∙ ap (λ (c : Carried). listingFrom job table (drop next log) c .carried) (sym handed)

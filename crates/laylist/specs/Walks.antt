@@ -34,8 +34,8 @@ pub record BothGood (job table : List ℕ) : Type 0 where
 abbrev pub partBytes : ℕ
 partBytes = 128 * logBytes
 
-abbrev pub outBytes : ℕ
-outBytes = 129 * longestLine
+abbrev pub partRoom : ℕ
+partRoom = 129 * longestLine
 
 -- A buffer begins with the text of a listing, so many bytes, and its place is carried on.
 pub record BeginsWith (out : List ℕ) (p : Part) (l : Listing) : Type 0 where

@@ -2,15 +2,14 @@
 // A file that is missing counts as empty. What fails is told on standard error, and nothing is listed after it.
 ghost use mathlib.Core.Path.{_≡_};
 ghost use mathlib.Core.Bool.{true};
-ghost use Prim.Native.Nat.{_+_, _≤_, _<_, min};
+ghost use Prim.Native.Nat.{_≤_};
 ghost use lib.ListN.{length};
 ghost use Rattle.records.specs.ChainTables.{chainCountOf};
 ghost use Rattle.records.specs.Jobs.{jobOf};
 ghost use Rattle.listing.specs.Listings.{listingFrom};
-ghost use Rattle.laylist.specs.Walks.{acceptsJob, acceptsTable, BothGood, partBytes, outBytes, BeginsWith, GoesOn};
+ghost use Rattle.laylist.specs.Walks.{acceptsJob, acceptsTable, BothGood, partBytes, partRoom, BeginsWith, GoesOn};
 use files::Filled;
 use files::Opened;
-use files::Words;
 use listing::Carried;
 use listing::Listed;
 use records::ChainCount;
@@ -32,13 +31,10 @@ enum Next {
 const PART_BYTES: usize = 128 * records::LOG_BYTES;
 
 // Room for their lines, and for one more, as `listing::list` asks.
-const OUT_BYTES: usize = 129 * listing::LONGEST_LINE;
+const PART_ROOM: usize = 129 * listing::LONGEST_LINE;
 
 fn main() {
-    // Any argument is one too many.
-    let mut none = [0u8; 1];
-    let words = files::arguments(
-        &mut none,
+    let words = files::no_arguments(
         b"laylist lists a lay log: it reads job.dat, chain.dat and lay.dat in this folder, and prints a line a record.
 
   LINE FIX COUNT VISITS E N E N ..    the places that two readings allow, in chart order
@@ -48,23 +44,14 @@ fn main() {
 
 LINE is the record's line number; eastings and northings are in centimetres. A job or table that
 is refused prints JOB REFUSED or CHAIN REFUSED alone. A missing file counts as empty.
+By bin/laylist a folder elsewhere can be listed: bin/laylist FOLDER.
 
   laylist
 ",
     );
-    match words {
-        Words::Line(n) => by_arguments(n),
-        Words::Unfit => by_arguments(1),
-        Words::Helped => {}
+    if files::none_given(b"laylist", words, b"no argument was expected") {
+        list_files();
     }
-}
-
-fn by_arguments(bytes: usize) {
-    if bytes > 0 {
-        files::refused(b"laylist", 0, 12, b"no argument was expected");
-        return;
-    }
-    list_files();
 }
 
 fn list_files() {
@@ -78,13 +65,13 @@ fn list_files() {
 }
 
 // The buffer for the text. Its many bytes are made in a function of their own, so that only their number is known elsewhere.
-fn out_buffer() -> [u8; OUT_BYTES] {
-    [0u8; OUT_BYTES]
+fn out_buffer() -> [u8; PART_ROOM] {
+    [0u8; PART_ROOM]
 }
 
 // A job that is refused is told before the table is read, which may fail.
 fn by_job(out: &mut [u8], job: &[u8])
-    requires { ⌜ length (now out) ≡ outBytes ⌝ }
+    requires { ⌜ length (now out) ≡ partRoom ⌝ }
 {
     if !job_accepted(out, job) {
         return;
@@ -99,7 +86,7 @@ fn by_job(out: &mut [u8], job: &[u8])
 
 // Whether the job is accepted. If not, its refusal is all that is printed, whatever the table and the log.
 fn job_accepted(out: &mut [u8], job: &[u8]) -> bool
-    requires { ⌜ length (now out) ≡ outBytes ⌝ }
+    requires { ⌜ length (now out) ≡ partRoom ⌝ }
     ensures { λ r. ⌜ r ≡ acceptsJob (jobOf (now (job .entry))) ⌝ }
 {
     match records::job_of(job) {
@@ -112,7 +99,7 @@ fn job_accepted(out: &mut [u8], job: &[u8]) -> bool
 }
 
 fn by_table(out: &mut [u8], job: &[u8], table: &[u8])
-    requires { ⌜ (length (now out) ≡ outBytes) × (acceptsJob (jobOf (now job)) ≡ true) ⌝ }
+    requires { ⌜ (length (now out) ≡ partRoom) × (acceptsJob (jobOf (now job)) ≡ true) ⌝ }
 {
     if table_accepted(out, job, table) {
         list_log(out, job, table);
@@ -121,7 +108,7 @@ fn by_table(out: &mut [u8], job: &[u8], table: &[u8])
 
 // Whether the table is accepted. If not, its refusal is all that is printed, whatever the log.
 fn table_accepted(out: &mut [u8], job: &[u8], table: &[u8]) -> bool
-    requires { ⌜ length (now out) ≡ outBytes ⌝ }
+    requires { ⌜ length (now out) ≡ partRoom ⌝ }
     ensures { λ r. ⌜ r ≡ acceptsTable (chainCountOf (now (table .entry))) ⌝ }
 {
     match records::chain_count(table) {
@@ -133,16 +120,15 @@ fn table_accepted(out: &mut [u8], job: &[u8], table: &[u8]) -> bool
     }
 }
 
-// The lines of the log, stretch by stretch. Every turn but the last takes 65,536 bytes of it, and no log has 2^64 times as
-// many: it ends before the turns do.
+// The lines of the log, stretch by stretch.
 fn list_log(out: &mut [u8], job: &[u8], table: &[u8])
-    requires { ⌜ (length (now out) ≡ outBytes) × BothGood (now job) (now table) ⌝ }
+    requires { ⌜ (length (now out) ≡ partRoom) × BothGood (now job) (now table) ⌝ }
 {
     let Opened::File(log) = files::open(b"lay.dat") else {
         return;
     };
     let mut carried = Carried::Nothing;
-    let mut turns = u64::MAX;
+    let mut turns = files::MOST_STRETCHES;
     while turns > 0 {
         let Next::From(last) = list_stretch(out, job, table, log, carried) else {
             return;
@@ -154,7 +140,7 @@ fn list_log(out: &mut [u8], job: &[u8], table: &[u8])
 
 // Reads a stretch of the log and lists it, before the next is read, which may fail.
 fn list_stretch(out: &mut [u8], job: &[u8], table: &[u8], log: i32, before: Carried) -> Next
-    requires { ⌜ (length (now out) ≡ outBytes) × BothGood (now job) (now table) ⌝ }
+    requires { ⌜ (length (now out) ≡ partRoom) × BothGood (now job) (now table) ⌝ }
 {
     let mut stretch = io::large_buffer();
     let Filled::Bytes(n) = files::fill(b"lay.dat", log, &mut stretch) else {
@@ -169,13 +155,13 @@ fn list_stretch(out: &mut [u8], job: &[u8], table: &[u8], log: i32, before: Carr
 
 // Lists a stretch of the log, part by part, each with the place carried from the one before.
 fn list_parts(out: &mut [u8], job: &[u8], table: &[u8], log: &[u8], before: Carried) -> Next
-    requires { ⌜ (length (now out) ≡ outBytes) × BothGood (now job) (now table) ⌝ }
+    requires { ⌜ (length (now out) ≡ partRoom) × BothGood (now job) (now table) ⌝ }
     ensures { λ r. ⌜ GoesOn (listingFrom (now (job .entry)) (now (table .entry)) (now (log .entry)) before) r ⌝ }
 {
     let mut carried = before;
     let mut done = 0;
     while done < log.len() {
-        let next = part_end(done, log.len());
+        let next = records::piece_end(done, PART_BYTES, log.len());
         let Next::From(place) = print_part(out, job, table, &log[done..next], carried) else {
             return Next::End;
         };
@@ -185,20 +171,9 @@ fn list_parts(out: &mut [u8], job: &[u8], table: &[u8], log: &[u8], before: Carr
     Next::From(carried)
 }
 
-// Where the part that begins at done ends: the last may be shorter.
-fn part_end(done: usize, length: usize) -> usize
-    requires { ⌜ done < length ⌝ }
-    ensures { λ r. ⌜ r ≡ min (done + partBytes) length ⌝ }
-{
-    if length - done < PART_BYTES {
-        return length;
-    }
-    done + PART_BYTES
-}
-
 // Lists a part of the log and prints its text.
 fn print_part(out: &mut [u8], job: &[u8], table: &[u8], part: &[u8], before: Carried) -> Next
-    requires { ⌜ (length (now out) ≡ outBytes) × (length (now part) ≤ partBytes) ⌝ }
+    requires { ⌜ (length (now out) ≡ partRoom) × (length (now part) ≤ partBytes) ⌝ }
     ensures { λ r. ⌜ GoesOn (listingFrom (now (job .entry)) (now (table .entry)) (now (part .entry)) before) r ⌝ }
 {
     let listing = list_part(out, job, table, part, before);
@@ -212,7 +187,7 @@ fn print_part(out: &mut [u8], job: &[u8], table: &[u8], part: &[u8], before: Car
 
 // Puts the listing of a part of the log at the start of a buffer.
 fn list_part(out: &mut [u8], job: &[u8], table: &[u8], part: &[u8], before: Carried) -> Listing
-    requires { ⌜ (length (now out) ≡ outBytes) × (length (now part) ≤ partBytes) ⌝ }
+    requires { ⌜ (length (now out) ≡ partRoom) × (length (now part) ≤ partBytes) ⌝ }
     ensures { λ r. ⌜ BeginsWith (now (out .exit)) (listingFrom (now (job .entry)) (now (table .entry)) (now (part .entry)) before) r ⌝ }
 {
     match listing::list(out, job, table, part, before) {

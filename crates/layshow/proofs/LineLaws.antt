@@ -6,12 +6,12 @@ use mathlib.Core.Path.{_≡_, sym, ap, _∙_}
 use native.Mathlib.Omega.{arith}
 use borrow.Author.Tests.{le-leb}
 use lib.ListN.{length, take, drop, take-append-drop, length-append, length-drop}
-use lib.Seq.{length-take-le, take-at, drop-append-le, drop-drop}
+use lib.Seq.{length-take-le, drop-append-le, drop-drop}
 use Rattle.text.specs.Puts.{Put}
 use Rattle.text.proofs.PutLaws.{put-length}
 use Rattle.shown.specs.declared.Line.{Line}
 use Rattle.shown.specs.declared.Line.the-variants.{Text}
-use Rattle.shown.specs.Rooms.{Says, lineFor, bufferFor, textOf, lineRoom, hasRoom, inRoom}
+use Rattle.shown.specs.Rooms.{Says, lineFor, bufferFor, textOf, lineRoom, hasLineRoom, inRoom}
 use Rattle.layshow.specs.Walks.{PutLine}
 
 module _ (o : List ℕ) (at bytes : ℕ) (fits : at + lineRoom bytes ≤ length o) where
@@ -34,7 +34,7 @@ module _ (o : List ℕ) (at bytes : ℕ) (fits : at + lineRoom bytes ≤ length 
       length room′ ≡ length room → end ≡ at + textOf line → PutLine o at x bytes (take at o ++ (room′ ++ behind)) end
   unfolding lineFor bufferFor
   line-put x {line} {room′} {end} answer buffer kept is =
-      let roomy : hasRoom (length room) bytes ≡ true = le-leb (lineRoom bytes) (length room) (omega (arith, room-long)) in
+      let roomy : hasLineRoom (length room) bytes ≡ true = le-leb (lineRoom bytes) (length room) (omega (arith, room-long)) in
       let told : line ≡ Text (length x) = rw roomy at answer in
       let put : room′ ≡ x ++ drop (length x) room = rw roomy at buffer in
       let short : length x ≤ length room = omega (arith, kept, simp length-append at (ap length put)) in
@@ -54,11 +54,6 @@ module _ (o : List ℕ) (at bytes : ℕ) (fits : at + lineRoom bytes ≤ length 
         short = omega (arith, ends, short, room-long);
       }
 
--- A text at the start of a buffer is what the buffer begins with.
-pub begins : {o x o′ : List ℕ} {end : ℕ} → Put o 0 x o′ end → take end o′ ≡ x
-begins {o} {x} {o′} {end} p =
-    let size : length x ≡ end = omega (arith, p .end-is) in
-    ap (take end) (p .now-is) ∙ take-at x (drop (0 + length x) o) end size
-
+-- A text that was put ends in its buffer.
 pub ends-within : {o : List ℕ} {at : ℕ} {x o′ : List ℕ} {end : ℕ} → Put o at x o′ end → end ≤ length o′
 ends-within p = omega (arith, p .fits, p .end-is, put-length p)

@@ -1,85 +1,58 @@
--- The lines of pieces, one after the other: what is put so far, and the lines of the rest behind it.
-use Prim.Native.Nat.{ℕ, suc, _+_, _-_, _*_, _≤_, _<_, min}
-use mathlib.Core.List.{List, [], _++_, append-nil, append-assoc}
-use mathlib.Core.Path.{_≡_, refl, sym, ap, _∙_}
-use native.Mathlib.Nat.{mul-suc}
+-- The lines of pieces, one after the other: those so far are put, and those of the rest are behind them.
+use Prim.Native.Nat.{ℕ, _+_, _-_, _*_, _≤_, _<_}
+use mathlib.Core.List.{List, _++_}
+use mathlib.Core.Path.{_≡_, ap}
 use native.Mathlib.Omega.{arith}
 use lib.ListN.{length, take, drop, length-take, length-drop, drop-of-length-le}
-use Rattle.records.specs.Bytes.{piecesIn}
-use Rattle.records.specs.LogRecords.{logBytes}
-use Rattle.records.specs.ChainTables.{chainBytes}
-use Rattle.records.proofs.Pieces.{piece-is, behind-is}
+use Rattle.records.specs.Bytes.{piecesIn, pieceEnd}
+use Rattle.records.proofs.Pieces.{Width, next-piece, room-left}
 use Rattle.text.specs.Puts.{Put}
-use Rattle.text.proofs.PutLaws.{put-then, put-none, put-as, put-length}
+use Rattle.text.proofs.PutLaws.{put-length}
+use Rattle.text.proofs.Series.{Reached, reached-none, reached-more, reached-all}
 use Rattle.shown.specs.Rooms.{lineRoom}
 use Rattle.layshow.specs.Walks.{pieceLines, allLines, PutLine}
 
--- Any bytes have one piece more than what is behind the first; none have none.
-pub record Width (width : ℕ) : Type 0 where
-  pub one-more : (s : List ℕ) → 0 < length s → piecesIn width s ≡ suc (piecesIn width (drop width s))
-  pub none : piecesIn width [] ≡ 0
-
-pub record-width : Width logBytes
-record-width = record { one-more = λ s some. omega (arith, length-drop logBytes s); none = refl }
-
-pub chain-width : Width chainBytes
-chain-width = record { one-more = λ s some. omega (arith, length-drop chainBytes s); none = refl }
-
 -- The pieces of some bytes up to `done` have their lines in a buffer; the next has a number, and all the rest have room.
-pub record Reached (line : ℕ → List ℕ → List ℕ) (width at : ℕ) (s o : List ℕ) (done number : ℕ) (o′ : List ℕ) (end : ℕ) : Type 0 where
-  pub text : List ℕ
-  pub put : Put o at text o′ end
-  pub rest : allLines line width 1 s ≡ text ++ allLines line width number (drop done s)
+pub record ShownTo (line : ℕ → List ℕ → List ℕ) (width at : ℕ) (s o : List ℕ) (done number : ℕ) (o′ : List ℕ) (end : ℕ) : Type 0 where
+  pub lines : Reached o at (allLines line width 1 s) (allLines line width number (drop done s)) o′ end
   pub room : end + lineRoom width * piecesIn width (drop done s) ≤ length o
 
-pub reached-none : {line : ℕ → List ℕ → List ℕ} {width at : ℕ} {s o : List ℕ} → at + lineRoom width * piecesIn width s ≤ length o →
-    Reached line width at s o 0 1 o at
-reached-none {line} {width} {at} {s} {o} room = record { text = []; put = put-none o at (omega arith); rest = refl; room = room }
+pub shown-none : {line : ℕ → List ℕ → List ℕ} {width at : ℕ} {s o : List ℕ} → at + lineRoom width * piecesIn width s ≤ length o →
+    ShownTo line width at s o 0 1 o at
+shown-none {line} {width} {at} {s} {o} room = record { lines = reached-none (allLines line width 1 s) (omega arith); room = room }
+
+-- The lines of some bytes are that of the first piece and those of the rest.
+lines-step : (line : ℕ → List ℕ → List ℕ) {width : ℕ} → Width width → (number : ℕ) (s : List ℕ) → 0 < length s →
+    allLines line width number s ≡ line number (take width s) ++ allLines line width (number + 1) (drop width s)
+unfolding pieceLines
+lines-step line {width} w number s some = ap (λ (n : ℕ). pieceLines line width n number s) (w .one-more s some)
 
 module _ {line : ℕ → List ℕ → List ℕ} {width : ℕ} (w : Width width) where
-  module _ {at : ℕ} {s o : List ℕ} {done number : ℕ} {o′ : List ℕ} {end : ℕ} (r : Reached line width at s o done number o′ end) where
-    size : length (drop done s) ≡ length s - done
-    size = length-drop done s
-
-    left : done < length s → end + (lineRoom width * piecesIn width (drop width (drop done s)) + lineRoom width) ≤ length o
-    left some =
-        let more = w .one-more (drop done s) (omega (arith, size)) in
-        rw (more, mul-suc) at (r .room)
-
+  module _ {at : ℕ} {s o : List ℕ} {done number : ℕ} {o′ : List ℕ} {end : ℕ} (r : ShownTo line width at s o done number o′ end) where
     -- The next piece, and that there is room for its line.
-    module _ (some : done < length s) {next : ℕ} (e : next ≡ min (done + width) (length s)) where
+    module _ (some : done < length s) {next : ℕ} (e : next ≡ pieceEnd done width (length s)) where
       abbrev piece : List ℕ
       piece = take (next - done) (drop done s)
 
       piece-long : length piece ≡ next - done
-      piece-long = omega (arith, length-take (next - done) (drop done s), size, e)
+      piece-long = omega (arith, length-take (next - done) (drop done s), length-drop done s, e)
+
+      left : end + (lineRoom width * piecesIn width (drop next s) + lineRoom width) ≤ length o
+      left = room-left w s done next some e end (lineRoom width) (r .room)
 
       pub next-room : end + lineRoom (length piece) ≤ length o′
-      next-room = omega (arith, left some, put-length (r .put), piece-long, e)
-
-      -- The lines of what is left are its line and the lines of the rest.
-      lines-step : allLines line width number (drop done s) ≡ line number (take width (drop done s)) ++ allLines line width (number + 1) (drop next s)
-      unfolding pieceLines
-      lines-step = rw (w .one-more (drop done s) (omega (arith, size)), behind-is width s done next e)
+      next-room = omega (arith, left, put-length (r .lines .put), piece-long, e)
 
       -- With its line, the buffer has one more.
-      pub reached-more : {o″ : List ℕ} {end′ : ℕ} → PutLine o′ end (line number piece) (length piece) o″ end′ →
-          Reached line width at s o next (number + 1) o″ end′
-      reached-more p =
-          let first = line number (take width (drop done s)) in
-          let others = allLines line width (number + 1) (drop next s) in
+      pub shown-more : {o″ : List ℕ} {end′ : ℕ} → PutLine o′ end (line number piece) (length piece) o″ end′ →
+          ShownTo line width at s o next (number + 1) o″ end′
+      shown-more p =
           record {
-            text = r .text ++ first;
-            put = put-then (r .put) (put-as (ap (line number) (piece-is width s done next e)) (p .put));
-            rest =
-                r .rest
-                ∙ ap (λ (l : List ℕ). r .text ++ l) lines-step
-                ∙ sym (append-assoc (r .text) first others);
-            room = rw (behind-is width s done next e) (omega (arith, left some, p .short, piece-long, e));
+            lines = reached-more (r .lines) (next-piece width (allLines line width) (λ n x rest. line n x ++ rest) (λ n x. n + 1) (lines-step line w) s done next some e number) (p .put);
+            room = omega (arith, left, p .short, piece-long, e);
           }
 
     -- Where no piece is left, it has the lines of all.
-    pub reached-all : length s ≤ done → Put o at (allLines line width 1 s) o′ end
+    pub shown-all : length s ≤ done → Put o at (allLines line width 1 s) o′ end
     unfolding pieceLines
-    reached-all all =
-        put-as (sym (r .rest ∙ rw (drop-of-length-le s all, w .none) (append-nil (r .text)))) (r .put)
+    shown-all all = reached-all (r .lines) (rw (drop-of-length-le s all, w .none))

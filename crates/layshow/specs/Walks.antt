@@ -65,5 +65,5 @@ tableRoom = mostChains * lineRoom chainBytes
 abbrev pub stretchBytes : ℕ
 stretchBytes = 65_536
 
-abbrev pub outBytes : ℕ
-outBytes = stretchBytes / logBytes * lineRoom logBytes
+abbrev pub stretchRoom : ℕ
+stretchRoom = stretchBytes / logBytes * lineRoom logBytes

@@ -1,15 +1,14 @@
 // Prints what job.dat, chain.dat and lay.dat hold, in the folder that it is run in, a line a record. A file that is missing counts
 // as empty. What is refused or fails is told on standard error, and nothing is printed after it.
 ghost use mathlib.Core.Path.{_≡_};
-ghost use Prim.Native.Nat.{_+_, _^_, _≤_, _<_, min};
+ghost use Prim.Native.Nat.{_+_, _^_, _≤_, _<_};
 ghost use lib.ListN.{length};
 ghost use Rattle.text.specs.Puts.{Put};
 ghost use Rattle.shown.specs.Lines.{jobLine, chainLine, recordLine};
 ghost use Rattle.shown.specs.Rooms.{textOf, lineRoom};
-ghost use Rattle.layshow.specs.Walks.{recordLines, chainLines, tableLines, fileLines, PutLine, longestJob, longestTable, wholeTable, tableRoom, stretchBytes, outBytes};
+ghost use Rattle.layshow.specs.Walks.{recordLines, chainLines, tableLines, fileLines, PutLine, longestJob, longestTable, wholeTable, tableRoom, stretchBytes, stretchRoom};
 use files::Filled;
 use files::Opened;
-use files::Words;
 use records::ChainCount;
 use shown::Line;
 
@@ -17,14 +16,11 @@ use shown::Line;
 const STRETCH_BYTES: usize = 65_536;
 
 // Room for a line of each record in it. Job and table take less.
-const OUT_BYTES: usize = STRETCH_BYTES / records::LOG_BYTES
+const STRETCH_ROOM: usize = STRETCH_BYTES / records::LOG_BYTES
     * (shown::LINE_ROOM + 2 * records::LOG_BYTES);
 
 fn main() {
-    // Any argument is one too many.
-    let mut none = [0u8; 1];
-    let words = files::arguments(
-        &mut none,
+    let words = files::no_arguments(
         b"layshow prints what job.dat, chain.dat and lay.dat in this folder hold, as layjob, laychain and laywrite take it:
 
   JOB E N K T ALLOWANCE        window corner, exponent, tolerance, allowance
@@ -37,19 +33,9 @@ REFUSED, the number and its bytes in hexadecimal behind it. A missing file count
   layshow
 ",
     );
-    match words {
-        Words::Line(n) => by_arguments(n),
-        Words::Unfit => by_arguments(1),
-        Words::Helped => {}
+    if files::none_given(b"layshow", words, b"no argument was expected") {
+        show();
     }
-}
-
-fn by_arguments(bytes: usize) {
-    if bytes > 0 {
-        files::refused(b"layshow", 0, 12, b"no argument was expected");
-        return;
-    }
-    show();
 }
 
 fn show() {
@@ -67,13 +53,13 @@ fn show() {
 }
 
 // The buffer for the text. Its many bytes are made in a function of their own, so that only their number is known elsewhere.
-fn out_buffer() -> [u8; OUT_BYTES] {
-    [0u8; OUT_BYTES]
+fn out_buffer() -> [u8; STRETCH_ROOM] {
+    [0u8; STRETCH_ROOM]
 }
 
 // What is shown of job and table is written out before the log is opened, which may fail.
 fn show_files(out: &mut [u8], job: &[u8], table: &[u8])
-    requires { ⌜ (length (now out) ≡ outBytes) × (length (now job) ≤ longestJob) × (length (now table) ≤ longestTable) ⌝ }
+    requires { ⌜ (length (now out) ≡ stretchRoom) × (length (now job) ≤ longestJob) × (length (now table) ≤ longestTable) ⌝ }
 {
     let n = put_files(out, job, table);
     if files_printed(&out[..n], job, table) {
@@ -89,7 +75,7 @@ fn files_printed(text: &[u8], job: &[u8], table: &[u8]) -> bool
 }
 
 fn put_files(out: &mut [u8], job: &[u8], table: &[u8]) -> usize
-    requires { ⌜ (length (now out) ≡ outBytes) × (length (now job) ≤ longestJob) × (length (now table) ≤ longestTable) ⌝ }
+    requires { ⌜ (length (now out) ≡ stretchRoom) × (length (now job) ≤ longestJob) × (length (now table) ≤ longestTable) ⌝ }
     ensures { λ r. ⌜ Put (now (out .entry)) 0 (fileLines (now (job .entry)) (now (table .entry))) (now (out .exit)) r ⌝ }
 {
     let end = put_job(out, 0, job);
@@ -123,7 +109,7 @@ fn put_chains(out: &mut [u8], at: usize, table: &[u8]) -> usize
     let mut done = 0;
     let mut number = 1;
     while done < table.len() {
-        let next = piece_end(done, records::CHAIN_BYTES, table.len());
+        let next = records::piece_end(done, records::CHAIN_BYTES, table.len());
         end = put_chain(out, end, number, &table[done..next]);
         done = next;
         number += 1;
@@ -150,26 +136,14 @@ fn after(at: usize, line: Line) -> usize
     }
 }
 
-// Where the piece of so many bytes ends that begins at done: the last may be shorter.
-fn piece_end(done: usize, bytes: usize, length: usize) -> usize
-    requires { ⌜ done < length ⌝ }
-    ensures { λ r. ⌜ r ≡ min (done + bytes) length ⌝ }
-{
-    if length - done < bytes {
-        return length;
-    }
-    done + bytes
-}
-
-// The lines of the log, stretch by stretch. Every turn but the last takes 65,536 bytes of it, and no log has 2^64 times as
-// many: it ends before the turns do.
+// The lines of the log, stretch by stretch.
 fn show_log(out: &mut [u8])
-    requires { ⌜ length (now out) ≡ outBytes ⌝ }
+    requires { ⌜ length (now out) ≡ stretchRoom ⌝ }
 {
     let Opened::File(log) = files::open(b"lay.dat") else {
         return;
     };
-    let mut turns = u64::MAX;
+    let mut turns = files::MOST_STRETCHES;
     while turns > 0 {
         if !show_stretch(out, log) {
             return;
@@ -181,7 +155,7 @@ fn show_log(out: &mut [u8])
 // Reads a stretch of the log, shows it, and writes all its lines out before the next is read, which may fail. Answers whether
 // there may be a next one.
 fn show_stretch(out: &mut [u8], log: i32) -> bool
-    requires { ⌜ length (now out) ≡ outBytes ⌝ }
+    requires { ⌜ length (now out) ≡ stretchRoom ⌝ }
 {
     let mut stretch = io::large_buffer();
     let Filled::Bytes(n) = files::fill(b"lay.dat", log, &mut stretch) else {
@@ -194,7 +168,7 @@ fn show_stretch(out: &mut [u8], log: i32) -> bool
 }
 
 fn show_records(out: &mut [u8], log: &[u8]) -> bool
-    requires { ⌜ (length (now out) ≡ outBytes) × (length (now log) ≤ stretchBytes) ⌝ }
+    requires { ⌜ (length (now out) ≡ stretchRoom) × (length (now log) ≤ stretchBytes) ⌝ }
 {
     let n = put_records(out, log);
     records_printed(&out[..n], log)
@@ -208,13 +182,13 @@ fn records_printed(text: &[u8], log: &[u8]) -> bool
 }
 
 fn put_records(out: &mut [u8], log: &[u8]) -> usize
-    requires { ⌜ (length (now out) ≡ outBytes) × (length (now log) ≤ stretchBytes) ⌝ }
+    requires { ⌜ (length (now out) ≡ stretchRoom) × (length (now log) ≤ stretchBytes) ⌝ }
     ensures { λ r. ⌜ Put (now (out .entry)) 0 (recordLines (now (log .entry))) (now (out .exit)) r ⌝ }
 {
     let mut end = 0;
     let mut done = 0;
     while done < log.len() {
-        let next = piece_end(done, records::LOG_BYTES, log.len());
+        let next = records::piece_end(done, records::LOG_BYTES, log.len());
         end = put_record(out, end, &log[done..next]);
         done = next;
     }

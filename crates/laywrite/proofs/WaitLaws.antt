@@ -10,8 +10,8 @@ use lib.ListN.{length, take}
 use Rattle.records.specs.LogRecords.{logBytes}
 use Rattle.writing.specs.declared.Draft.{Draft}
 use Rattle.writing.specs.Writing.{refusalOf, bufferOf}
-use Rattle.typed.specs.declared.TypedDraft.{TypedDraft}
-use Rattle.typed.specs.declared.TypedDraft.the-variants as typed
+use Rattle.parsing.specs.declared.ParsedDraft.{ParsedDraft}
+use Rattle.parsing.specs.declared.ParsedDraft.the-variants as parsed
 use Rattle.laywrite.specs.Waiting.{waitingOf, Wait, MayWait, KeptBy, IsKept, KeptAfter, TakenBy, IsTaken, recordsOf, AllAccepted, HoldRecords}
 use Rattle.laywrite.specs.declared.Records.{Records}
 use Rattle.laywrite.specs.declared.Records.the-variants as records
@@ -30,11 +30,11 @@ may-wait bytes out (records.Waiting n) w = w
 may-wait bytes out records.Dropped w = tt
 
 -- A draft that is accepted, and one that is refused.
-pub taken-accepted : (waiting : Records) (before : List ℕ) (d : Draft) (out : List ℕ) (r : Records) → refusalOf logBytes d ≡ 0 → KeptAfter waiting before (bufferOf logBytes d) out r → IsTaken waiting before (typed.Draft d) out r
+pub taken-accepted : (waiting : Records) (before : List ℕ) (d : Draft) (out : List ℕ) (r : Records) → refusalOf logBytes d ≡ 0 → KeptAfter waiting before (bufferOf logBytes d) out r → IsTaken waiting before (parsed.Draft d) out r
 taken-accepted waiting before d out r e kept =
     subst⁻¹ (λ (t : Bool). TakenBy t waiting before d out r) (eq-eqb (refusalOf logBytes d) 0 e) kept
 
-pub taken-refused : (waiting : Records) (before : List ℕ) (d : Draft) (out : List ℕ) (r : Records) → (refusalOf logBytes d ≡ 0 → ⊥) → r ≡ records.Dropped → IsTaken waiting before (typed.Draft d) out r
+pub taken-refused : (waiting : Records) (before : List ℕ) (d : Draft) (out : List ℕ) (r : Records) → (refusalOf logBytes d ≡ 0 → ⊥) → r ≡ records.Dropped → IsTaken waiting before (parsed.Draft d) out r
 taken-refused waiting before d out r never e =
     subst⁻¹ (λ (t : Bool). TakenBy t waiting before d out r) (ne-eqb (refusalOf logBytes d) 0 never) e
 
@@ -83,10 +83,10 @@ hold-kept (records.Waiting n) before out d r accepted (inside, (ds, (all, made))
         (subst⁻¹ (λ (l : List ℕ). MayWait l out r) (append-nil (bufferOf logBytes d)) w)
 hold-kept records.Dropped before out d r accepted held kept = hold-dropped out kept
 
-pub hold-taken : (waiting : Records) (before out : List ℕ) (t : TypedDraft) (r : Records) → HoldRecords before waiting → IsTaken waiting before t out r → HoldRecords out r
-hold-taken waiting before out (typed.Draft d) r held taken = go (eqb (refusalOf logBytes d) 0) refl taken
+pub hold-taken : (waiting : Records) (before out : List ℕ) (t : ParsedDraft) (r : Records) → HoldRecords before waiting → IsTaken waiting before t out r → HoldRecords out r
+hold-taken waiting before out (parsed.Draft d) r held taken = go (eqb (refusalOf logBytes d) 0) refl taken
   where
     go : (t : Bool) → eqb (refusalOf logBytes d) 0 ≡ t → TakenBy t waiting before d out r → HoldRecords out r
     go true e kept = hold-kept waiting before out d r (eqb-true (refusalOf logBytes d) 0 e) held kept
     go false e dropped = hold-dropped out dropped
-hold-taken waiting before out (typed.Refused number) r held taken = hold-dropped out taken
+hold-taken waiting before out (parsed.Refused number) r held taken = hold-dropped out taken

@@ -8,8 +8,8 @@ use lib.ListN.{length, take}
 use Rattle.records.specs.LogRecords.{logBytes}
 use Rattle.writing.specs.declared.Draft.{Draft}
 use Rattle.writing.specs.Writing.{refusalOf, bufferOf}
-use Rattle.typed.specs.declared.TypedDraft.{TypedDraft}
-use Rattle.typed.specs.declared.TypedDraft.the-variants as typed
+use Rattle.parsing.specs.declared.ParsedDraft.{ParsedDraft}
+use Rattle.parsing.specs.declared.ParsedDraft.the-variants as parsed
 use Rattle.laywrite.specs.declared.Records.{Records}
 use Rattle.laywrite.specs.declared.Records.the-variants as records
 
@@ -52,9 +52,9 @@ TakenBy true waiting before d out r = KeptAfter waiting before (bufferOf logByte
 TakenBy false waiting before d out r = r ≡ records.Dropped
 
 -- What waits after a line, by what the line stands for.
-abbrev pub IsTaken : Records → List ℕ → TypedDraft → List ℕ → Records → Type 0
-IsTaken waiting before (typed.Draft d) out r = TakenBy (eqb (refusalOf logBytes d) 0) waiting before d out r
-IsTaken waiting before (typed.Refused number) out r = r ≡ records.Dropped
+abbrev pub IsTaken : Records → List ℕ → ParsedDraft → List ℕ → Records → Type 0
+IsTaken waiting before (parsed.Draft d) out r = TakenBy (eqb (refusalOf logBytes d) 0) waiting before d out r
+IsTaken waiting before (parsed.Refused number) out r = r ≡ records.Dropped
 
 -- The bytes of records one behind the other, and that each of their drafts is accepted.
 unfoldable pub recordsOf : List Draft → List ℕ

@@ -5,17 +5,17 @@ ghost use mathlib.Core.List.{_++_};
 ghost use mathlib.Core.Path.{_≡_};
 ghost use lib.ListN.{length, take};
 ghost use Rattle.records.specs.LogRecords.{logBytes};
-ghost use Rattle.typed.specs.Typed.{draftIn};
-ghost use Rattle.typed.specs.declared.TypedDraft.the-variants as typed;
-ghost use Rattle.lines.specs.Input.{atEnd};
+ghost use Rattle.parsing.specs.Parsed.{parsedDraft};
+ghost use Rattle.parsing.specs.declared.ParsedDraft.the-variants as parsed;
+ghost use Rattle.files.specs.Input.{atEnd};
 ghost use Rattle.laywrite.specs.Waiting.{waitingOf, allDropped, Wait, IsKept, IsTaken, HoldRecords};
 use files::Filled;
+use files::Input;
 use files::Words;
 use libc::SEEK_END;
 use libc::SEEK_SET;
-use lines::Input;
+use parsing::ParsedDraft;
 use records::LOG_BYTES;
-use typed::TypedDraft;
 use writing::Draft;
 
 // The log that is there, open to append to, and how long it is. Why there is none to append to has been told.
@@ -39,13 +39,10 @@ enum Copying {
 }
 
 // Records are written out when so many bytes of them wait.
-const OUT_BYTES: usize = 65_536;
+const WAIT_BYTES: usize = 65_536;
 
 fn main() {
-    // Any argument is one too many.
-    let mut none = [0u8; 1];
-    let words = files::arguments(
-        &mut none,
+    let words = files::no_arguments(
         b"laywrite appends records to lay.dat, the log in this folder, or begins it where there is none.
 
 Each line of standard input is a record, KIND CHAIN LINE X Y, in centimetres:
@@ -60,28 +57,22 @@ nothing is appended. Readings of -100 m and -200 m in chain 1, as line 1 of the 
   echo 1 1 1 -10000 -20000 | laywrite
 ",
     );
-    match words {
-        Words::Line(n) => by_arguments(n),
-        Words::Unfit => by_arguments(1),
-        Words::Helped => {}
+    // No log is looked at for the help.
+    if let Words::Helped = words {
+        return;
     }
+    by_log(open_log(), words);
 }
 
 // The log is looked at before anything that is given.
-fn by_arguments(bytes: usize) {
-    let log = open_log();
+fn by_log(log: Log, words: Words) {
     if let Log::Unfit = log {
         return;
     }
-    if bytes > 0 {
-        refused(
-            0,
-            12,
-            b"no argument was expected; the records stand on standard input, a line each",
-        );
-        return;
+    let expected = b"no argument was expected; the records stand on standard input, a line each";
+    if files::none_given(b"laywrite", words, expected) {
+        write_log(log);
     }
-    write_log(log);
 }
 
 fn open_log() -> Log {
@@ -144,7 +135,7 @@ fn make_scratch() -> i32 {
 // Whether every line was accepted, and its record written to the scratch file.
 fn read_records(scratch: i32) -> bool {
     let mut buffer = [0u8; files::LINE_BYTES];
-    let mut out = [0u8; OUT_BYTES];
+    let mut out = [0u8; WAIT_BYTES];
     let Records::Waiting(n) = each_line(&mut buffer, &mut out, scratch) else {
         return false;
     };
@@ -161,7 +152,7 @@ fn each_line(buffer: &mut [u8], out: &mut [u8], scratch: i32) -> Records
     let mut records = Records::Waiting(0);
     let mut line = 0u64;
     while line < u64::MAX {
-        let input = lines::next(buffer, from, to);
+        let input = files::next_line(buffer, from, to);
         line += 1;
         let Input::Line { start, end, stop } = input else {
             return ended(input, line, records);
@@ -195,18 +186,18 @@ fn dropped(line: u64, number: u32) -> Records
 fn take_line(out: &mut [u8], before: Records, scratch: i32, line: u64, text: &[u8]) -> Records
     requires { ⌜ waitingOf before ≤ length (now out) ⌝ }
     requires { ⌜ logBytes ≤ length (now out) ⌝ }
-    ensures { λ r. ⌜ IsTaken before (now (out .entry)) (draftIn (now (text .entry))) (now (out .exit)) r ⌝ }
+    ensures { λ r. ⌜ IsTaken before (now (out .entry)) (parsedDraft (now (text .entry))) (now (out .exit)) r ⌝ }
 {
-    match typed::draft(text) {
-        TypedDraft::Draft(d) => take_draft(out, before, scratch, line, d),
-        TypedDraft::Refused(number) => dropped(line, number),
+    match parsing::draft(text) {
+        ParsedDraft::Draft(d) => take_draft(out, before, scratch, line, d),
+        ParsedDraft::Refused(number) => dropped(line, number),
     }
 }
 
 fn take_draft(out: &mut [u8], before: Records, scratch: i32, line: u64, d: Draft) -> Records
     requires { ⌜ waitingOf before ≤ length (now out) ⌝ }
     requires { ⌜ logBytes ≤ length (now out) ⌝ }
-    ensures { λ r. ⌜ IsTaken before (now (out .entry)) (typed.Draft d) (now (out .exit)) r ⌝ }
+    ensures { λ r. ⌜ IsTaken before (now (out .entry)) (parsed.Draft d) (now (out .exit)) r ⌝ }
 {
     let mut bytes = [0u8; LOG_BYTES];
     let refusal = writing::write(&mut bytes, d);
@@ -243,11 +234,7 @@ fn put(out: &mut [u8], at: usize, bytes: &[u8]) -> Records
 
 // Whether all of some bytes are in the scratch file.
 fn written(scratch: i32, bytes: &[u8]) -> bool {
-    if io::write_all(scratch, bytes) {
-        return true;
-    }
-    os::fail(b"lay.dat.XXXXXX");
-    false
+    files::write(b"lay.dat.XXXXXX", scratch, bytes)
 }
 
 // Appends the scratch file to the log, wholly or not at all.
@@ -294,9 +281,8 @@ fn copied(scratch: i32, file: i32) -> bool {
     true
 }
 
-// Every turn but the last copies 65,536 bytes, and no file has 2^64 times as many: it ends before the turns do.
 fn copy_all(scratch: i32, file: i32) -> bool {
-    let mut turns = u64::MAX;
+    let mut turns = files::MOST_STRETCHES;
     while turns > 0 {
         let c = copy_some(scratch, file);
         if let Copying::All = c {
@@ -318,8 +304,7 @@ fn copy_some(scratch: i32, file: i32) -> Copying {
     if n == 0 {
         return Copying::All;
     }
-    if !io::write_all(file, &bytes[0..n]) {
-        os::fail(b"lay.dat");
+    if !files::write(b"lay.dat", file, &bytes[0..n]) {
         return Copying::Failed;
     }
     Copying::Some

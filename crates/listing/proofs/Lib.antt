@@ -5,4 +5,5 @@ mod TellLaws
 mod LineLaws
 mod EachLaws
 mod ListingLaws
+pub mod Fitting
 mod Worked

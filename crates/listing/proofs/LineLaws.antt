@@ -16,7 +16,7 @@ use Rattle.text.specs.Texts.{digitsOf, spaced, figuresText, bytesIn}
 use Rattle.listing.specs.declared.Told.{Told}
 use Rattle.listing.specs.Answers.{RecordAnswer, Fix, Grid, Hold, Refused, placesOf}
 use Rattle.listing.specs.Listings.{headOf, placesText, answerText, lineOf}
-use Rattle.listing.specs.Putting.{Tells, wordText, wordOf, figureOf, visitsOf}
+use Rattle.listing.specs.Putting.{Tells, wordText, wordOf, figureOf, answerVisits}
 
 -- The head of a line, by what the raw record says.
 headBy : RawAnswer → List ℕ
@@ -47,10 +47,10 @@ places-text (p ∷ ps) = ap (λ (z : List ℕ). spaced (p .easting) ++ (spaced (
 
 -- An answer's text, by its word, its figures and its places.
 byParts : RecordAnswer → List ℕ
-byParts a = wordText (wordOf a) ++ (spaced (figureOf a) ++ (spaced (visitsOf a) ++ placesText (placesOf a)))
+byParts a = wordText (wordOf a) ++ (spaced (figureOf a) ++ (spaced (answerVisits a) ++ placesText (placesOf a)))
 
 by-parts : (a : RecordAnswer) → byParts a ≡ answerText a
-unfolding byParts answerText wordText wordOf figureOf visitsOf placesOf placesText
+unfolding byParts answerText wordText wordOf figureOf answerVisits placesOf placesText
 by-parts (Fix visits ps) = refl
 by-parts (Grid p) = refl
 by-parts (Hold p) = refl

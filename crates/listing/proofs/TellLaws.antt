@@ -30,7 +30,7 @@ use Rattle.listing.specs.declared.Carried.the-variants as carried
 use Rattle.listing.specs.declared.Word.the-variants as word
 use Rattle.listing.specs.declared.Told.{Told}
 use Rattle.listing.specs.Answers.{RecordAnswer, Fix, Grid, Hold, Refused, searched, fixBy, answerBy, answerOf, placesOf, only}
-use Rattle.listing.specs.Putting.{Begins, Tells, listEntries, wordOf, figureOf, visitsOf}
+use Rattle.listing.specs.Putting.{Begins, Tells, listEntries, wordOf, figureOf, answerVisits}
 
 -- A list that begins with one place, or with none.
 one-first : (p : Place) (l : List ℕ) → take 2 l ≡ p .easting ∷ p .northing ∷ [] → Begins (p ∷ []) 1 l
@@ -43,19 +43,19 @@ none-first l = record { count = refl; few = omega arith; entries = refl }
 
 -- What is told of a refused answer, and of one with a single place.
 pub refused-tells : (number visits : ℕ) (l : List ℕ) → Tells (Refused number visits) (record { word = word.Refused; figure = number; visits = visits; count = 0 }) l
-unfolding wordOf figureOf visitsOf placesOf
+unfolding wordOf figureOf answerVisits placesOf
 refused-tells number visits l = record { word = refl; figure = refl; visits = refl; places = none-first l }
 
-single-tells : (a : RecordAnswer) (p : Place) (l : List ℕ) → placesOf a ≡ p ∷ [] → figureOf a ≡ 1 → visitsOf a ≡ 0 → take 2 l ≡ p .easting ∷ p .northing ∷ [] → Tells a (record { word = wordOf a; figure = 1; visits = 0; count = 1 }) l
+single-tells : (a : RecordAnswer) (p : Place) (l : List ℕ) → placesOf a ≡ p ∷ [] → figureOf a ≡ 1 → answerVisits a ≡ 0 → take 2 l ≡ p .easting ∷ p .northing ∷ [] → Tells a (record { word = wordOf a; figure = 1; visits = 0; count = 1 }) l
 single-tells a p l places figure visits e =
     record { word = refl; figure = sym figure; visits = sym visits; places = subst⁻¹ (λ (ps : List Place). Begins ps 1 l) places (one-first p l e) }
 
 pub grid-tells : (p : Place) (l : List ℕ) → take 2 l ≡ p .easting ∷ p .northing ∷ [] → Tells (Grid p) (record { word = word.Grid; figure = 1; visits = 0; count = 1 }) l
-unfolding wordOf figureOf visitsOf placesOf
+unfolding wordOf figureOf answerVisits placesOf
 grid-tells p l = single-tells (Grid p) p l refl refl refl
 
 pub hold-tells : (p : Place) (l : List ℕ) → take 2 l ≡ p .easting ∷ p .northing ∷ [] → Tells (Hold p) (record { word = word.Hold; figure = 1; visits = 0; count = 1 }) l
-unfolding wordOf figureOf visitsOf placesOf
+unfolding wordOf figureOf answerVisits placesOf
 hold-tells p l = single-tells (Hold p) p l refl refl refl
 
 -- The list of a search begins with its places.
@@ -96,7 +96,7 @@ two-first (a ∷ b ∷ l) e n h = refl
 
 -- What a search's figures tell, its places in a list.
 pub search-tells : (o : Outcome) (f : SearchFigures) (l : List ℕ) → f ≡ searchFigures (o .answer) → Begins (o .places) (f .count) l → f .refusal ≡ 0 → Tells (searched o) (record { word = word.Fix; figure = f .count; visits = f .visits; count = f .count }) l
-unfolding searched wordOf figureOf visitsOf placesOf
+unfolding searched wordOf figureOf answerVisits placesOf
 search-tells o f l e places none =
     let passed : eqb (searchFigures (o .answer) .refusal) 0 ≡ true = eq-eqb _ 0 (sym (ap (λ (x : SearchFigures). x .refusal) e) ∙ none) in
     rw passed

@@ -16,7 +16,7 @@ use Rattle.search.specs.Answers.{ended, searchOf, searchFigures}
 use Rattle.records.specs.Bytes.{allZero}
 use Rattle.records.specs.LogRecords.{logRecordOf, isPlace, placed, inCentimetres, logEntryOf}
 use Rattle.records.specs.ChainTables.{chainCountOf, chainOf}
-use Rattle.records.specs.Jobs.{jobOf}
+use Rattle.records.specs.Jobs.{formedJobOf, acceptedJob, jobOf}
 use Rattle.text.specs.Texts.{lastDigits, digitsOf, bytesIn}
 use Rattle.listing.specs.Answers.{searched, fixBy, holdOf, answerBy, answerOf, placesOf, only}
 use Rattle.listing.specs.Listings.{headOf, placesText, answerText, linesFrom, listingBy, listingFrom, listingOf}
@@ -61,10 +61,10 @@ line-3 =
     ∷ 0 ∷ 0 ∷ 0 ∷ 0 ∷ 0 ∷ 0 ∷ 0 ∷ 0 ∷ []
 
 -- The whole listing.
-listed : listingOf job table (line-1 ++ (line-2 ++ line-3))
+whole-listing : listingOf job table (line-1 ++ (line-2 ++ line-3))
     ≡ bytesIn "1 FIX 2 5 30000 40000 30001 40001\n2 GRID 1 0 30001 40000\n3 HOLD 1 0 30001 40000\n"
 unfolding listingOf listingFrom listingBy linesFrom headOf placesText answerText answerOf answerBy fixBy holdOf searched
-    placesOf only bytesIn digitsOf lastDigits jobOf chainCountOf chainOf logEntryOf logRecordOf inCentimetres placed
+    placesOf only bytesIn digitsOf lastDigits jobOf acceptedJob formedJobOf chainCountOf chainOf logEntryOf logRecordOf inCentimetres placed
     isPlace allZero valueOf centimetresOf ofBits searchOf searchFigures ended visit visited cell noneTooLarge isWindow
     within differ readingOf rangeOf distanceOf isSound inRange samePlace root
-listed = refl
+whole-listing = refl

@@ -98,16 +98,16 @@ abbrev pub longestLine : ℕ
 longestLine = 5_760
 
 -- A buffer of so many bytes has room for the longest line for each whole record of a log, and for one more.
-abbrev pub hasRoom : ℕ → List ℕ → Bool
-hasRoom bytes log = ltb (length log / logBytes) (bytes / longestLine)
+abbrev pub hasListingRoom : ℕ → List ℕ → Bool
+hasListingRoom bytes log = ltb (length log / logBytes) (bytes / longestLine)
 
 -- What is answered of a listing put into such a buffer, and what the buffer then holds: the text, and behind it what it held
 -- before. Without the room, 9, and the buffer as it was.
 unfoldable pub listedIn : ℕ → List ℕ → Part → Listed
-listedIn bytes log p = cond (hasRoom bytes log) (listed.Text (length (p .text)) (p .carried)) (listed.Refused 9)
+listedIn bytes log p = cond (hasListingRoom bytes log) (listed.Text (length (p .text)) (p .carried)) (listed.Refused 9)
 
 unfoldable pub bufferWith : List ℕ → List ℕ → Part → List ℕ
-bufferWith out log p = cond (hasRoom (length out) log) (p .text ++ drop (length (p .text)) out) out
+bufferWith out log p = cond (hasListingRoom (length out) log) (p .text ++ drop (length (p .text)) out) out
 
 -- All that a listing leaves: its answer, and every byte of its buffer.
 pub record ListLeft : Type 0 where

@@ -49,15 +49,15 @@ figureOf (Grid p) = 1
 figureOf (Hold p) = 1
 figureOf (Refused number visits) = number
 
-unfoldable pub visitsOf : RecordAnswer → ℕ
-visitsOf (Fix visits places) = visits
-visitsOf (Grid p) = 0
-visitsOf (Hold p) = 0
-visitsOf (Refused number visits) = visits
+unfoldable pub answerVisits : RecordAnswer → ℕ
+answerVisits (Fix visits places) = visits
+answerVisits (Grid p) = 0
+answerVisits (Hold p) = 0
+answerVisits (Refused number visits) = visits
 
 -- An answer is told: these, with its places in a list.
 pub record Tells (a : RecordAnswer) (t : Told) (list : List ℕ) : Type 0 where
   pub word : t .word ≡ wordOf a
   pub figure : t .figure ≡ figureOf a
-  pub visits : t .visits ≡ visitsOf a
+  pub visits : t .visits ≡ answerVisits a
   pub places : Begins (placesOf a) (t .count) list

@@ -1,7 +1,7 @@
 // The listing of a log as text: what each record answers, its line, and the lines of a whole log or of parts of it.
 ghost use mathlib.Core.Path.{_≡_};
 ghost use mathlib.Core.List.{List, _∷_, []};
-ghost use Prim.Native.Nat.{ℕ, _+_, _*_, _/_, _≤_, _<_, min};
+ghost use Prim.Native.Nat.{ℕ, _+_, _*_, _/_, _≤_, _<_};
 ghost use lib.ListN.{length, take};
 ghost use Rattle.chart.specs.declared.Place.{Place};
 ghost use Rattle.search.specs.Answers.{Outcome, searchFigures};
@@ -53,7 +53,7 @@ struct Told {
 }
 
 // Where the text of the lines so far ends, and the place carried on.
-struct Standing {
+struct LinesSoFar {
     end: usize,
     carried: Carried,
 }
@@ -125,24 +125,13 @@ fn each_line(
     let mut length = 0;
     let mut done = 0;
     while done < log.len() {
-        let next = record_end(done, log.len());
+        let next = records::piece_end(done, LOG_BYTES, log.len());
         let r = one(out, length, list, j, table, &log[done..next], carried);
         length = r.end;
         carried = r.carried;
         done = next;
     }
     Listed::Text { length, carried }
-}
-
-// Where the record that begins at done ends: the last may be short.
-fn record_end(done: usize, length: usize) -> usize
-    requires { ⌜ done < length ⌝ }
-    ensures { λ r. ⌜ r ≡ min (done + logBytes) length ⌝ }
-{
-    if length - done < LOG_BYTES {
-        return length;
-    }
-    done + LOG_BYTES
 }
 
 // The line of one record.
@@ -154,7 +143,7 @@ fn one(
     table: &[u8],
     s: &[u8],
     before: Carried,
-) -> Standing
+) -> LinesSoFar
     requires { ⌜ (length (now list) ≡ listEntries) × (at + longestLine ≤ length (now out)) ⌝ }
     ensures line { λ r. ⌜ Put (now (out .entry)) at (lineOf (now (s .entry)) (answerOf j (now (table .entry)) before (now (s .entry)))) (now (out .exit)) (r .end) ⌝ }
     ensures end { λ r. ⌜ r .end ≤ at + longestLine ⌝ }
@@ -163,7 +152,7 @@ fn one(
     let t = answer(list, j, table, s, before);
     let end = put_line(out, at, list, s, t);
     let carried = carry(list, t.count);
-    Standing { end, carried }
+    LinesSoFar { end, carried }
 }
 
 // What a record answers. Its places go to the list.

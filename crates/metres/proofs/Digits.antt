@@ -49,8 +49,8 @@ Readable nan = ⊥
 Readable (inf s) = ⊥
 Readable (fin s m e) = m * up e ≤ mostMetres * down e
 
-within : (a m : ℕ) (f e : ℤ) → a * up f ≤ mostMetres * down f → ltb (a * up f * down e) (m * up e * down f) ≡ false → m * up e ≤ mostMetres * down e
-within a m f e most h =
+within-most : (a m : ℕ) (f e : ℤ) → a * up f ≤ mostMetres * down f → ltb (a * up f * down e) (m * up e * down f) ≡ false → m * up e ≤ mostMetres * down e
+within-most a m f e most h =
     le-of-mul-le-mul-right
     (le-trans (ltb-false (a * up f * down e) (m * up e * down f) h)
     (le-trans (mul-le-mul-right (down e) most) (le-of-eq (mul-right-comm mostMetres (down f) (down e)))))
@@ -61,8 +61,8 @@ unfolding lt ne
 readable a b f g nan high low same above below = true≢false same
 readable a b f g (inf true) high low same above below = true≢false below
 readable a b f g (inf false) high low same above below = true≢false above
-readable a b f g (fin false m e) high low same above below = within a m f e high above
-readable a b f g (fin true m e) high low same above below = within b m g e low below
+readable a b f g (fin false m e) high low same above below = within-most a m f e high above
+readable a b f g (fin true m e) high low same above below = within-most b m g e low below
 
 -- A number that equals itself is not NaN.
 pub not-nan : (x : Float) → ne x x ≡ false → T (not (isNan x))
@@ -141,8 +141,8 @@ module _ (x : Float) (held : T (fits binary64 x)) (h : Readable x) where
   abbrev pattern : ℕ
   pattern = toBits binary64 x
 
-  abbrev minus : Bool
-  minus = leb (2 ^ 63) pattern
+  abbrev is-minus : Bool
+  is-minus = leb (2 ^ 63) pattern
 
   abbrev exponent : ℕ
   exponent = pattern % 2 ^ 63 / 2 ^ 52
@@ -150,37 +150,37 @@ module _ (x : Float) (held : T (fits binary64 x)) (h : Readable x) where
   abbrev digits : ℕ
   digits = pattern % 2 ^ 52
 
-  is : x ≡ ofFields binary64 minus exponent digits
+  is : x ≡ ofFields binary64 is-minus exponent digits
   unfolding ofBits
   is = sym (ofBits-toBits binary64 x held)
 
-  value : (k : ℕ) → exponent ≡ k → HasValue x minus (units k digits) (2 ^ 1074)
+  value : (k : ℕ) → exponent ≡ k → HasValue x is-minus (units k digits) (2 ^ 1074)
   value k e =
-      subst (λ (y : ℕ). HasValue x minus (units y digits) (2 ^ 1074)) e
-      (subst⁻¹ (λ (y : Float). HasValue y minus (units exponent digits) (2 ^ 1074)) is (fields-value minus exponent digits (subst Readable is h)))
+      subst (λ (y : ℕ). HasValue x is-minus (units y digits) (2 ^ 1074)) e
+      (subst⁻¹ (λ (y : Float). HasValue y is-minus (units exponent digits) (2 ^ 1074)) is (fields-value is-minus exponent digits (subst Readable is h)))
 
   digits-few : digits < 2 ^ 52
   digits-few = mod-lt pattern (pow-pos 52)
 
   -- With an exponent of 0: the digits.
-  pub without-lead : exponent ≡ 0 → IsHundredfold x (Exact minus (digits * 100) 1074)
+  pub without-lead : exponent ≡ 0 → IsHundredfold x (Exact is-minus (digits * 100) 1074)
   without-lead e =
-      exact-of x minus (digits * 2 ^ 0) (digits * 100) 1074 (value 0 e) h (omega (arith, digits-few))
+      exact-of x is-minus (digits * 2 ^ 0) (digits * 100) 1074 (value 0 e) h (omega (arith, digits-few))
       (ap (λ (y : ℕ). y * 2 ^ 1074) (ap (λ (y : ℕ). 100 * y) (mul-one digits) ∙ mul-comm 100 digits))
 
   past-zero : (exponent ≡ 0 → ⊥) → exponent ≡ suc (exponent - 1)
   past-zero e = omega (arith, e)
 
   low : (exponent ≡ 0 → ⊥) → exponent - 1 ≤ 1045
-  low e = exponent-limit (exponent - 1) digits (units-limit x minus ((2 ^ 52 + digits) * 2 ^ (exponent - 1)) h (value (suc (exponent - 1)) (past-zero e)))
+  low e = exponent-limit (exponent - 1) digits (units-limit x is-minus ((2 ^ 52 + digits) * 2 ^ (exponent - 1)) h (value (suc (exponent - 1)) (past-zero e)))
 
   -- Within the limit the exponent is below 1075, so there are halvings from 0 up.
   pub exponent-few : (exponent ≡ 0 → ⊥) → exponent ≤ 1046
   exponent-few e = omega (arith, low e)
 
   -- With any other: the digits after a leading one.
-  pub with-lead : (exponent ≡ 0 → ⊥) → IsHundredfold x (Exact minus ((2 ^ 52 + digits) * 100) (1075 - exponent))
+  pub with-lead : (exponent ≡ 0 → ⊥) → IsHundredfold x (Exact is-minus ((2 ^ 52 + digits) * 100) (1075 - exponent))
   with-lead e =
       let halvings : 1074 - (exponent - 1) ≡ 1075 - exponent = omega (arith, low e, e) in
-      subst (λ (k : ℕ). IsHundredfold x (Exact minus ((2 ^ 52 + digits) * 100) k)) halvings
-      (exact-of x minus ((2 ^ 52 + digits) * 2 ^ (exponent - 1)) ((2 ^ 52 + digits) * 100) (1074 - (exponent - 1)) (value (suc (exponent - 1)) (past-zero e)) h (omega (arith, digits-few)) (halved (2 ^ 52 + digits) (exponent - 1) (omega (arith, low e))))
+      subst (λ (k : ℕ). IsHundredfold x (Exact is-minus ((2 ^ 52 + digits) * 100) k)) halvings
+      (exact-of x is-minus ((2 ^ 52 + digits) * 2 ^ (exponent - 1)) ((2 ^ 52 + digits) * 100) (1074 - (exponent - 1)) (value (suc (exponent - 1)) (past-zero e)) h (omega (arith, digits-few)) (halved (2 ^ 52 + digits) (exponent - 1) (omega (arith, low e))))

@@ -56,18 +56,18 @@ plus-zero-bytes pattern small = go (isNan (numberOf pattern)) refl
         ∙ sym (ne-eqb pattern 0 (λ z. false≢true (sym zero-no-nan ∙ ap (λ (p : ℕ). isNan (numberOf p)) (sym z) ∙ h)))
 
 -- The answer about a number, made of the answer about its eight bytes.
-abbrev pub numberIn : Eight → Number
-numberIn (eight.Value pattern) = Value (numberOf pattern)
-numberIn eight.Outside = Outside
+abbrev pub numberFrom : Eight → Number
+numberFrom (eight.Value pattern) = Value (numberOf pattern)
+numberFrom eight.Outside = Outside
 
 -- The number at a place is that of the eight bytes there.
-pub number-of-eight : (s : List ℕ) (at : ℕ) → numberIn (eightAt s at) ≡ numberAt s at
+pub number-of-eight : (s : List ℕ) (at : ℕ) → numberFrom (eightAt s at) ≡ numberAt s at
 unfolding numberAt
 number-of-eight s at = go (inside 8 s at) refl
   where
-    go : (t : Bool) → inside 8 s at ≡ t → numberIn (eightAt s at) ≡ answerAt 8 (λ pattern. Value (numberOf pattern)) Outside s at
-    go true h = ap numberIn (answer-inside 8 eight.Value eight.Outside s at h) ∙ sym (answer-inside 8 (λ pattern. Value (numberOf pattern)) Outside s at h)
-    go false h = ap numberIn (answer-outside 8 eight.Value eight.Outside s at h) ∙ sym (answer-outside 8 (λ pattern. Value (numberOf pattern)) Outside s at h)
+    go : (t : Bool) → inside 8 s at ≡ t → numberFrom (eightAt s at) ≡ answerAt 8 (λ pattern. Value (numberOf pattern)) Outside s at
+    go true h = ap numberFrom (answer-inside 8 eight.Value eight.Outside s at h) ∙ sym (answer-inside 8 (λ pattern. Value (numberOf pattern)) Outside s at h)
+    go false h = ap numberFrom (answer-outside 8 eight.Value eight.Outside s at h) ∙ sym (answer-outside 8 (λ pattern. Value (numberOf pattern)) Outside s at h)
 
 -- A number that was put is read there again.
 pub put-number-read : (s : List ℕ) (at : ℕ) (x : Float) → T (fits binary64 x) → ReadsThere s (putNumberAt s at x) at x

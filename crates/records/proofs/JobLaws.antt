@@ -1,21 +1,22 @@
 -- The tests of a job, one after the other, and what each comes to.
-use Prim.Native.Nat.{ℕ, _≤_, _<_}
-use mathlib.Core.Path.{_≡_, ap, _∙_, subst⁻¹}
+use Prim.Native.Nat.{ℕ, _<_}
+use mathlib.Core.Path.{_≡_, refl, ap, _∙_, subst⁻¹}
 use mathlib.Core.Bool.{Bool, true, false, _&&_}
 use mathlib.Core.List.{List}
 use native.Mathlib.Omega.{arith}
-use lib.Dec.{eqb}
+use lib.Dec.{leb, eqb}
 use lib.ListN.{length}
-use borrow.Author.Tests.{eq-eqb, ne-eqb, le-leb, lt-leb}
+use borrow.Author.Tests.{eq-eqb, ne-eqb}
 use Rattle.fields.specs.Fields.{fieldAt}
 use Rattle.chart.specs.declared.Place.{Place}
 use Rattle.search.specs.Windows.{isWindow}
 use Rattle.search.specs.Questions.{mostTolerance}
 use Rattle.records.specs.declared.Job.{Job}
+use Rattle.records.specs.declared.JobAnswer.{JobAnswer}
 use Rattle.records.specs.declared.JobAnswer.the-variants as answer
-use Rattle.records.specs.Bytes.{byteAt, areZero}
+use Rattle.records.specs.Bytes.{byteAt, areZero, unless}
 use Rattle.records.specs.ChainTables.{placeAt}
-use Rattle.records.specs.Jobs.{jobBytes, jobIn, jobOf}
+use Rattle.records.specs.Jobs.{jobBytes, jobIn, formedJobOf, acceptedJob, jobOf}
 use Rattle.records.proofs.ByteLaws.{zero-byte, zero-one}
 
 -- The bytes of a job that must be zero.
@@ -46,24 +47,25 @@ zeros-last s h a b c = rw (three-by-one s h, eq-eqb (byteAt s 9) 0 a, eq-eqb (by
 pub job-same : (s : List ℕ) {corner : Place} {k tolerance allowance : ℕ} → corner ≡ placeAt s 0 → k ≡ byteAt s 8 → tolerance ≡ fieldAt 4 s 12 → allowance ≡ fieldAt 8 s 16 → _≡_ {A = Job} (record { window = record { corner = corner; k = k }; tolerance = tolerance; allowance = allowance }) (jobIn s)
 job-same s p k t a = rw (p, k, t, a)
 
--- What a job answers.
-pub job-1 : (s : List ℕ) → (length s ≡ jobBytes → ⊥) → jobOf s ≡ answer.Refused 1
-unfolding jobOf
-job-1 s h = rw (ne-eqb (length s) jobBytes h)
+-- The tests of a job, all four, one after the other.
+abbrev pub jobTests : List ℕ → JobAnswer
+jobTests s =
+    unless (eqb (length s) jobBytes) (answer.Refused 1)
+    (unless (zerosKept s) (answer.Refused 2)
+    (unless (isWindow (jobIn s .window)) (answer.Refused 6)
+    (unless (leb (jobIn s .tolerance) mostTolerance) (answer.Refused 7)
+    (answer.Job (jobIn s)))))
 
-module _ (s : List ℕ) (whole : length s ≡ jobBytes) where
-  pub job-2 : zerosKept s ≡ false → jobOf s ≡ answer.Refused 2
-  unfolding jobOf
-  job-2 z = rw (eq-eqb (length s) jobBytes whole, z)
+pub job-by-tests : (s : List ℕ) → jobOf s ≡ jobTests s
+unfolding jobOf acceptedJob formedJobOf
+job-by-tests s = go (eqb (length s) jobBytes) (zerosKept s)
+  where
+    rest : JobAnswer
+    rest =
+        unless (isWindow (jobIn s .window)) (answer.Refused 6)
+        (unless (leb (jobIn s .tolerance) mostTolerance) (answer.Refused 7) (answer.Job (jobIn s)))
 
-  pub job-6 : zerosKept s ≡ true → isWindow (jobIn s .window) ≡ false → jobOf s ≡ answer.Refused 6
-  unfolding jobOf
-  job-6 z w = rw (eq-eqb (length s) jobBytes whole, z, w)
-
-  pub job-7 : zerosKept s ≡ true → isWindow (jobIn s .window) ≡ true → mostTolerance < jobIn s .tolerance → jobOf s ≡ answer.Refused 7
-  unfolding jobOf
-  job-7 z w t = rw (eq-eqb (length s) jobBytes whole, z, w, lt-leb (jobIn s .tolerance) mostTolerance t)
-
-  pub job-told : zerosKept s ≡ true → isWindow (jobIn s .window) ≡ true → jobIn s .tolerance ≤ mostTolerance → jobOf s ≡ answer.Job (jobIn s)
-  unfolding jobOf
-  job-told z w t = rw (eq-eqb (length s) jobBytes whole, z, w, le-leb (jobIn s .tolerance) mostTolerance t)
+    go : (a b : Bool) → acceptedJob (unless a (answer.Refused 1) (unless b (answer.Refused 2) (answer.Job (jobIn s)))) ≡ unless a (answer.Refused 1) (unless b (answer.Refused 2) rest)
+    go false b = refl
+    go true false = refl
+    go true true = refl

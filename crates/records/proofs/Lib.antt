@@ -5,7 +5,7 @@ mod ReadLaws
 mod LogLaws
 pub mod GridLaws
 pub mod TableLaws
-mod JobLaws
+pub mod JobLaws
 pub mod Pieces
 pub mod RefusalLaws
 mod LineLaws

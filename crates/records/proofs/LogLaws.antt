@@ -7,22 +7,18 @@ use mathlib.Core.List.{List}
 use native.Mathlib.Omega.{arith}
 use lib.Dec.{eqb}
 use lib.Ieee.{Float}
-use lib.IntN.{ℤ}
 use lib.ListN.{length}
 use borrow.Author.Tests.{eq-eqb, ne-eqb}
-use Rattle.metres.specs.declared.Whole.{Whole}
-use Rattle.metres.specs.declared.Whole.the-variants as whole
 use Rattle.metres.specs.Metres.{centimetresOf}
 use Rattle.metres.specs.Patterns.{isPlusZero}
 use Rattle.records.specs.declared.RawRecord.{RawRecord}
 use Rattle.records.specs.declared.RawAnswer.the-variants as raw
 use Rattle.records.specs.declared.LogRecord.{LogRecord}
 use Rattle.records.specs.declared.LogRecord.the-variants as log
-use Rattle.records.specs.declared.LogEntry.{LogEntry}
 use Rattle.records.specs.declared.LogEntry.the-variants as entry
 use Rattle.records.specs.Bytes.{byteAt, numberIn, areZero}
-use Rattle.records.specs.LogRecords.{logBytes, rawIn, rawRecordOf, isHyperbolic, isGrid, isHold, logRecordOf, placed, withBoth, inCentimetres, logEntryOf}
-use Rattle.records.specs.Gathered.{IsRaw, pairOf, given}
+use Rattle.records.specs.LogRecords.{logBytes, rawIn, rawRecordOf, isHyperbolic, isGrid, isHold, logRecordOf, placed, pairOf, withPair, inCentimetres, logEntryOf}
+use Rattle.records.specs.Gathered.{IsRaw}
 use Rattle.records.proofs.ByteLaws.{zero-byte, zero-one, zero-split, plus-zero-field}
 
 -- The length decides first.
@@ -137,25 +133,19 @@ module _ (s : List ℕ) (r : RawRecord) (h : IsRaw s r) where
   unfolding logRecordOf
   told-2 n g e = rw (eq-eqb (length s) logBytes (h .whole), n, g, e)
 
--- What a pair of numbers gives.
-pair-gives : (give : ℤ → ℤ → LogEntry) (v w : Whole) → given give (pairOf v w) ≡ withBoth give v w
-pair-gives give (whole.Centimetres x) (whole.Centimetres y) = refl
-pair-gives give (whole.Centimetres x) whole.Refused = refl
-pair-gives give whole.Refused w = refl
-
 -- The entry of a record, by what the record was read as.
 module _ (s : List ℕ) (r : LogRecord) where
   read-as : (q : LogRecord) → r ≡ logRecordOf s → r ≡ q → inCentimetres q ≡ logEntryOf s
   unfolding logEntryOf
   read-as q e f = ap inCentimetres (sym f ∙ e)
 
-  pub entry-hyperbolic : (a b : Float) → r ≡ logRecordOf s → r ≡ log.Hyperbolic a b → given entry.Readings (pairOf (centimetresOf a) (centimetresOf b)) ≡ logEntryOf s
+  pub entry-hyperbolic : (a b : Float) → r ≡ logRecordOf s → r ≡ log.Hyperbolic a b → withPair entry.Readings (pairOf (centimetresOf a) (centimetresOf b)) ≡ logEntryOf s
   unfolding inCentimetres
-  entry-hyperbolic a b e f = pair-gives entry.Readings (centimetresOf a) (centimetresOf b) ∙ read-as (log.Hyperbolic a b) e f
+  entry-hyperbolic a b e f = read-as (log.Hyperbolic a b) e f
 
-  pub entry-grid : (e n : Float) → r ≡ logRecordOf s → r ≡ log.Grid e n → given placed (pairOf (centimetresOf e) (centimetresOf n)) ≡ logEntryOf s
+  pub entry-grid : (e n : Float) → r ≡ logRecordOf s → r ≡ log.Grid e n → withPair placed (pairOf (centimetresOf e) (centimetresOf n)) ≡ logEntryOf s
   unfolding inCentimetres
-  entry-grid a b e f = pair-gives placed (centimetresOf a) (centimetresOf b) ∙ read-as (log.Grid a b) e f
+  entry-grid a b e f = read-as (log.Grid a b) e f
 
   pub entry-hold : r ≡ logRecordOf s → r ≡ log.Hold → entry.Hold ≡ logEntryOf s
   unfolding inCentimetres

@@ -9,7 +9,7 @@ use Rattle.metres.specs.declared.Whole.the-variants.{Centimetres, Refused}
 use Rattle.records.specs.declared.LogEntry.{LogEntry}
 use Rattle.records.specs.declared.LogEntry.the-variants as entry
 use Rattle.records.specs.Bytes.{unless}
-use Rattle.records.specs.LogRecords.{withBoth}
+use Rattle.records.specs.LogRecords.{pairOf, withPair}
 use Rattle.records.specs.Refusals.{isAmong}
 
 -- The refusal of an answer is one of some numbers.
@@ -17,9 +17,9 @@ abbrev pub Among : {A : Type 0} → (A → ℕ) → List ℕ → A → Type 0
 Among refusal numbers answer = isAmong (refusal answer) numbers ≡ true
 
 -- What holds of both answers holds of the one that a test leaves.
-pub either : {A : Type 0} (P : A → Type 0) (t : Bool) {refused rest : A} → P refused → P rest → P (unless t refused rest)
-either P true h k = k
-either P false h k = h
+pub unless-either : {A : Type 0} (P : A → Type 0) (t : Bool) {refused rest : A} → P refused → P rest → P (unless t refused rest)
+unless-either P true h k = k
+unless-either P false h k = h
 
 -- Where an answer is another than a refusal, its test has passed and the rest has given it.
 pub passed : {A : Type 0} (t : Bool) {refused rest answer : A} → (refused ≡ answer → ⊥) →
@@ -32,7 +32,7 @@ either-kind P true h k = h
 either-kind P false h k = k
 
 -- Two numbers give their entry, or 3.
-pub both-or-three : (P : LogEntry → Type 0) (give : ℤ → ℤ → LogEntry) (x y : Whole) → P (entry.Refused 3) → ((a b : ℤ) → P (give a b)) → P (withBoth give x y)
+pub both-or-three : (P : LogEntry → Type 0) (give : ℤ → ℤ → LogEntry) (x y : Whole) → P (entry.Refused 3) → ((a b : ℤ) → P (give a b)) → P (withPair give (pairOf x y))
 both-or-three P give (Centimetres x) (Centimetres y) h k = k x y
 both-or-three P give (Centimetres x) Refused h k = h
 both-or-three P give Refused y h k = h

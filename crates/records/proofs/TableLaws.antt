@@ -35,9 +35,9 @@ pub count-1 : (s : List ℕ) → isTable s ≡ false → chainCountOf s ≡ coun
 unfolding chainCountOf
 count-1 s h = rw h
 
-pub counted : (s : List ℕ) → isTable s ≡ true → chainCountOf s ≡ count.Chains (chainsIn s)
+pub table-counted : (s : List ℕ) → isTable s ≡ true → chainCountOf s ≡ count.Chains (chainsIn s)
 unfolding chainCountOf
-counted s h = rw h
+table-counted s h = rw h
 
 -- What naming a chain answers.
 pub chain-1 : (s : List ℕ) (number : ℕ) → isTable s ≡ false → chainOf s number ≡ named.Refused 1

@@ -1,8 +1,8 @@
 -- The records: the line number has no part in what one says, each answer has its refusals, and it follows from the bytes alone.
 -- The functions of `records` are proved to answer by its definitions; these theorems say what the definitions are worth.
 use Prim.Native.Nat.{ℕ, _-_, _*_}
-use mathlib.Core.Path.{_≡_, refl, sym, ap, _∙_}
-use mathlib.Core.Bool.{true, _&&_}
+use mathlib.Core.Path.{_≡_, refl, sym, ap, _∙_, subst⁻¹}
+use mathlib.Core.Bool.{true}
 use mathlib.Core.List.{List, [], _∷_}
 use native.Mathlib.Omega.{arith}
 use lib.Dec.{leb, eqb}
@@ -19,13 +19,14 @@ use Rattle.records.specs.declared.LogEntry.the-variants as entry
 use Rattle.records.specs.declared.ChainCount.{ChainCount}
 use Rattle.records.specs.declared.NamedChain.{NamedChain}
 use Rattle.records.specs.declared.JobAnswer.{JobAnswer}
-use Rattle.records.specs.Bytes.{numberIn, areZero}
+use Rattle.records.specs.Bytes.{numberIn}
 use Rattle.records.specs.LogRecords.{logBytes, rawRecordOf, isHyperbolic, isGrid, isHold, logRecordOf, isPlace, placed, inCentimetres, logEntryOf}
 use Rattle.records.specs.ChainTables.{chainBytes, oneTo, chainsIn, isTable, chainCountOf, chainAt, chainOf}
 use Rattle.records.specs.Jobs.{jobBytes, jobIn, jobOf}
 use Rattle.records.specs.Refusals.{rawRefusal, logRefusal, entryRefusal, countRefusal, chainRefusal, jobRefusal, isAmong}
-use Rattle.records.proofs.RefusalLaws.{Among, either, either-kind, both-or-three}
+use Rattle.records.proofs.RefusalLaws.{Among, unless-either, either-kind, both-or-three}
 use Rattle.records.proofs.LineLaws.{line-away}
+use Rattle.records.proofs.JobLaws.{zerosKept, job-by-tests}
 
 -- The line number has no part in what a record says: any value, repeats allowed.
 pub line-ignored : (s : List ℕ) (n : ℕ) → length s ≡ 32 → logEntryOf (putAt 4 s 4 n) ≡ logEntryOf s
@@ -34,14 +35,14 @@ line-ignored s n h = line-away s n (omega arith)
 -- Each answer has its own refusals, by 01's numbers, with 0 for none. A raw record has 1.
 pub raw-refusals : (s : List ℕ) → isAmong (rawRefusal (rawRecordOf s)) (0 ∷ 1 ∷ []) ≡ true
 unfolding rawRecordOf rawRefusal isAmong
-raw-refusals s = either (Among rawRefusal (0 ∷ 1 ∷ [])) (eqb (length s) logBytes) refl refl
+raw-refusals s = unless-either (Among rawRefusal (0 ∷ 1 ∷ [])) (eqb (length s) logBytes) refl refl
 
 -- A log record in metres has 1 and 2.
 pub log-refusals : (s : List ℕ) → isAmong (logRefusal (logRecordOf s)) (0 ∷ 1 ∷ 2 ∷ []) ≡ true
 unfolding logRecordOf logRefusal isAmong
 log-refusals s =
     let among = Among logRefusal (0 ∷ 1 ∷ 2 ∷ []) in
-    either among (eqb (length s) logBytes) refl
+    unless-either among (eqb (length s) logBytes) refl
     (either-kind among (isHyperbolic s) refl (either-kind among (isGrid s) refl (either-kind among (isHold s) refl refl)))
 
 -- A log record in centimetres has 1, 2, 3 and 4.
@@ -50,34 +51,35 @@ unfolding logEntryOf logRecordOf inCentimetres placed entryRefusal isAmong
 entry-refusals s =
     let among = Among entryRefusal (0 ∷ 1 ∷ 2 ∷ 3 ∷ 4 ∷ []) in
     let of-record : LogRecord → Type 0 = λ r. among (inCentimetres r) in
-    either of-record (eqb (length s) logBytes) refl
+    unless-either of-record (eqb (length s) logBytes) refl
     (either-kind of-record (isHyperbolic s)
     (both-or-three among entry.Readings (centimetresOf (numberIn s 8)) (centimetresOf (numberIn s 16)) refl (λ a b. refl))
     (either-kind of-record (isGrid s)
-    (both-or-three among placed (centimetresOf (numberIn s 8)) (centimetresOf (numberIn s 16)) refl (λ e n. either among (isPlace e n) refl refl))
+    (both-or-three among placed (centimetresOf (numberIn s 8)) (centimetresOf (numberIn s 16)) refl (λ e n. unless-either among (isPlace e n) refl refl))
     (either-kind of-record (isHold s) refl refl)))
 
 -- The count of a chain table has 1.
 pub count-refusals : (s : List ℕ) → isAmong (countRefusal (chainCountOf s)) (0 ∷ 1 ∷ []) ≡ true
 unfolding chainCountOf countRefusal isAmong
-count-refusals s = either (Among countRefusal (0 ∷ 1 ∷ [])) (isTable s) refl refl
+count-refusals s = unless-either (Among countRefusal (0 ∷ 1 ∷ [])) (isTable s) refl refl
 
 -- A chain of a table has 1 and 5.
 pub chain-refusals : (s : List ℕ) (number : ℕ) → isAmong (chainRefusal (chainOf s number)) (0 ∷ 1 ∷ 5 ∷ []) ≡ true
 unfolding chainOf chainRefusal isAmong
 chain-refusals s number =
     let among = Among chainRefusal (0 ∷ 1 ∷ 5 ∷ []) in
-    either among (isTable s) refl
-    (either among (oneTo (chainsIn s) number) refl (either among (isSound (chainAt s (chainBytes * (number - 1)))) refl refl))
+    unless-either among (isTable s) refl
+    (unless-either among (oneTo (chainsIn s) number) refl (unless-either among (isSound (chainAt s (chainBytes * (number - 1)))) refl refl))
 
 -- A job has 1, 2, 6 and 7.
 pub job-refusals : (s : List ℕ) → isAmong (jobRefusal (jobOf s)) (0 ∷ 1 ∷ 2 ∷ 6 ∷ 7 ∷ []) ≡ true
-unfolding jobOf jobRefusal isAmong
+unfolding jobRefusal isAmong
 job-refusals s =
     let among = Among jobRefusal (0 ∷ 1 ∷ 2 ∷ 6 ∷ 7 ∷ []) in
-    either among (eqb (length s) jobBytes) refl
-    (either among (areZero 3 s 9 && areZero 8 s 24) refl
-    (either among (isWindow (jobIn s .window)) refl (either among (leb (jobIn s .tolerance) mostTolerance) refl refl)))
+    subst⁻¹ among (job-by-tests s)
+    (unless-either among (eqb (length s) jobBytes) refl
+    (unless-either among (zerosKept s) refl
+    (unless-either among (isWindow (jobIn s .window)) refl (unless-either among (leb (jobIn s .tolerance) mostTolerance) refl refl))))
 
 -- Any two answers that keep a reader's promise of the same bytes are equal: they follow from the bytes alone.
 pub bytes-alone : {A : Type 0} (answer : List ℕ → A) (s t : List ℕ) (r q : A) → s ≡ t → r ≡ answer s → q ≡ answer t → r ≡ q

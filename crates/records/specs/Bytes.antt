@@ -1,5 +1,5 @@
 -- What the definitions of records share: a byte, a number, bytes that must be zero, pieces of bytes, and a test that refuses.
-use Prim.Native.Nat.{ℕ, _+_, _-_, _/_}
+use Prim.Native.Nat.{ℕ, _+_, _-_, _/_, min}
 use mathlib.Core.Bool.{Bool, true, false, _&&_}
 use mathlib.Core.List.{List, [], _∷_}
 use lib.Dec.{eqb}
@@ -28,6 +28,10 @@ areZero count s at = allZero (take count (drop at s))
 -- How many pieces of so many bytes there are, a short last one among them.
 abbrev pub piecesIn : ℕ → List ℕ → ℕ
 piecesIn width s = (length s + (width - 1)) / width
+
+-- Where the piece ends that begins behind so many bytes, of so many in all: the last may be short.
+abbrev pub pieceEnd : ℕ → ℕ → ℕ → ℕ
+pieceEnd done width all = min (done + width) all
 
 -- A test that fails is answered with its refusal; where it passes, the rest answers (01, Numbers of refusal: "the first
 -- failure answers").

@@ -30,11 +30,19 @@ jobIn s =
 unfoldable pub rawJobOf : List ℕ → JobAnswer
 rawJobOf s = unless (eqb (length s) jobBytes) (answer.Refused 1) (answer.Job (jobIn s))
 
--- A job: 1, then 2 for a byte that must be zero and is not, 6 for the window, 7 for the tolerance.
-unfoldable pub jobOf : List ℕ → JobAnswer
-jobOf s =
+-- The same, then 2 for a byte that must be zero and is not.
+unfoldable pub formedJobOf : List ℕ → JobAnswer
+formedJobOf s =
     unless (eqb (length s) jobBytes) (answer.Refused 1)
-    (unless (areZero 3 s 9 && areZero 8 s 24) (answer.Refused 2)
-    (unless (isWindow (jobIn s .window)) (answer.Refused 6)
-    (unless (leb (jobIn s .tolerance) mostTolerance) (answer.Refused 7)
-    (answer.Job (jobIn s)))))
+    (unless (areZero 3 s 9 && areZero 8 s 24) (answer.Refused 2) (answer.Job (jobIn s)))
+
+-- A job that is well-formed is accepted: 6 for the window, then 7 for the tolerance.
+unfoldable pub acceptedJob : JobAnswer → JobAnswer
+acceptedJob (answer.Job j) =
+    unless (isWindow (j .window)) (answer.Refused 6)
+    (unless (leb (j .tolerance) mostTolerance) (answer.Refused 7) (answer.Job j))
+acceptedJob (answer.Refused number) = answer.Refused number
+
+-- A job: 1, 2, 6, 7 in this order.
+unfoldable pub jobOf : List ℕ → JobAnswer
+jobOf s = acceptedJob (formedJobOf s)

@@ -17,6 +17,8 @@ use Rattle.records.specs.declared.LogRecord.{LogRecord}
 use Rattle.records.specs.declared.LogRecord.the-variants as log
 use Rattle.records.specs.declared.LogEntry.{LogEntry}
 use Rattle.records.specs.declared.LogEntry.the-variants as entry
+use Rattle.records.specs.declared.Pair.{Pair}
+use Rattle.records.specs.declared.Pair.the-variants as pair
 use Rattle.records.specs.Bytes.{byteAt, numberIn, areZero, unless}
 
 -- The bytes of a log record.
@@ -70,16 +72,21 @@ isPlace (negsuc e) n = false
 unfoldable pub placed : ℤ → ℤ → LogEntry
 placed e n = unless (isPlace e n) (entry.Refused 4) (entry.Place (record { easting = natAbs e; northing = natAbs n }))
 
--- What two numbers give: 3 where one of them cannot be used.
-abbrev pub withBoth : (ℤ → ℤ → LogEntry) → Whole → Whole → LogEntry
-withBoth give (whole.Centimetres x) (whole.Centimetres y) = give x y
-withBoth give (whole.Centimetres x) whole.Refused = entry.Refused 3
-withBoth give whole.Refused second = entry.Refused 3
+-- Two numbers in whole centimetres, or that one of them cannot be used.
+abbrev pub pairOf : Whole → Whole → Pair
+pairOf (whole.Centimetres x) (whole.Centimetres y) = pair.Both x y
+pairOf (whole.Centimetres x) whole.Refused = pair.Unusable
+pairOf whole.Refused second = pair.Unusable
+
+-- What they give, or 3.
+abbrev pub withPair : (ℤ → ℤ → LogEntry) → Pair → LogEntry
+withPair give (pair.Both x y) = give x y
+withPair give pair.Unusable = entry.Refused 3
 
 -- A log record in whole centimetres. Both numbers are tested for 3 before the place is for 4.
 unfoldable pub inCentimetres : LogRecord → LogEntry
-inCentimetres (log.Hyperbolic a b) = withBoth entry.Readings (centimetresOf a) (centimetresOf b)
-inCentimetres (log.Grid e n) = withBoth placed (centimetresOf e) (centimetresOf n)
+inCentimetres (log.Hyperbolic a b) = withPair entry.Readings (pairOf (centimetresOf a) (centimetresOf b))
+inCentimetres (log.Grid e n) = withPair placed (pairOf (centimetresOf e) (centimetresOf n))
 inCentimetres log.Hold = entry.Hold
 inCentimetres (log.Refused number) = entry.Refused number
 

@@ -6,12 +6,13 @@ ghost use Prim.Native.Nat.{ℕ, _+_, _≤_};
 ghost use lib.ListN.{length};
 ghost use Rattle.fields.specs.Fields.{fieldAt};
 ghost use Rattle.metres.specs.Metres.{centimetresOf};
+ghost use Rattle.records.specs.declared.JobAnswer.the-variants as answer;
 ghost use Rattle.records.specs.declared.LogEntry.the-variants as entry;
-ghost use Rattle.records.specs.Bytes.{byteAt, numberIn, areZero};
-ghost use Rattle.records.specs.LogRecords.{logBytes, rawRecordOf, isHyperbolic, isGrid, isHold, logRecordOf, isPlace, placed, logEntryOf};
+ghost use Rattle.records.specs.Bytes.{byteAt, numberIn, areZero, pieceEnd};
+ghost use Rattle.records.specs.LogRecords.{logBytes, rawRecordOf, isHyperbolic, isGrid, isHold, logRecordOf, isPlace, placed, pairOf, withPair, logEntryOf};
 ghost use Rattle.records.specs.ChainTables.{chainBytes, isTable, oneTo, chainCountOf, placeAt, chainAt, rawChainOf, chainOf};
-ghost use Rattle.records.specs.Jobs.{jobBytes, jobIn, rawJobOf, jobOf};
-ghost use Rattle.records.specs.Gathered.{IsRaw, pairOf, given};
+ghost use Rattle.records.specs.Jobs.{jobBytes, jobIn, rawJobOf, formedJobOf, acceptedJob, jobOf};
+ghost use Rattle.records.specs.Gathered.{IsRaw};
 use chart::Chain;
 use chart::Place;
 use fields::Eight;
@@ -151,6 +152,16 @@ pub fn is_place(x: i64, y: i64) -> bool
     })
 }
 
+// Whether a number is from 1 to another.
+pub fn one_to(most: usize, n: u32) -> bool
+    ensures { λ r. ⌜ r ≡ oneTo most n ⌝ }
+{
+    if n == 0 {
+        return false;
+    }
+    n as usize <= most
+}
+
 // How many chains there are in the bytes of a table.
 pub fn chain_count(s: &[u8]) -> ChainCount
     ensures { λ r. ⌜ r ≡ chainCountOf (now (s .entry)) ⌝ }
@@ -198,9 +209,9 @@ pub fn raw_job(s: &[u8]) -> JobAnswer
     JobAnswer::Refused(1)
 }
 
-// The job in 32 bytes.
-pub fn job_of(s: &[u8]) -> JobAnswer
-    ensures { λ r. ⌜ r ≡ jobOf (now (s .entry)) ⌝ }
+// The same where the bytes that must be zero are. Window and tolerance are not looked at.
+pub fn formed_job(s: &[u8]) -> JobAnswer
+    ensures { λ r. ⌜ r ≡ formedJobOf (now (s .entry)) ⌝ }
 {
     if s.len() != JOB_BYTES {
         return JobAnswer::Refused(1);
@@ -208,7 +219,23 @@ pub fn job_of(s: &[u8]) -> JobAnswer
     if !job_zeros(s) {
         return JobAnswer::Refused(2);
     }
-    let j = job_in(s);
+    JobAnswer::Job(job_in(s))
+}
+
+// The job in 32 bytes.
+pub fn job_of(s: &[u8]) -> JobAnswer
+    ensures { λ r. ⌜ r ≡ jobOf (now (s .entry)) ⌝ }
+{
+    match formed_job(s) {
+        JobAnswer::Job(j) => accepted(j),
+        JobAnswer::Refused(number) => JobAnswer::Refused(number),
+    }
+}
+
+// A job that is well-formed.
+fn accepted(j: Job) -> JobAnswer
+    ensures { λ r. ⌜ r ≡ acceptedJob (answer.Job j) ⌝ }
+{
     if !search::is_window(j.window) {
         return JobAnswer::Refused(6);
     }
@@ -216,6 +243,19 @@ pub fn job_of(s: &[u8]) -> JobAnswer
         return JobAnswer::Refused(7);
     }
     JobAnswer::Job(j)
+}
+
+// Where the piece of so many bytes ends that begins at done, in a text of so many in all: the last may be shorter.
+pub fn piece_end(done: usize, bytes: usize, length: usize) -> usize
+    ensures { λ r. ⌜ r ≡ pieceEnd done bytes length ⌝ }
+{
+    if bytes > length {
+        return length;
+    }
+    if done > length - bytes {
+        return length;
+    }
+    done + bytes
 }
 
 fn gathered(s: &[u8]) -> RawRecord
@@ -340,7 +380,7 @@ fn both(x: f64, y: f64) -> Pair
 }
 
 fn readings(p: Pair) -> LogEntry
-    ensures { λ r. ⌜ r ≡ given entry.Readings p ⌝ }
+    ensures { λ r. ⌜ r ≡ withPair entry.Readings p ⌝ }
 {
     match p {
         Pair::Both { x, y } => LogEntry::Readings { a: x, b: y },
@@ -349,7 +389,7 @@ fn readings(p: Pair) -> LogEntry
 }
 
 fn place(p: Pair) -> LogEntry
-    ensures { λ r. ⌜ r ≡ given placed p ⌝ }
+    ensures { λ r. ⌜ r ≡ withPair placed p ⌝ }
 {
     let Pair::Both { x, y } = p else {
         return LogEntry::Refused(3);
@@ -374,15 +414,6 @@ fn is_table(s: &[u8]) -> bool
         return false;
     }
     s.len() / CHAIN_BYTES <= MOST_CHAINS
-}
-
-fn one_to(most: usize, n: u32) -> bool
-    ensures { λ r. ⌜ r ≡ oneTo most n ⌝ }
-{
-    if n == 0 {
-        return false;
-    }
-    n as usize <= most
 }
 
 fn chain_at(s: &[u8], at: usize) -> Chain

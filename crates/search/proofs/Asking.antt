@@ -17,12 +17,12 @@ use Rattle.chart.proofs.ChainLaws.{stations-in-range}
 use Rattle.search.specs.declared.Wish.{Wish}
 use Rattle.search.specs.declared.Hunt.{Hunt}
 use Rattle.search.specs.Questions.{Question, questionOf, mostReading, mostTolerance, noneTooLarge}
-use Rattle.search.specs.Holding.{above, below, wantedBy, questionBy, Fair, Ready}
+use Rattle.search.specs.Holding.{aboveZero, belowZero, wantedBy, questionBy, Fair, Ready}
 use Rattle.search.proofs.Signs.{made-again, above-small, below-small}
 
 -- A reading as a wish.
 abbrev pub wishOf : Place → ℤ → Wish
-wishOf slave r = record { slave = slave; above = above r; below = below r }
+wishOf slave r = record { slave = slave; above = aboveZero r; below = belowZero r }
 
 wanted-again : (slave : Place) (r : ℤ) → wantedBy (wishOf slave r) ≡ record { slave = slave; reading = r }
 wanted-again slave r = ap (λ (z : ℤ). record { slave = slave; reading = z }) (made-again r)

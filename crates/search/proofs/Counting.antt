@@ -5,10 +5,11 @@ use mathlib.Core.Bool.{Bool, true, false}
 use native.Mathlib.Omega.{arith}
 use native.Mathlib.Nat.{pow-succ'}
 use native.Mathlib.Numerals.{add-one}
+use Rattle.fields.specs.Choices.{whereSo}
 use Rattle.chart.specs.declared.Place.{Place}
 use Rattle.search.specs.Windows.{east, north, northEast}
 use Rattle.search.specs.Questions.{Rule, isKept}
-use Rattle.search.specs.Cells.{whereSo, visitsOf, mostVisits}
+use Rattle.search.specs.Cells.{visitsOf, mostVisits}
 
 tower : ℕ → ℕ
 tower zero = 1
@@ -28,7 +29,7 @@ third m = omega arith
 most-is : (k : ℕ) → mostVisits k ≡ tower k
 most-is k = ap (λ (x : ℕ). (x - 1) / 3) (power-is k) ∙ third (tower k)
 
-where-at-most : (b : Bool) (n m : ℕ) → n ≤ m → whereSo b (λ _. n) ≤ m
+where-at-most : (b : Bool) (n m : ℕ) → n ≤ m → whereSo b 0 (λ _. n) ≤ m
 where-at-most true n m h = h
 where-at-most false n m h = omega arith
 

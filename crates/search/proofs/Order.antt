@@ -104,14 +104,14 @@ module _ (number : Place → ℕ) where
       (rises-append middle l m (tail-rises p l rl) rm (λ o i. below o (List·Memᴰ·tail i)) above)
 
   -- A rising list whose numbers are low or more and less than high.
-  record Span (low high : ℕ) (l : List Place) : Type 0 where
+  record Stretch (low high : ℕ) (l : List Place) : Type 0 where
     rises : Rises number l
     ordered : low ≤ high
     from : (o : Place) → List·Memᴰ o l → low ≤ number o
     to : (o : Place) → List·Memᴰ o l → number o < high
 
-  span-append : {low middle high : ℕ} {l m : List Place} → Span low middle l → Span middle high m → Span low high (l ++ m)
-  span-append {low} {middle} {high} {l} {m} s t =
+  stretch-append : {low middle high : ℕ} {l m : List Place} → Stretch low middle l → Stretch middle high m → Stretch low high (l ++ m)
+  stretch-append {low} {middle} {high} {l} {m} s t =
       record {
         rises = rises-append middle l m (s .rises) (t .rises) (s .to) (t .from);
         ordered = omega arith;
@@ -146,8 +146,8 @@ quarter-number k a b p r s o m =
     ap₂ (interleave (suc k)) (omega arith) (omega arith)
     ∙ top-bits k a b (o .easting - r .easting) (o .northing - r .northing) (s .bit-a) (s .bit-b) (omega arith) (omega arith)
 
-quarter-span : (k a b : ℕ) (p r : Place) → IsQuarter k a b p r → Rises (numberFrom k r) (cells k r) → Span (numberFrom (suc k) p) (4 ^ k * (2 * b + a)) (4 ^ k * (2 * b + a + 1)) (cells k r)
-quarter-span k a b p r s rises =
+quarter-stretch : (k a b : ℕ) (p r : Place) → IsQuarter k a b p r → Rises (numberFrom k r) (cells k r) → Stretch (numberFrom (suc k) p) (4 ^ k * (2 * b + a)) (4 ^ k * (2 * b + a + 1)) (cells k r)
+quarter-stretch k a b p r s rises =
     let number = quarter-number k a b p r s in
     let next = mul-add (4 ^ k) (2 * b + a) 1 in
     record {
@@ -162,11 +162,11 @@ unfolding cells Rises
 square-rises zero p = tt
 square-rises (suc k) p =
     let number : Place → ℕ = numberFrom (suc k) p in
-    let sw = quarter-span k 0 0 p p (omega arith) (square-rises k p) in
-    let se = quarter-span k 1 0 p (east (2 ^ k) p) (omega arith) (square-rises k (east (2 ^ k) p)) in
-    let nw = quarter-span k 0 1 p (north (2 ^ k) p) (omega arith) (square-rises k (north (2 ^ k) p)) in
-    let ne = quarter-span k 1 1 p (northEast (2 ^ k) p) (omega arith) (square-rises k (northEast (2 ^ k) p)) in
-    span-append number sw (span-append number se (span-append number nw ne)) .rises
+    let sw = quarter-stretch k 0 0 p p (omega arith) (square-rises k p) in
+    let se = quarter-stretch k 1 0 p (east (2 ^ k) p) (omega arith) (square-rises k (east (2 ^ k) p)) in
+    let nw = quarter-stretch k 0 1 p (north (2 ^ k) p) (omega arith) (square-rises k (north (2 ^ k) p)) in
+    let ne = quarter-stretch k 1 1 p (northEast (2 ^ k) p) (omega arith) (square-rises k (northEast (2 ^ k) p)) in
+    stretch-append number sw (stretch-append number se (stretch-append number nw ne)) .rises
 
 -- The cells of a window, quarter by quarter, stand in chart order.
 pub cells-rise : (w : Window) → Rises (chartNumber w) (cells (w .k) (w .corner))

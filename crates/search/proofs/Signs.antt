@@ -7,27 +7,27 @@ use borrow.Author.Tests.{ltb-true}
 use lib.IntN.{ℤ, pos, negsuc, natAbs, subℕ}
 use lib.Signed.{ltZ}
 use Rattle.chart.proofs.Differing.{nothing-less, all-less}
-use Rattle.search.specs.Holding.{above, below}
+use Rattle.search.specs.Holding.{aboveZero, belowZero}
 
 -- A number below 0 has all its size there; any other has it above.
-pub below-zero : (z : ℤ) → ltZ z (pos 0) ≡ true → (above z ≡ 0) × (below z ≡ natAbs z)
+pub below-zero : (z : ℤ) → ltZ z (pos 0) ≡ true → (aboveZero z ≡ 0) × (belowZero z ≡ natAbs z)
 below-zero (pos n) e = absurd (omega (arith, ltb-true n 0 e))
 below-zero (negsuc n) e = (refl, refl)
 
-pub not-below-zero : (z : ℤ) → ltZ z (pos 0) ≡ false → (above z ≡ natAbs z) × (below z ≡ 0)
+pub not-below-zero : (z : ℤ) → ltZ z (pos 0) ≡ false → (aboveZero z ≡ natAbs z) × (belowZero z ≡ 0)
 not-below-zero (pos n) e = (refl, refl)
 not-below-zero (negsuc n) e = absurd (true≢false e)
 
 -- The two make the number again.
-pub made-again : (z : ℤ) → subℕ (above z) (below z) ≡ z
+pub made-again : (z : ℤ) → subℕ (aboveZero z) (belowZero z) ≡ z
 made-again (pos n) = nothing-less n
 made-again (negsuc n) = all-less n
 
 -- Neither is larger than its size.
-pub above-small : (z : ℤ) → above z ≤ natAbs z
+pub above-small : (z : ℤ) → aboveZero z ≤ natAbs z
 above-small (pos n) = omega arith
 above-small (negsuc n) = omega arith
 
-pub below-small : (z : ℤ) → below z ≤ natAbs z
+pub below-small : (z : ℤ) → belowZero z ≤ natAbs z
 below-small (pos n) = omega arith
 below-small (negsuc n) = omega arith

@@ -16,7 +16,7 @@ use Rattle.search.specs.declared.Window.{Window}
 use Rattle.search.specs.Windows.{IsCellIn}
 use Rattle.search.specs.Questions.{Question, questionOf, matches}
 use Rattle.search.specs.Answers.{Outcome, gone, Accepted, searchOf, searchFigures, figuresIn}
-use Rattle.search.specs.Cells.{chartNumber, Rises, matching, matchingIn, visitsIn, mostVisits, IsMatch, Listed, AmpleRoom, AmpleAllowance}
+use Rattle.search.specs.Cells.{chartNumber, Rises, matching, matchingIn, visitsIn, mostVisits, IsMatch, IsListed, AmpleRoom, AmpleAllowance}
 use Rattle.search.proofs.CellLaws.{those-none, cell-inside, matching-all, matching-only}
 use Rattle.search.proofs.Order.{rising-only}
 use Rattle.search.proofs.Counting.{at-most}
@@ -25,16 +25,16 @@ use Rattle.search.proofs.Telling.{gone-places, gone-visits, gone-count,
 
 module _ (q : Question) (w : Window) where
   -- No cell is listed that does not lie in the window and match, whatever the room and the allowance.
-  pub listed-matches : (o : Place) → Listed o (searchOf q w .places) → IsMatch (q .rule) w o
+  pub listed-matches : (o : Place) → IsListed o (searchOf q w .places) → IsMatch (q .rule) w o
   listed-matches o m = matching-only (q .rule) (w .k) (w .corner) o (places-of q w (searchOf q w) (ending q w) o m)
 
   -- With room and allowance ample, a cell is listed exactly if it lies in the window and matches.
   pub listed-iff-matches : Accepted (q .rule) w → AmpleRoom q w → AmpleAllowance q w → (o : Place) →
-      (Listed o (searchOf q w .places) → IsMatch (q .rule) w o) × (IsMatch (q .rule) w o → Listed o (searchOf q w .places))
+      (IsListed o (searchOf q w .places) → IsMatch (q .rule) w o) × (IsMatch (q .rule) w o → IsListed o (searchOf q w .places))
   listed-iff-matches a room enough o = (
     listed-matches o,
     λ h.
-        subst⁻¹ (Listed o) (ap (λ (x : Outcome). x .places) (ample-complete q w a enough room) ∙ gone-places (matchingIn (q .rule) w) (visitsIn (q .rule) w))
+        subst⁻¹ (IsListed o) (ap (λ (x : Outcome). x .places) (ample-complete q w a enough room) ∙ gone-places (matchingIn (q .rule) w) (visitsIn (q .rule) w))
         (matching-all (q .rule) (w .k) (w .corner) o (h .0) (h .1)),
   )
 
@@ -44,7 +44,7 @@ module _ (q : Question) (w : Window) where
 
   -- Any list with these two properties is the list of the search.
   pub only-list : Accepted (q .rule) w → AmpleRoom q w → AmpleAllowance q w → (l : List Place) →
-      ((o : Place) → Listed o l → IsMatch (q .rule) w o) → ((o : Place) → IsMatch (q .rule) w o → Listed o l) → Rises (chartNumber w) l →
+      ((o : Place) → IsListed o l → IsMatch (q .rule) w o) → ((o : Place) → IsMatch (q .rule) w o → IsListed o l) → Rises (chartNumber w) l →
       l ≡ searchOf q w .places
   only-list a room enough l right all rises =
       rising-only (chartNumber w) l (searchOf q w .places) rises numbers-rise
@@ -101,7 +101,7 @@ module _ (q : Question) (w : Window) where
 -- A place's own readings find that place, with room and allowance ample.
 pub own-readings-found : (c : Chain) (p : Place) (w : Window) (tolerance allowance entries : ℕ) →
     let q = questionOf c (readingsOf c p) tolerance allowance entries in
-    Accepted (q .rule) w → AmpleRoom q w → AmpleAllowance q w → IsCellIn w p → Listed p (searchOf q w .places)
+    Accepted (q .rule) w → AmpleRoom q w → AmpleAllowance q w → IsCellIn w p → IsListed p (searchOf q w .places)
 own-readings-found c p w tolerance allowance entries a room enough i =
     listed-iff-matches (questionOf c (readingsOf c p) tolerance allowance entries) w a room enough p .1
     (i, own-match tolerance c p)

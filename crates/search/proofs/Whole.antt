@@ -72,10 +72,10 @@ after-quarters rule k p ps v e =
     (omega (arith, visits-kept rule k p e))
 
 -- What a square of side 2 ^ k is to do to a walk, if it can.
-abbrev pub Whole : Question → ℕ → Place → Type 0
-Whole q k p = (ps : List Place) (v : ℕ) → v + visitsOf (q .rule) k p ≤ q .limits .allowance → length ps + length (matching (q .rule) k p) ≤ q .limits .room → visit q k p (going ps v) ≡ after (q .rule) k p ps v
+abbrev pub IsWhole : Question → ℕ → Place → Type 0
+IsWhole q k p = (ps : List Place) (v : ℕ) → v + visitsOf (q .rule) k p ≤ q .limits .allowance → length ps + length (matching (q .rule) k p) ≤ q .limits .room → visit q k p (going ps v) ≡ after (q .rule) k p ps v
 
-cell-whole : (q : Question) (p : Place) (b : Bool) → matches (q .rule) p ≡ b → Whole q 0 p
+cell-whole : (q : Question) (p : Place) (b : Bool) → matches (q .rule) p ≡ b → IsWhole q 0 p
 unfolding visitsOf
 cell-whole q p true e ps v a r =
     visit-cell q p (going ps v) refl (omega arith)
@@ -86,7 +86,7 @@ cell-whole q p false e ps v a r =
     ∙ cell-missed q p (going ps (v + 1)) e
     ∙ after-missed (q .rule) p ps v e
 
-square-whole : (q : Question) (k : ℕ) (p : Place) → ((o : Place) → Whole q k o) → (b : Bool) → isKept (q .rule) k p ≡ b → Whole q (suc k) p
+square-whole : (q : Question) (k : ℕ) (p : Place) → ((o : Place) → IsWhole q k o) → (b : Bool) → isKept (q .rule) k p ≡ b → IsWhole q (suc k) p
 square-whole q k p ih false e ps v a r =
     visit-square q k p (going ps v) refl (omega (arith, one-visit (q .rule) (suc k) p))
     ∙ ap (λ (b : Bool). either b (quarters q k p) unchanged (going ps (v + 1))) e
@@ -115,6 +115,6 @@ square-whole q k p ih true e ps v a r =
     ∙ after-quarters (q .rule) k p ps v e
 
 -- With room and allowance a square's matching cells are listed, in as many visits as it takes.
-pub whole : (q : Question) (k : ℕ) (p : Place) → Whole q k p
+pub whole : (q : Question) (k : ℕ) (p : Place) → IsWhole q k p
 whole q zero p = cell-whole q p (matches (q .rule) p) refl
 whole q (suc k) p = square-whole q k p (λ o. whole q k o) (isKept (q .rule) k p) refl

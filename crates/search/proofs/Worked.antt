@@ -5,26 +5,22 @@ use mathlib.Core.Path.{_≡_, refl}
 use mathlib.Core.List.{List, [], _∷_}
 use lib.IntN.{ℤ, negsuc}
 use Rattle.squares.specs.Root.{root}
-use Rattle.chart.specs.declared.Place.{Place}
-use Rattle.chart.specs.Places.{distanceOf}
+use Rattle.chart.specs.Places.{placeOf, distanceOf}
 use Rattle.chart.specs.Readings.{rangeOf, readingOf, differ, within}
 use Rattle.search.specs.declared.Window.{Window}
 use Rattle.search.specs.Questions.{Rule, ruleOf}
 use Rattle.search.specs.Answers.{entriesOf, listOf}
 use Rattle.search.specs.Cells.{interleave, chartNumber, visitsOf}
 
-abbrev at : ℕ → ℕ → Place
-at e n = record { easting = e; northing = n }
-
 -- Chain 1 with readings and a tolerance.
 abbrev asked : List ℤ → ℕ → Rule
-asked = ruleOf (record { master = at 0 0; a = at 30000 0; b = at 0 40000 })
+asked = ruleOf (record { master = placeOf 0 0; a = placeOf 30000 0; b = placeOf 0 40000 })
 
 abbrev window : ℕ → ℕ → ℕ → Window
-window e n k = record { corner = at e n; k = k }
+window e n k = record { corner = placeOf e n; k = k }
 
 -- The list of P4, of nine entries: the places, then zeros; and of any refusal.
-p4-list : listOf 9 (at 30000 40000 ∷ at 30001 40001 ∷ []) ≡ 30000 ∷ 40000 ∷ 30001 ∷ 40001 ∷ 0 ∷ 0 ∷ 0 ∷ 0 ∷ 0 ∷ []
+p4-list : listOf 9 (placeOf 30000 40000 ∷ placeOf 30001 40001 ∷ []) ≡ 30000 ∷ 40000 ∷ 30001 ∷ 40001 ∷ 0 ∷ 0 ∷ 0 ∷ 0 ∷ 0 ∷ []
 unfolding listOf entriesOf
 p4-list = refl
 
@@ -33,11 +29,11 @@ unfolding listOf entriesOf
 refused-list = refl
 
 -- Offsets 5 east (101) and 3 north (011) interleave to 011011, the northing bit first.
-chart-number : chartNumber (window 100 200 3) (at 105 203) ≡ 27
+chart-number : chartNumber (window 100 200 3) (placeOf 105 203) ≡ 27
 unfolding interleave
 chart-number = refl
 
 -- P4's window takes one visit and one for each quarter.
-p4-visits : visitsOf (asked (negsuc 9999 ∷ negsuc 19999 ∷ []) 0) 1 (at 30000 40000) ≡ 5
+p4-visits : visitsOf (asked (negsuc 9999 ∷ negsuc 19999 ∷ []) 0) 1 (placeOf 30000 40000) ≡ 5
 unfolding visitsOf within differ readingOf rangeOf distanceOf root
 p4-visits = refl

@@ -2,11 +2,12 @@
 -- (01, Numbers of refusal).
 use Prim.Native.Nat.{ℕ, _-_, _*_, _≤_}
 use mathlib.Core.Path.{_≡_}
-use mathlib.Core.Bool.{Bool, true, false, cond}
+use mathlib.Core.Bool.{true, cond}
 use mathlib.Core.List.{List, [], _∷_, _++_}
 use lib.Dec.{leb, eqb}
 use lib.IntN.{ℤ}
 use lib.ListN.{length, replicate}
+use Rattle.fields.specs.Choices.{whereSo}
 use Rattle.chart.specs.declared.Place.{Place}
 use Rattle.chart.specs.declared.Chain.{Chain}
 use Rattle.chart.specs.Chains.{isSound}
@@ -38,11 +39,6 @@ ended s =
     cond (eqb (s .stop) 10) (refused (AllowanceUsed (s .visits)))
     (cond (eqb (s .stop) 9) (refused (NoRoom (s .visits))) (gone (s .places) (s .visits)))
 
--- A test that fails is answered with its refusal; only else is the rest worked out.
-abbrev pub unless : Bool → Answer → (Unit {0} → Outcome) → Outcome
-unless true a rest = rest tt
-unless false a rest = refused a
-
 -- The tests before the walk all pass.
 pub record Accepted (rule : Rule) (w : Window) : Type 0 where
   pub readings : noneTooLarge (rule .wanted) ≡ true
@@ -50,13 +46,13 @@ pub record Accepted (rule : Rule) (w : Window) : Type 0 where
   pub window : isWindow w ≡ true
   pub tolerance : rule .tolerance ≤ mostTolerance
 
--- The search: 3, 5, 6, 7, then the walk.
+-- The search: 3, 5, 6, 7, each where its test fails, then the walk.
 unfoldable pub searchOf : Question → Window → Outcome
 searchOf q w =
-    unless (noneTooLarge (q .rule .wanted)) ReadingTooLarge (λ _.
-    unless (isSound (q .rule .chain)) Unsound (λ _.
-    unless (isWindow w) BadWindow (λ _.
-    unless (leb (q .rule .tolerance) mostTolerance) BadTolerance (λ _.
+    whereSo (noneTooLarge (q .rule .wanted)) (refused ReadingTooLarge) (λ _.
+    whereSo (isSound (q .rule .chain)) (refused Unsound) (λ _.
+    whereSo (isWindow w) (refused BadWindow) (λ _.
+    whereSo (leb (q .rule .tolerance) mostTolerance) (refused BadTolerance) (λ _.
     ended (visit q (w .k) (w .corner) start)))))
 
 -- Easting and northing of each place in turn.

@@ -5,6 +5,7 @@ use mathlib.Core.Path.{_≡_}
 use mathlib.Core.Bool.{Bool, true, false}
 use mathlib.Core.List.{List, [], _∷_, _++_, List·Memᴰ}
 use lib.ListN.{length}
+use Rattle.fields.specs.Choices.{whereSo}
 use Rattle.chart.specs.declared.Place.{Place}
 use Rattle.search.specs.declared.Window.{Window}
 use Rattle.search.specs.Windows.{east, north, northEast, IsCellIn}
@@ -44,16 +45,11 @@ those test (p ∷ ps) = ifSo (test p) p (those test ps)
 unfoldable pub matching : Rule → ℕ → Place → List Place
 matching rule k p = those (matches rule) (cells k p)
 
--- n, worked out only if so; else 0.
-abbrev pub whereSo : Bool → (Unit {0} → ℕ) → ℕ
-whereSo true n = n tt
-whereSo false n = 0
-
 -- The visits that a square takes: one, and those of its quarters where it is not dropped.
 unfoldable pub visitsOf : Rule → ℕ → Place → ℕ
 visitsOf rule zero p = 1
 visitsOf rule (suc k) p =
-    1 + whereSo (isKept rule k p)
+    1 + whereSo (isKept rule k p) 0
     (λ _. visitsOf rule k p + (visitsOf rule k (east (2 ^ k) p) + (visitsOf rule k (north (2 ^ k) p) + visitsOf rule k (northEast (2 ^ k) p))))
 
 -- The most that any square of side 2^k takes.
@@ -72,8 +68,8 @@ abbrev pub IsMatch : Rule → Window → Place → Type 0
 IsMatch rule w p = IsCellIn w p × (matches rule p ≡ true)
 
 -- A place stands in a list.
-abbrev pub Listed : Place → List Place → Type 0
-Listed p ps = List·Memᴰ p ps
+abbrev pub IsListed : Place → List Place → Type 0
+IsListed p ps = List·Memᴰ p ps
 
 -- Ample room: for every matching cell. Ample allowance: for every visit that the window takes.
 abbrev pub AmpleRoom : Question → Window → Type 0

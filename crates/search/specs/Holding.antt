@@ -16,13 +16,13 @@ use Rattle.search.specs.Walk.{Standing}
 use Rattle.search.specs.Answers.{entriesOf}
 
 -- How far a number lies above 0, and how far below.
-abbrev pub above : ℤ → ℕ
-above (pos n) = n
-above (negsuc n) = 0
+abbrev pub aboveZero : ℤ → ℕ
+aboveZero (pos n) = n
+aboveZero (negsuc n) = 0
 
-abbrev pub below : ℤ → ℕ
-below (pos n) = 0
-below (negsuc n) = suc n
+abbrev pub belowZero : ℤ → ℕ
+belowZero (pos n) = 0
+belowZero (negsuc n) = suc n
 
 -- A wish: the slave, and the reading that is wanted.
 abbrev pub wantedBy : Wish → Wanted

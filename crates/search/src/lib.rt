@@ -14,7 +14,7 @@ ghost use Rattle.search.specs.Questions.{noneTooLarge};
 ghost use Rattle.search.specs.Walk.{Standing, start};
 ghost use Rattle.search.specs.Walk as walk;
 ghost use Rattle.search.specs.Answers.{ended, listOf, searchLeft, searchFigures};
-ghost use Rattle.search.specs.Holding.{above, below, ruleBy, questionBy, Fair, Ready, OnChart, Holds};
+ghost use Rattle.search.specs.Holding.{aboveZero, belowZero, ruleBy, questionBy, Fair, Ready, OnChart, Holds};
 use chart::Chain;
 use chart::Place;
 
@@ -109,19 +109,19 @@ pub fn search(
     let chain = chart::sound(c);
     let window = is_window(w);
     if !readings {
-        clear(list, 0);
+        clear_entries(list, 0);
         return Answer::ReadingTooLarge;
     }
     if !chain {
-        clear(list, 0);
+        clear_entries(list, 0);
         return Answer::Unsound;
     }
     if !window {
-        clear(list, 0);
+        clear_entries(list, 0);
         return Answer::BadWindow;
     }
     if tolerance > MOST_TOLERANCE {
-        clear(list, 0);
+        clear_entries(list, 0);
         return Answer::BadTolerance;
     }
     let master = c.master;
@@ -179,7 +179,7 @@ fn none_too_large(ra: i64, rb: i64) -> bool
 }
 
 fn wished(slave: Place, reading: i64) -> Wish
-    ensures { λ r. ⌜ r ≡ record { slave = slave; above = above reading; below = below reading } ⌝ }
+    ensures { λ r. ⌜ r ≡ record { slave = slave; above = aboveZero reading; below = belowZero reading } ⌝ }
 {
     let size = metres::size(reading);
     if reading < 0 {
@@ -236,7 +236,7 @@ fn north_east(p: Place, d: u32) -> Place
 }
 
 // Every entry from a place on becomes zero.
-fn clear(list: &mut [u32], from: usize)
+pub fn clear_entries(list: &mut [u32], from: usize)
     ensures { λ _. ⌜ now (list .exit) ≡ take from (now (list .entry)) ++ replicate (length (now (list .entry)) - from) 0 ⌝ }
 {
     let mut i = from;
@@ -267,19 +267,19 @@ fn walked(list: &mut [u32], h: Hunt, w: Window) -> Answer
     );
     let visits = t.visits;
     if t.stop == 10 {
-        clear(list, 0); // what was found so far is no answer
+        clear_entries(list, 0); // what was found so far is no answer
         return Answer::AllowanceUsed { visits };
     }
     if t.stop == 9 {
-        clear(list, 0); // and no part of one
+        clear_entries(list, 0); // and no part of one
         return Answer::NoRoom { visits };
     }
     let count = t.count;
     if count == 0 {
-        clear(list, 0); // nothing was put, but the list may have held something
+        clear_entries(list, 0); // nothing was put, but the list may have held something
         return Answer::NoMatch { visits };
     }
-    clear(list, 2 * count);
+    clear_entries(list, 2 * count);
     Answer::Places { count, visits }
 }
 

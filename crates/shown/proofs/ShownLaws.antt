@@ -23,7 +23,7 @@ use Rattle.text.proofs.PutLaws.{put-none}
 use Rattle.shown.specs.declared.Line.the-variants.{Text, Refused}
 use Rattle.shown.specs.Fields.{hexText, refusedText, signText, decimalText, metresText}
 use Rattle.shown.specs.Expected.{byChain, byTable, writtenText}
-use Rattle.shown.specs.Rooms.{Reply, Says, lineFor, bufferFor, hasRoom, inRoom, Puts}
+use Rattle.shown.specs.Rooms.{Reply, Says, lineFor, bufferFor, hasLineRoom, inRoom, Puts}
 
 -- No text, and the same text.
 pub puts-none : (o : List ℕ) (at : ℕ) → Puts o at [] o at
@@ -80,10 +80,10 @@ unfolding writtenText
 written-told z h = rw (le-leb (natAbs z) mostCentimetres h)
 
 -- Room for two bytes each, without a product.
-pub half-room : (bytes count : ℕ) → 192 ≤ bytes → leb count ((bytes - 192) / 2) ≡ hasRoom bytes count
+pub half-room : (bytes count : ℕ) → 192 ≤ bytes → leb count ((bytes - 192) / 2) ≡ hasLineRoom bytes count
 half-room bytes count h = go (leb count ((bytes - 192) / 2)) refl
   where
-    go : (t : Bool) → leb count ((bytes - 192) / 2) ≡ t → t ≡ hasRoom bytes count
+    go : (t : Bool) → leb count ((bytes - 192) / 2) ≡ t → t ≡ hasLineRoom bytes count
     go true e = sym (le-leb (192 + 2 * count) bytes (omega (arith, h, leb-true count ((bytes - 192) / 2) e)))
     go false e = sym (lt-leb (192 + 2 * count) bytes (omega (arith, h, leb-false count ((bytes - 192) / 2) e)))
 
@@ -98,15 +98,15 @@ refused-some number s h =
     rw (ne-eqb number 0 h) (ap (λ (x : List ℕ). bytesIn " REFUSED" ++ (x ++ hexText s)) (append-nil (spaced number)))
 
 -- A line in its room, and without.
-pub with-room : (bytes count : ℕ) (reply : Reply) → hasRoom bytes count ≡ true → reply ≡ inRoom bytes count reply
+pub with-room : (bytes count : ℕ) (reply : Reply) → hasLineRoom bytes count ≡ true → reply ≡ inRoom bytes count reply
 with-room bytes count reply room = rw (room)
 
-pub without-room : (o : List ℕ) (count : ℕ) (reply : Reply) → hasRoom (length o) count ≡ false →
+pub without-room : (o : List ℕ) (count : ℕ) (reply : Reply) → hasLineRoom (length o) count ≡ false →
     (Refused 9 ≡ lineFor (inRoom (length o) count reply)) × (o ≡ bufferFor o (inRoom (length o) count reply))
 unfolding lineFor bufferFor
 without-room o count reply none = (rw (none), rw (none))
 
-pub answered : (o : List ℕ) (count : ℕ) (x : List ℕ) {o′ : List ℕ} {end : ℕ} → hasRoom (length o) count ≡ true → Puts o 0 x o′ end → length x ≤ 192 + 2 * count →
+pub answered : (o : List ℕ) (count : ℕ) (x : List ℕ) {o′ : List ℕ} {end : ℕ} → hasLineRoom (length o) count ≡ true → Puts o 0 x o′ end → length x ≤ 192 + 2 * count →
     (Text end ≡ lineFor (inRoom (length o) count (Says x))) × (o′ ≡ bufferFor o (inRoom (length o) count (Says x)))
 unfolding lineFor bufferFor
 answered o count x {o′} {end} room p few =

@@ -33,11 +33,11 @@ textOf (line.Refused number) = 0
 abbrev pub lineRoom : ℕ → ℕ
 lineRoom count = 192 + 2 * count
 
-abbrev pub hasRoom : ℕ → ℕ → Bool
-hasRoom bytes count = leb (lineRoom count) bytes
+abbrev pub hasLineRoom : ℕ → ℕ → Bool
+hasLineRoom bytes count = leb (lineRoom count) bytes
 
 abbrev pub inRoom : ℕ → ℕ → Reply → Reply
-inRoom bytes count reply = cond (hasRoom bytes count) reply (Refuses 9)
+inRoom bytes count reply = cond (hasLineRoom bytes count) reply (Refuses 9)
 
 -- All that is left of a text put into a buffer: what is answered, and every byte of the buffer.
 pub record Shown : Type 0 where

@@ -12,7 +12,7 @@ ghost use Rattle.text.specs.Texts.{figuresText, hexOf, bytesIn};
 ghost use Rattle.shown.specs.Fields.{centimetresText, decimalText, metresText, hexText, refusedText};
 ghost use Rattle.shown.specs.Lines.{jobText, jobLine, chainText, refusalIn, chainLine, rawText, recordText, recordLine};
 ghost use Rattle.shown.specs.Expected.{byChain, expectedIn, writtenText, slaveLine, expectedText};
-ghost use Rattle.shown.specs.Rooms.{Says, hasRoom, shownIn, replyOf, Puts};
+ghost use Rattle.shown.specs.Rooms.{Says, hasLineRoom, shownIn, replyOf, Puts};
 use chart::Expected;
 use chart::Place;
 use metres::Whole;
@@ -38,7 +38,7 @@ pub fn job(out: &mut [u8], s: &[u8]) -> Line
     ensures answer { λ r. ⌜ r ≡ shownIn (now (out .entry)) (length (now (s .entry))) (Says (jobLine (now (s .entry)))) .answer ⌝ }
     ensures out { λ _. ⌜ now (out .exit) ≡ shownIn (now (out .entry)) (length (now (s .entry))) (Says (jobLine (now (s .entry)))) .buffer ⌝ }
 {
-    if !has_room(out.len(), s.len()) {
+    if !has_line_room(out.len(), s.len()) {
         return Line::Refused(9);
     }
     let number = job_refusal(s);
@@ -52,7 +52,7 @@ pub fn chain(out: &mut [u8], number: u32, s: &[u8]) -> Line
     ensures answer { λ r. ⌜ r ≡ shownIn (now (out .entry)) (length (now (s .entry))) (Says (chainLine number (now (s .entry)))) .answer ⌝ }
     ensures out { λ _. ⌜ now (out .exit) ≡ shownIn (now (out .entry)) (length (now (s .entry))) (Says (chainLine number (now (s .entry)))) .buffer ⌝ }
 {
-    if !has_room(out.len(), s.len()) {
+    if !has_line_room(out.len(), s.len()) {
         return Line::Refused(9);
     }
     let refusal = chain_refusal(s);
@@ -66,7 +66,7 @@ pub fn record(out: &mut [u8], s: &[u8]) -> Line
     ensures answer { λ r. ⌜ r ≡ shownIn (now (out .entry)) (length (now (s .entry))) (Says (recordLine (now (s .entry)))) .answer ⌝ }
     ensures out { λ _. ⌜ now (out .exit) ≡ shownIn (now (out .entry)) (length (now (s .entry))) (Says (recordLine (now (s .entry)))) .buffer ⌝ }
 {
-    if !has_room(out.len(), s.len()) {
+    if !has_line_room(out.len(), s.len()) {
         return Line::Refused(9);
     }
     let number = entry_refusal(s);
@@ -80,7 +80,7 @@ pub fn expected(out: &mut [u8], table: &[u8], chain: u32, place: Place) -> Line
     ensures answer { λ r. ⌜ r ≡ shownIn (now (out .entry)) 0 (replyOf (expectedIn (now (table .entry)) chain place)) .answer ⌝ }
     ensures out { λ _. ⌜ now (out .exit) ≡ shownIn (now (out .entry)) 0 (replyOf (expectedIn (now (table .entry)) chain place)) .buffer ⌝ }
 {
-    if !has_room(out.len(), 0) {
+    if !has_line_room(out.len(), 0) {
         return Line::Refused(9);
     }
     match readings(table, chain, place) {
@@ -89,8 +89,8 @@ pub fn expected(out: &mut [u8], table: &[u8], chain: u32, place: Place) -> Line
     }
 }
 
-fn has_room(bytes: usize, count: usize) -> bool
-    ensures { λ r. ⌜ r ≡ hasRoom bytes count ⌝ }
+fn has_line_room(bytes: usize, count: usize) -> bool
+    ensures { λ r. ⌜ r ≡ hasLineRoom bytes count ⌝ }
 {
     if bytes < LINE_ROOM {
         return false;

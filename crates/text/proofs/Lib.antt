@@ -4,4 +4,5 @@ pub mod WholeLaws
 pub mod HexLaws
 pub mod FigureLaws
 pub mod PutLaws
+pub mod Series
 mod Worked

@@ -3,12 +3,12 @@ use Prim.Native.Nat.{ℕ, _+_, _≤_}
 use mathlib.Core.Path.{_≡_}
 use mathlib.Core.Bool.{Bool, cond}
 use mathlib.Core.List.{List, _++_}
-use lib.Dec.{leb}
 use lib.ListN.{length, take, drop}
+use Rattle.fields.specs.Fields.{liesInside}
 
 -- A buffer of so many bytes has room for a text from `at` on.
 abbrev pub roomFor : ℕ → ℕ → List ℕ → Bool
-roomFor bytes at text = leb (at + length text) bytes
+roomFor bytes at text = liesInside bytes at (length text)
 
 -- Where the text ends; without the room nothing is put, and that is `at`.
 unfoldable pub endAfter : ℕ → ℕ → List ℕ → ℕ

@@ -1,21 +1,17 @@
 -- Text as bytes in ASCII: numbers in decimal, bytes in hexadecimal, and quoted words (01, The program; docs/FORMATS.md, Text).
 use Prim.Native.Nat.{ℕ, zero, suc, _+_, _-_, _*_, _/_, _%_}
-use mathlib.Core.Bool.{Bool, true, false, cond}
+use mathlib.Core.Bool.{cond}
 use mathlib.Core.List.{List, [], _∷_, _++_}
 use lib.Dec.{leb, ltb}
 use lib.IntN.{ℤ, pos, negsuc}
 use Prim.Native.Char.{code}
 use Prim.Native.String.{String, [] as ε, _∷_ as _∷ˢ_}
-
--- Text that is worked out only if so; else none.
-abbrev pub whereSo : Bool → (Unit {0} → List ℕ) → List ℕ
-whereSo true text = text tt
-whereSo false text = []
+use Rattle.fields.specs.Choices.{whereSo}
 
 -- The last digits of a number, at most so many, and none in front of its first.
 unfoldable pub lastDigits : ℕ → ℕ → List ℕ
 lastDigits zero n = []
-lastDigits (suc most) n = whereSo (leb 10 n) (λ _. lastDigits most (n / 10)) ++ ((48 + n % 10) ∷ [])
+lastDigits (suc most) n = whereSo (leb 10 n) [] (λ _. lastDigits most (n / 10)) ++ ((48 + n % 10) ∷ [])
 
 -- A number in decimal without spare zeros. It has fewer digits than one more than itself.
 unfoldable pub digitsOf : ℕ → List ℕ

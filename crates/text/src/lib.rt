@@ -3,7 +3,6 @@
 ghost use mathlib.Core.Path.{_≡_};
 ghost use mathlib.Core.List.{_∷_, []};
 ghost use Prim.Native.Nat.{_+_, _*_, _≤_, _<_};
-ghost use lib.Dec.{leb};
 ghost use lib.ListN.{length};
 ghost use Rattle.text.specs.Texts.{digitsOf, wholeText, hexDigit, hexOf};
 ghost use Rattle.text.specs.Puts.{endAfter, withText, Put};
@@ -13,7 +12,7 @@ pub fn put(out: &mut [u8], at: usize, s: &[u8]) -> usize
     ensures end { λ r. ⌜ r ≡ endAfter (length (now (out .entry))) at (now (s .entry)) ⌝ }
     ensures out { λ _. ⌜ now (out .exit) ≡ withText (now (out .entry)) at (now (s .entry)) ⌝ }
 {
-    if !has_room(out.len(), at, s.len()) {
+    if !fields::lies_inside(out.len(), at, s.len()) {
         return at;
     }
     put_all(out, at, s)
@@ -24,7 +23,7 @@ pub fn put_number(out: &mut [u8], at: usize, n: u64) -> usize
     ensures end { λ r. ⌜ r ≡ endAfter (length (now (out .entry))) at (digitsOf n) ⌝ }
     ensures out { λ _. ⌜ now (out .exit) ≡ withText (now (out .entry)) at (digitsOf n) ⌝ }
 {
-    if !has_room(out.len(), at, digit_count(n)) {
+    if !fields::lies_inside(out.len(), at, digit_count(n)) {
         return at;
     }
     put_digits(out, at, n)
@@ -46,27 +45,15 @@ pub fn put_bytes(out: &mut [u8], at: usize, s: &[u8]) -> usize
     ensures end { λ r. ⌜ r ≡ endAfter (length (now (out .entry))) at (hexOf (now (s .entry))) ⌝ }
     ensures out { λ _. ⌜ now (out .exit) ≡ withText (now (out .entry)) at (hexOf (now (s .entry))) ⌝ }
 {
-    // Twice the length of s may be too large for a usize.
-    if !has_room(out.len(), at, s.len()) {
+    // Half of the digits, then the other: twice the length of s may be too large for a usize.
+    let half = s.len();
+    if !fields::lies_inside(out.len(), at, half) {
         return at;
     }
-    if !has_room(out.len(), at + s.len(), s.len()) {
+    if !fields::lies_inside(out.len(), at + half, half) {
         return at;
     }
     put_hex(out, at, s)
-}
-
-// Whether a buffer of so many bytes has room for so many more from `at` on. Their sum may be too large for a usize.
-fn has_room(bytes: usize, at: usize, more: usize) -> bool
-    ensures { λ r. ⌜ r ≡ leb (at + more) bytes ⌝ }
-{
-    if bytes < more {
-        return false;
-    }
-    if bytes - more < at {
-        return false;
-    }
-    true
 }
 
 fn put_all(out: &mut [u8], at: usize, s: &[u8]) -> usize
@@ -111,7 +98,7 @@ fn put_below(out: &mut [u8], at: usize, size: u64) -> usize
     ensures end { λ r. ⌜ r ≡ endAfter (length (now (out .entry))) at (45 ∷ digitsOf size) ⌝ }
     ensures out { λ _. ⌜ now (out .exit) ≡ withText (now (out .entry)) at (45 ∷ digitsOf size) ⌝ }
 {
-    if !has_room(out.len(), at, 1 + digit_count(size)) {
+    if !fields::lies_inside(out.len(), at, 1 + digit_count(size)) {
         return at;
     }
     let a = put_one(out, at, b'-');

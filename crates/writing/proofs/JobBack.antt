@@ -17,7 +17,7 @@ use Rattle.search.proofs.WindowLaws.{every-cell-in-range}
 use Rattle.records.specs.declared.Job.{Job}
 use Rattle.records.specs.declared.JobAnswer.the-variants as answer
 use Rattle.records.specs.Bytes.{allZero, unless}
-use Rattle.records.specs.Jobs.{jobIn, jobOf}
+use Rattle.records.specs.Jobs.{jobIn, formedJobOf, acceptedJob, jobOf}
 use Rattle.writing.specs.JobWriting.{bytesOfJob}
 use Rattle.writing.proofs.TableBack.{small-place}
 
@@ -43,7 +43,7 @@ module _ (j : Job) (window : isWindow (j .window) ≡ true) (few : j .tolerance 
 
   -- So does the job: the bytes that must be zero are, and its window and tolerance pass their tests.
   pub job-back : jobOf (bytesOfJob j) ≡ answer.Job j
-  unfolding jobOf bytesOfJob bytesOf allZero
+  unfolding jobOf acceptedJob formedJobOf bytesOfJob bytesOf allZero
   job-back =
       subst⁻¹
       (λ (i : Job).

@@ -12,6 +12,7 @@ use lib.Ieee.Fits.{div-fits}
 use borrow.Author.Tests.{leb-true}
 use Rattle.fields.specs.Fields.{valueOf, bytesOf}
 use Rattle.fields.proofs.FieldLaws.{value-bytes}
+use Rattle.metres.specs.declared.Whole.{Whole}
 use Rattle.metres.specs.declared.Whole.the-variants.{Centimetres}
 use Rattle.metres.specs.declared.Length.the-variants.{Metres, Refused}
 use Rattle.metres.specs.Metres.{mostCentimetres, centimetresOf, hundredthOf, metresOf, lengthFigures}
@@ -23,7 +24,7 @@ use Rattle.records.specs.declared.RawAnswer.the-variants as raw
 use Rattle.records.specs.declared.LogEntry.{LogEntry}
 use Rattle.records.specs.declared.LogEntry.the-variants as entry
 use Rattle.records.specs.Bytes.{allZero}
-use Rattle.records.specs.LogRecords.{rawRecordOf, logRecordOf, isPlace, placed, withBoth, inCentimetres, logEntryOf}
+use Rattle.records.specs.LogRecords.{rawRecordOf, logRecordOf, isPlace, placed, pairOf, withPair, inCentimetres, logEntryOf}
 use Rattle.records.proofs.RefusalLaws.{passed}
 use Rattle.writing.specs.declared.Draft.{Draft}
 use Rattle.writing.specs.Writing.{refusalOf, usedOf, inMetres, metresBytes, recordBytes, rawFor, entryFor}
@@ -47,10 +48,10 @@ metres-back z =
 
 -- Two numbers of centimetres that are written come back from theirs, and what they give with them.
 pair-back : (give : ℤ → ℤ → LogEntry) (x y : ℤ) → (leb (natAbs x) mostCentimetres && leb (natAbs y) mostCentimetres) ≡ true →
-    withBoth give (centimetresOf (numberOf (valueOf (metresBytes x)))) (centimetresOf (numberOf (valueOf (metresBytes y)))) ≡ give x y
+    withPair give (pairOf (centimetresOf (numberOf (valueOf (metresBytes x)))) (centimetresOf (numberOf (valueOf (metresBytes y))))) ≡ give x y
 pair-back give x y h =
     let two = both (leb (natAbs x) mostCentimetres) (leb (natAbs y) mostCentimetres) h in
-    ap₂ (withBoth give) (back x (two .0)) (back y (two .1))
+    ap₂ (λ (v w : Whole). withPair give (pairOf v w)) (back x (two .0)) (back y (two .1))
   where
     back : (z : ℤ) → leb (natAbs z) mostCentimetres ≡ true → centimetresOf (numberOf (valueOf (metresBytes z))) ≡ Centimetres z
     back z fits = ap centimetresOf (metres-back z) ∙ way-back z (leb-true _ _ fits)

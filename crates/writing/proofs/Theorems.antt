@@ -25,8 +25,8 @@ use Rattle.records.specs.LogRecords.{logBytes}
 use Rattle.records.specs.ChainTables.{chainBytes, mostChains, oneTo, chainCountOf, chainOf}
 use Rattle.records.specs.Jobs.{jobBytes, jobOf}
 use Rattle.records.specs.Refusals.{isAmong}
-use Rattle.records.proofs.TableLaws.{counted, chain-named}
-use Rattle.records.proofs.RefusalLaws.{Among, either}
+use Rattle.records.proofs.TableLaws.{table-counted, chain-named}
+use Rattle.records.proofs.RefusalLaws.{Among, unless-either}
 use Rattle.writing.specs.declared.Draft.{Draft}
 use Rattle.writing.specs.Writing.{isKind, numbersFit, placeFits, chainFits, refusalOf, usedOf, metresBytes, recordBytes, bufferOf, ReadsAs}
 use Rattle.writing.specs.ChainWriting.{chainRefusalOf, chainBufferOf, allSound, tableOf}
@@ -66,9 +66,9 @@ pub write-refusals : (bytes : ℕ) (d : Draft) → isAmong (refusalOf bytes d) (
 unfolding refusalOf isAmong
 write-refusals bytes d =
     let among = Among (λ (n : ℕ). n) (0 ∷ 1 ∷ 2 ∷ 3 ∷ 4 ∷ 5 ∷ []) in
-    either among (eqb bytes logBytes) refl
-    (either among (isKind (d .kind)) refl
-    (either among (numbersFit d) refl (either among (placeFits d) refl (either among (chainFits d) refl refl))))
+    unless-either among (eqb bytes logBytes) refl
+    (unless-either among (isKind (d .kind)) refl
+    (unless-either among (numbersFit d) refl (unless-either among (placeFits d) refl (unless-either among (chainFits d) refl refl))))
 
 -- The writer of chains accepts each of a list of sound ones, by its number. `other` is what would stand past the last, where
 -- no number goes.
@@ -79,7 +79,7 @@ chains-written cs number other sound first last =
 
 -- 1 to 16 chains that are written one behind the other are a table of as many.
 pub chains-counted : (cs : List Chain) → 1 ≤ length cs → length cs ≤ mostChains → chainCountOf (tableOf cs) ≡ count.Chains (length cs)
-chains-counted cs some few = counted (tableOf cs) (is-table cs some few) ∙ ap count.Chains (chains-there cs)
+chains-counted cs some few = table-counted (tableOf cs) (is-table cs some few) ∙ ap count.Chains (chains-there cs)
 
 -- Each of them, if all are sound, is read back by its number.
 pub chains-read-back : (cs : List Chain) (number : ℕ) (other : Chain) → allSound cs ≡ true → length cs ≤ mostChains →
@@ -113,11 +113,11 @@ pub chain-write-refusals : (bytes : ℕ) (c : Chain) → isAmong (chainRefusalOf
 unfolding chainRefusalOf isAmong
 chain-write-refusals bytes c =
     let among = Among (λ (n : ℕ). n) (0 ∷ 1 ∷ 5 ∷ []) in
-    either among (eqb bytes chainBytes) refl (either among (isSound c) refl refl)
+    unless-either among (eqb bytes chainBytes) refl (unless-either among (isSound c) refl refl)
 
 pub job-write-refusals : (bytes : ℕ) (j : Job) → isAmong (jobRefusalOf bytes j) (0 ∷ 1 ∷ 6 ∷ 7 ∷ []) ≡ true
 unfolding jobRefusalOf isAmong
 job-write-refusals bytes j =
     let among = Among (λ (n : ℕ). n) (0 ∷ 1 ∷ 6 ∷ 7 ∷ []) in
-    either among (eqb bytes jobBytes) refl
-    (either among (isWindow (j .window)) refl (either among (leb (j .tolerance) mostTolerance) refl refl))
+    unless-either among (eqb bytes jobBytes) refl
+    (unless-either among (isWindow (j .window)) refl (unless-either among (leb (j .tolerance) mostTolerance) refl refl))

@@ -3,7 +3,7 @@ ghost use mathlib.Core.Path.{_≡_};
 ghost use Prim.Native.Nat.{_+_, _≤_, _<_};
 ghost use lib.ListN.{length, replicate};
 ghost use Rattle.records.specs.LogRecords.{logBytes};
-ghost use Rattle.records.specs.ChainTables.{chainBytes, oneTo};
+ghost use Rattle.records.specs.ChainTables.{chainBytes};
 ghost use Rattle.records.specs.Jobs.{jobBytes};
 ghost use Rattle.writing.specs.Writing.{numbersFit, placeFits, chainFits, refusalOf, usedOf, inMetres, recordBytes, bufferOf};
 ghost use Rattle.writing.specs.ChainWriting.{putPlaceAt, bytesOfChain, chainRefusalOf, chainBufferOf};
@@ -32,7 +32,7 @@ pub fn write(buffer: &mut [u8], d: Draft) -> u32
     ensures buffer { λ r. ⌜ now (buffer .exit) ≡ bufferOf (length (now (buffer .entry))) d ⌝ }
 {
     let refusal = refusal_of(buffer.len(), d);
-    clear(buffer);
+    clear_buffer(buffer);
     if refusal != 0 {
         return refusal;
     }
@@ -46,7 +46,7 @@ pub fn write_chain(buffer: &mut [u8], c: Chain) -> u32
     ensures buffer { λ r. ⌜ now (buffer .exit) ≡ chainBufferOf (length (now (buffer .entry))) c ⌝ }
 {
     let refusal = chain_refusal(buffer.len(), c);
-    clear(buffer);
+    clear_buffer(buffer);
     if refusal != 0 {
         return refusal;
     }
@@ -60,7 +60,7 @@ pub fn write_job(buffer: &mut [u8], j: Job) -> u32
     ensures buffer { λ r. ⌜ now (buffer .exit) ≡ jobBufferOf (length (now (buffer .entry))) j ⌝ }
 {
     let refusal = job_refusal(buffer.len(), j);
-    clear(buffer);
+    clear_buffer(buffer);
     if refusal != 0 {
         return refusal;
     }
@@ -72,7 +72,7 @@ pub fn write_job(buffer: &mut [u8], j: Job) -> u32
 fn refusal_of(bytes: usize, d: Draft) -> u32
     ensures { λ r. ⌜ r ≡ refusalOf bytes d ⌝ }
 {
-    let kind = one_to(3, d.kind);
+    let kind = records::one_to(3, d.kind);
     let numbers = numbers_fit(d);
     let place = place_fits(d);
     let chain = chain_fits(d);
@@ -121,16 +121,7 @@ fn chain_fits(d: Draft) -> bool
     if d.kind != 1 {
         return true;
     }
-    one_to(MOST_CHAINS, d.chain)
-}
-
-fn one_to(most: usize, n: u32) -> bool
-    ensures { λ r. ⌜ r ≡ oneTo most n ⌝ }
-{
-    if n == 0 {
-        return false;
-    }
-    n as usize <= most
+    records::one_to(MOST_CHAINS, d.chain)
 }
 
 // A draft with 0 for what its kind does not use.
@@ -160,7 +151,8 @@ fn used(d: Draft) -> Draft
     }
 }
 
-fn clear(buffer: &mut [u8])
+// Every byte of a buffer becomes zero.
+pub fn clear_buffer(buffer: &mut [u8])
     ensures { λ _. ⌜ now (buffer .exit) ≡ replicate (length (now (buffer .entry))) 0 ⌝ }
 {
     let mut i = 0;

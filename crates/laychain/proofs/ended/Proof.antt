@@ -2,9 +2,9 @@
 use borrow.Author.Needs.{needs}
 use mathlib.Core.Bool.{cond}
 use mathlib.Core.Path.{sym, ap, _∙_}
-use Rattle.lines.specs.declared.Input.{Input}
-use Rattle.lines.specs.Input.{atEnd}
-use Rattle.lines.proofs.LineLaws.{not-at-end}
+use Rattle.files.specs.declared.Input.{Input}
+use Rattle.files.specs.Input.{atEnd}
+use Rattle.files.proofs.LineLaws.{not-at-end}
 use Rattle.laychain.proofs.ended.Statement.{statement}
 use Rattle.laychain.proofs.ended.Tie as tie
 

@@ -4,7 +4,7 @@ use Prim.Native.Nat.{_+_, _-_, _*_}
 use mathlib.Core.Path.{_≡_, _∙_}
 use native.Mathlib.Omega.{arith}
 use lib.ListN.{length, take, drop, length-take, length-drop}
-use Rattle.laychain.proofs.TableLaws.{no-place, placed}
+use Rattle.laychain.proofs.TableLaws.{no-place, chain-placed}
 use Rattle.laychain.proofs.put_chain.Statement.{statement}
 use Rattle.laychain.proofs.put_chain.Tie as tie
 
@@ -38,7 +38,7 @@ returns-2 c =
     let call = c .before .before .write-chain in
     let part = length (take (24 * a .before + 24 - 24 * a .before) (drop (24 * a .before) (a .table .now))) in
     let size : part ≡ 24 = length-take (24 * a .before + 24 - 24 * a .before) (drop (24 * a .before) (a .table .now)) ∙ omega (arith, length-drop (24 * a .before) (a .table .now), c .before .before .before .before .before .before .pre) in
-    placed (a .table .now) (a .before) (a .c) part (call .result) (call .last .0) (c .before .before .before .before .before .before .pre) (omega arith) size (call .ensures .0) (call .ensures .1)
+    chain-placed (a .table .now) (a .before) (a .c) part (call .result) (call .last .0) (c .before .before .before .before .before .before .pre) (omega arith) size (call .ensures .0) (call .ensures .1)
 
 pub put-chain-spec : {M : Type 1} → statement M
 put-chain-spec =

@@ -10,8 +10,8 @@ use lib.Dec.{eqb}
 use lib.ListN.{length}
 use Rattle.chart.proofs.PlaceLaws.{both}
 use Rattle.records.specs.ChainTables.{chainBytes, mostChains}
-use Rattle.lines.specs.Input.{IsNext}
-use Rattle.lines.proofs.LineLaws.{IsLine, line-next, holds-at-end}
+use Rattle.files.specs.Input.{IsNext}
+use Rattle.files.proofs.LineLaws.{IsLine, line-next, holds-at-end}
 use Rattle.laychain.specs.Tables.{HoldsChains}
 use Rattle.laychain.proofs.TableLaws.{no-chains, one-more-line, held-if}
 use Rattle.laychain.proofs.read_chains.Statement.{statement}
@@ -27,8 +27,8 @@ abbrev μ-loop : tie.MeasureT-loop
 loop-holds : tie.Need-loop-holds Inv-loop μ-loop
 loop-holds c = (search needs, (search needs, (search needs, λ _. no-chains (c .before .before .args .table .now))))
 
-next-requires : tie.Need-next-requires Inv-loop μ-loop
-next-requires c κs = search needs
+next-line-requires : tie.Need-next-line-requires Inv-loop μ-loop
+next-line-requires c κs = search needs
 
 enum-known-input : tie.Need-enum-known-input Inv-loop μ-loop
 enum-known-input c = search needs
@@ -46,14 +46,14 @@ returns : tie.Need-returns Inv-loop μ-loop
 returns c =
     let l = c .before .before .before .before .before .before .before .loop in
     subst⁻¹ (HoldsChains (l .table)) (c .ended .ensures)
-    (holds-at-end (HoldsChains (l .table)) (c .before .before .before .before .next .result) (cond (l .well) (l .count) 0) 0
+    (holds-at-end (HoldsChains (l .table)) (c .before .before .before .before .next-line .result) (cond (l .well) (l .count) 0) 0
     (held-if (l .table) (l .count) (l .well) (l .inv .1 .1 .1)) (no-chains (l .table)))
 
 -- The line that comes next.
-found : (c : tie.After-input Inv-loop μ-loop) → IsLine (c .before .before .before .before .next .last .0) (c .input .given .0 .0) (c .input .given .0 .1 .0) (c .input .given .0 .1 .1 .0)
+found : (c : tie.After-input Inv-loop μ-loop) → IsLine (c .before .before .before .before .next-line .last .0) (c .input .given .0 .0) (c .input .given .0 .1 .0) (c .input .given .0 .1 .1 .0)
 found c =
     let l = c .before .before .before .before .before .before .before .loop in
-    let call = c .before .before .before .before .next in
+    let call = c .before .before .before .before .next-line in
     line-next (l .buffer) (l .from) (l .to) (call .last .0) (subst (IsNext (l .buffer) (l .from) (l .to) (call .last .0)) (c .input .given .1) (call .ensures))
 
 sub-put-line : tie.Need-sub-put-line Inv-loop μ-loop
@@ -112,7 +112,7 @@ read-chains-spec =
     Inv-loop
     μ-loop
     loop-holds
-    next-requires
+    next-line-requires
     enum-known-input
     ended-requires
     same-length

@@ -2,7 +2,7 @@
 use mathlib.Core.Path.{ap}
 use native.Mathlib.Omega.{arith}
 use borrow.Author.Needs.{needs}
-use Rattle.files.specs.Answers.{bytesOf}
+use Rattle.files.specs.Answers.{filledBytes}
 use Rattle.layexpect.proofs.answer.Statement.{statement}
 use Rattle.layexpect.proofs.answer.Tie as tie
 
@@ -31,7 +31,7 @@ part-print-expected-start : tie.Need-part-print-expected-start
 part-print-expected-start c = search needs
 
 part-print-expected-end : tie.Need-part-print-expected-end
-part-print-expected-end c = omega (arith, ap bytesOf (c .before .before .n .given .1))
+part-print-expected-end c = omega (arith, ap filledBytes (c .before .before .n .given .1))
 
 print-expected-requires : tie.Need-print-expected-requires
 print-expected-requires c κs = search needs

@@ -1,8 +1,7 @@
 -- `layexpect::main` hands on no more of the line than the arguments fill.
-use mathlib.Core.Path.{subst}
 use native.Mathlib.Omega.{arith}
 use borrow.Author.Needs.{needs}
-use Rattle.files.specs.Answers.{IsArguments}
+use Rattle.files.proofs.WordLaws.{line-inside}
 use Rattle.layexpect.proofs.main.Statement.{statement}
 use Rattle.layexpect.proofs.main.Tie as tie
 
@@ -27,8 +26,7 @@ part-take-start c = search needs
 part-take-end : tie.Need-part-take-end
 part-take-end c =
     let call = c .before .before .before .before .before .arguments in
-    let given = subst (IsArguments (call .last .0)) (c .before .before .words .given .1) (call .ensures) in
-    omega (arith, given .0)
+    omega (arith, line-inside (call .last .0) (call .result) (call .ensures) (c .before .before .words .given .1))
 
 take-requires : tie.Need-take-requires
 take-requires c κs = search needs

@@ -3,7 +3,7 @@ use mathlib.Core.Path.{sym, ap, _∙_}
 use native.Mathlib.Omega.{arith}
 use borrow.Author.Tests.{not-false}
 use borrow.Author.Needs.{needs}
-use Rattle.files.specs.Answers.{bytesOf}
+use Rattle.files.specs.Answers.{filledBytes}
 use Rattle.laylist.proofs.by_job.Statement.{statement}
 use Rattle.laylist.proofs.by_job.Tie as tie
 
@@ -44,7 +44,7 @@ part-by-table-start : tie.Need-part-by-table-start
 part-by-table-start c = search needs
 
 part-by-table-end : tie.Need-part-by-table-end
-part-by-table-end c = omega (arith, ap bytesOf (c .before .before .before .n .given .1))
+part-by-table-end c = omega (arith, ap filledBytes (c .before .before .before .n .given .1))
 
 by-table-requires : tie.Need-by-table-requires
 by-table-requires c κs =

@@ -2,7 +2,7 @@
 use mathlib.Core.Path.{ap}
 use native.Mathlib.Omega.{arith}
 use borrow.Author.Needs.{needs}
-use Rattle.files.specs.Answers.{bytesOf}
+use Rattle.files.specs.Answers.{filledBytes}
 use Rattle.laylist.proofs.list_files.Statement.{statement}
 use Rattle.laylist.proofs.list_files.Tie as tie
 
@@ -37,7 +37,7 @@ part-by-job-start : tie.Need-part-by-job-start
 part-by-job-start c = search needs
 
 part-by-job-end : tie.Need-part-by-job-end
-part-by-job-end c = omega (arith, ap bytesOf (c .before .before .before .n .given .1))
+part-by-job-end c = omega (arith, ap filledBytes (c .before .before .before .n .given .1))
 
 by-job-requires : tie.Need-by-job-requires
 by-job-requires c κs =

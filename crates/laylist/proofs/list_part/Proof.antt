@@ -2,7 +2,8 @@
 use mathlib.Core.Path.{sym, _∙_}
 use borrow.Author.Needs.{needs}
 use Rattle.listing.specs.Listings.{listingFrom}
-use Rattle.laylist.proofs.WalkLaws.{held, not-refused}
+use Rattle.listing.proofs.Fitting.{listing-fits, not-refused}
+use Rattle.laylist.proofs.WalkLaws.{roomy}
 use Rattle.laylist.proofs.list_part.Statement.{statement}
 use Rattle.laylist.proofs.list_part.Tie as tie
 
@@ -22,8 +23,12 @@ returns : tie.Need-returns
 returns c =
     let told = c .before in
     let call = told .before .before .before .before in
-    let pre = call .before .before .before .before .before .before .pre in
-    held _ _ (pre .0) (pre .1) _ (sym (told .length .given .1) ∙ call .list .ensures .0) (call .list .ensures .1)
+    let start = call .before .before .before .before .before .before in
+    let a = start .args in
+    let room = roomy (a .out .now) (a .part .now) (start .pre .0) (start .pre .1) in
+    let p = listingFrom (a .job .now) (a .table .now) (a .part .now) (a .before) in
+    let fits = listing-fits (a .out .now) (a .part .now) room p (sym (told .length .given .1) ∙ call .list .ensures .0) (call .list .ensures .1) in
+    record { fits = fits .0; text-is = fits .1 .0; carried-is = fits .1 .1 }
 
 same-length-2 : tie.Need-same-length-2
 same-length-2 c = search needs
@@ -33,7 +38,9 @@ returns-2 c =
     let call = c .before .before .before .before in
     let start = call .before .before .before .before .before .before in
     let a = start .args in
-    absurd (not-refused (a .out .now) (a .part .now) (start .pre .0) (start .pre .1) (listingFrom (a .job .now) (a .table .now) (a .part .now) (a .before)) (sym (c .enum-told .given .1) ∙ call .list .ensures .0))
+    let room = roomy (a .out .now) (a .part .now) (start .pre .0) (start .pre .1) in
+    let p = listingFrom (a .job .now) (a .table .now) (a .part .now) (a .before) in
+    absurd (not-refused (a .out .now) (a .part .now) room p (sym (c .enum-told .given .1) ∙ call .list .ensures .0))
 
 pub list-part-spec : {M : Type 1} → statement M
 list-part-spec =

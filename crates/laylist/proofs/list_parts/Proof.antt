@@ -20,8 +20,8 @@ abbrev μ-loop : tie.MeasureT-loop
 loop-holds : tie.Need-loop-holds Inv-loop μ-loop
 loop-holds c = search needs
 
-part-end-requires : tie.Need-part-end-requires Inv-loop μ-loop
-part-end-requires c κs = search needs
+piece-end-requires : tie.Need-piece-end-requires Inv-loop μ-loop
+piece-end-requires c κs = search needs
 
 sub-print-part : tie.Need-sub-print-part Inv-loop μ-loop
 sub-print-part c = search needs
@@ -62,7 +62,7 @@ loop-again c =
       (
         search needs,
         (loop .loop .inv .1 .1
-            ∙ goes-on (a .job .now) (a .table .now) (start .pre .1) (a .log .now) (loop .loop .done) (end .part-end .result) (end .part-end .ensures) (loop .loop .carried) (call .print-part .ensures) (told .place .given .1)),
+            ∙ goes-on (a .job .now) (a .table .now) (start .pre .1) (a .log .now) (loop .loop .done) (end .piece-end .result) (search needs) (end .piece-end .ensures) (loop .loop .carried) (call .print-part .ensures) (told .place .given .1)),
       ),
     )
 
@@ -83,7 +83,7 @@ list-parts-spec =
     Inv-loop
     μ-loop
     loop-holds
-    part-end-requires
+    piece-end-requires
     sub-print-part
     part-print-part-start
     part-print-part-end

@@ -2,7 +2,7 @@
 use mathlib.Core.Path.{ap}
 use native.Mathlib.Omega.{arith}
 use borrow.Author.Needs.{needs}
-use Rattle.files.specs.Answers.{bytesOf}
+use Rattle.files.specs.Answers.{filledBytes}
 use Rattle.laylist.proofs.list_stretch.Statement.{statement}
 use Rattle.laylist.proofs.list_stretch.Tie as tie
 
@@ -34,7 +34,7 @@ part-list-parts-start : tie.Need-part-list-parts-start
 part-list-parts-start c = search needs
 
 part-list-parts-end : tie.Need-part-list-parts-end
-part-list-parts-end c = omega (arith, ap bytesOf (c .before .before .before .n .given .1))
+part-list-parts-end c = omega (arith, ap filledBytes (c .before .before .before .n .given .1))
 
 list-parts-requires : tie.Need-list-parts-requires
 list-parts-requires c κs = search needs

@@ -5,15 +5,16 @@ use native.Mathlib.Omega.{arith}
 use borrow.Author.Needs.{needs}
 use lib.ListN.{length}
 use Rattle.records.specs.ChainTables.{chainBytes}
+use Rattle.records.proofs.Pieces.{chain-width}
 use Rattle.text.proofs.PutLaws.{put-length}
 use Rattle.shown.specs.Lines.{chainLine}
-use Rattle.layshow.proofs.WalkLaws.{chain-width, Reached, reached-none, next-room, reached-more, reached-all}
+use Rattle.layshow.proofs.WalkLaws.{ShownTo, shown-none, next-room, shown-more, shown-all}
 use Rattle.layshow.proofs.put_chains.Statement.{statement}
 use Rattle.layshow.proofs.put_chains.Tie as tie
 
 abbrev Inv-loop : tie.InvT-loop
 Inv-loop out₀ at table end₀ done₀ number₀ out end done number =
-    (done ≤ length table) × ((number ≤ done + 1) × Reached chainLine chainBytes at table out₀ done number out end)
+    (done ≤ length table) × ((number ≤ done + 1) × ShownTo chainLine chainBytes at table out₀ done number out end)
 
 abbrev μ-loop : tie.MeasureT-loop
 μ-loop out₀ at table end₀ done₀ number₀ out end done number = length table - done
@@ -21,7 +22,7 @@ abbrev μ-loop : tie.MeasureT-loop
 loop-holds : tie.Need-loop-holds Inv-loop μ-loop
 loop-holds c =
     let start = c .before .before in
-    (search needs, (search needs, reached-none (omega (arith, start .pre .0, start .pre .1))))
+    (search needs, (search needs, shown-none (omega (arith, start .pre .0, start .pre .1))))
 
 piece-end-requires : tie.Need-piece-end-requires Inv-loop μ-loop
 piece-end-requires c κs = search needs
@@ -55,17 +56,17 @@ loop-again c =
       search needs,
       (
         search needs,
-        reached-more chain-width (loop .loop .inv .1 .1) (search needs) (end .piece-end .ensures) (call .put-chain .ensures),
+        shown-more chain-width (loop .loop .inv .1 .1) (search needs) (end .piece-end .ensures) (call .put-chain .ensures),
       ),
     )
 
 same-length : tie.Need-same-length Inv-loop μ-loop
-same-length c = put-length (c .before .loop .inv .1 .1 .put)
+same-length c = put-length (c .before .loop .inv .1 .1 .lines .put)
 
 returns : tie.Need-returns Inv-loop μ-loop
 returns c =
     let loop = c .before in
-    reached-all chain-width (loop .loop .inv .1 .1) (search needs)
+    shown-all chain-width (loop .loop .inv .1 .1) (search needs)
 
 pub put-chains-spec : {M : Type 1} → statement M
 put-chains-spec =

@@ -5,22 +5,23 @@ use native.Mathlib.Omega.{arith}
 use borrow.Author.Needs.{needs}
 use lib.ListN.{length}
 use Rattle.records.specs.LogRecords.{logBytes}
+use Rattle.records.proofs.Pieces.{record-width}
 use Rattle.text.proofs.PutLaws.{put-length}
 use Rattle.layshow.specs.Walks.{recordLineAt}
-use Rattle.layshow.proofs.WalkLaws.{record-width, Reached, reached-none, next-room, reached-more, reached-all}
+use Rattle.layshow.proofs.WalkLaws.{ShownTo, shown-none, next-room, shown-more, shown-all}
 use Rattle.layshow.proofs.put_records.Statement.{statement}
 use Rattle.layshow.proofs.put_records.Tie as tie
 
 abbrev Inv-loop : tie.InvT-loop
 Inv-loop out₀ log end₀ done₀ out end done =
-    (done ≤ length log) × ((number : ℕ) × Reached recordLineAt logBytes 0 log out₀ done number out end)
+    (done ≤ length log) × ((number : ℕ) × ShownTo recordLineAt logBytes 0 log out₀ done number out end)
 
 abbrev μ-loop : tie.MeasureT-loop
 μ-loop out₀ log end₀ done₀ out end done = length log - done
 
 loop-holds : tie.Need-loop-holds Inv-loop μ-loop
 loop-holds c =
-    (search needs, (1, reached-none (omega (arith, c .before .before .pre))))
+    (search needs, (1, shown-none (omega (arith, c .before .before .pre))))
 
 piece-end-requires : tie.Need-piece-end-requires Inv-loop μ-loop
 piece-end-requires c κs = search needs
@@ -51,17 +52,17 @@ loop-again c =
       search needs,
       (
         loop .loop .inv .1 .0 + 1,
-        reached-more record-width (loop .loop .inv .1 .1) (search needs) (end .piece-end .ensures) (call .put-record .ensures),
+        shown-more record-width (loop .loop .inv .1 .1) (search needs) (end .piece-end .ensures) (call .put-record .ensures),
       ),
     )
 
 same-length : tie.Need-same-length Inv-loop μ-loop
-same-length c = put-length (c .before .loop .inv .1 .1 .put)
+same-length c = put-length (c .before .loop .inv .1 .1 .lines .put)
 
 returns : tie.Need-returns Inv-loop μ-loop
 returns c =
     let loop = c .before in
-    reached-all record-width (loop .loop .inv .1 .1) (search needs)
+    shown-all record-width (loop .loop .inv .1 .1) (search needs)
 
 pub put-records-spec : {M : Type 1} → statement M
 put-records-spec =

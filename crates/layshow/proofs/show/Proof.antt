@@ -3,7 +3,7 @@ use mathlib.Core.Path.{ap}
 use native.Mathlib.Omega.{arith}
 use borrow.Author.Needs.{needs}
 use lib.ListN.{length-take}
-use Rattle.files.specs.Answers.{bytesOf}
+use Rattle.files.specs.Answers.{filledBytes}
 use Rattle.layshow.proofs.show.Statement.{statement}
 use Rattle.layshow.proofs.show.Tie as tie
 
@@ -56,7 +56,7 @@ part-show-files-start : tie.Need-part-show-files-start
 part-show-files-start c = search needs
 
 part-show-files-end : tie.Need-part-show-files-end
-part-show-files-end c = omega (arith, ap bytesOf (c .before .before .before .before .before .before .before .before .before .before .j .given .1))
+part-show-files-end c = omega (arith, ap filledBytes (c .before .before .before .before .before .before .before .before .before .before .j .given .1))
 
 sub-show-files-2 : tie.Need-sub-show-files-2
 sub-show-files-2 c = search needs
@@ -65,7 +65,7 @@ part-show-files-start-2 : tie.Need-part-show-files-start-2
 part-show-files-start-2 c = search needs
 
 part-show-files-end-2 : tie.Need-part-show-files-end-2
-part-show-files-end-2 c = omega (arith, ap bytesOf (c .before .before .before .before .before .t .given .1))
+part-show-files-end-2 c = omega (arith, ap filledBytes (c .before .before .before .before .before .t .given .1))
 
 show-files-requires : tie.Need-show-files-requires
 show-files-requires c κs =

@@ -3,7 +3,8 @@ use mathlib.Core.Path.{sym}
 use native.Mathlib.Omega.{arith}
 use borrow.Author.Needs.{needs}
 use lib.Seq.{length-take-le}
-use Rattle.layshow.proofs.LineLaws.{begins, ends-within}
+use Rattle.text.proofs.PutLaws.{put-front}
+use Rattle.layshow.proofs.LineLaws.{ends-within}
 use Rattle.layshow.proofs.show_files.Statement.{statement}
 use Rattle.layshow.proofs.show_files.Tie as tie
 
@@ -17,7 +18,7 @@ slice-aggregate-files-printed : tie.Need-slice-aggregate-files-printed
 slice-aggregate-files-printed c = sym (length-take-le _ _ (omega (arith, ends-within (c .before .before .before .put-files .ensures))))
 
 files-printed-requires : tie.Need-files-printed-requires
-files-printed-requires c κs = begins (c .before .before .before .put-files .ensures)
+files-printed-requires c κs = put-front (c .before .before .before .put-files .ensures)
 
 show-log-requires : tie.Need-show-log-requires
 show-log-requires c κs = search needs

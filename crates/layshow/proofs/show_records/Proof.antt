@@ -3,7 +3,8 @@ use mathlib.Core.Path.{sym}
 use native.Mathlib.Omega.{arith}
 use borrow.Author.Needs.{needs}
 use lib.Seq.{length-take-le}
-use Rattle.layshow.proofs.LineLaws.{begins, ends-within}
+use Rattle.text.proofs.PutLaws.{put-front}
+use Rattle.layshow.proofs.LineLaws.{ends-within}
 use Rattle.layshow.proofs.show_records.Statement.{statement}
 use Rattle.layshow.proofs.show_records.Tie as tie
 
@@ -17,7 +18,7 @@ slice-aggregate-records-printed : tie.Need-slice-aggregate-records-printed
 slice-aggregate-records-printed c = sym (length-take-le _ _ (omega (arith, ends-within (c .before .before .before .put-records .ensures))))
 
 records-printed-requires : tie.Need-records-printed-requires
-records-printed-requires c κs = begins (c .before .before .before .put-records .ensures)
+records-printed-requires c κs = put-front (c .before .before .before .put-records .ensures)
 
 same-length : tie.Need-same-length
 same-length c = search needs

@@ -3,7 +3,7 @@ use mathlib.Core.Path.{ap}
 use native.Mathlib.Omega.{arith}
 use borrow.Author.Needs.{needs}
 use lib.ListN.{length-take}
-use Rattle.files.specs.Answers.{bytesOf}
+use Rattle.files.specs.Answers.{filledBytes}
 use Rattle.layshow.proofs.show_stretch.Statement.{statement}
 use Rattle.layshow.proofs.show_stretch.Tie as tie
 
@@ -35,7 +35,7 @@ part-show-records-start : tie.Need-part-show-records-start
 part-show-records-start c = search needs
 
 part-show-records-end : tie.Need-part-show-records-end
-part-show-records-end c = omega (arith, ap bytesOf (c .before .before .before .n .given .1))
+part-show-records-end c = omega (arith, ap filledBytes (c .before .before .before .n .given .1))
 
 show-records-requires : tie.Need-show-records-requires
 show-records-requires c κs = (search needs, simp length-take (omega arith))

@@ -2,7 +2,7 @@
 use mathlib.Core.Path.{ap}
 use native.Mathlib.Omega.{arith}
 use borrow.Author.Needs.{needs}
-use Rattle.files.specs.Answers.{bytesOf}
+use Rattle.files.specs.Answers.{filledBytes}
 use Rattle.laywrite.proofs.copy_some.Statement.{statement}
 use Rattle.laywrite.proofs.copy_some.Tie as tie
 
@@ -30,23 +30,20 @@ returns c = search needs
 returns-2 : tie.Need-returns-2
 returns-2 c = search needs
 
-sub-write-all : tie.Need-sub-write-all
-sub-write-all c = search needs
+slice-aggregate-write : tie.Need-slice-aggregate-write
+slice-aggregate-write c = search needs
 
-part-write-all-start : tie.Need-part-write-all-start
-part-write-all-start c = search needs
+sub-write : tie.Need-sub-write
+sub-write c = search needs
 
-part-write-all-end : tie.Need-part-write-all-end
-part-write-all-end c = omega (arith, ap bytesOf (c .before .before .before .n .given .1))
+part-write-start : tie.Need-part-write-start
+part-write-start c = search needs
 
-write-all-requires : tie.Need-write-all-requires
-write-all-requires c κs = search needs
+part-write-end : tie.Need-part-write-end
+part-write-end c = omega (arith, ap filledBytes (c .before .before .before .before .n .given .1))
 
-slice-aggregate-fail : tie.Need-slice-aggregate-fail
-slice-aggregate-fail c = search needs
-
-fail-requires : tie.Need-fail-requires
-fail-requires c κs = search needs
+write-requires : tie.Need-write-requires
+write-requires c κs = search needs
 
 returns-3 : tie.Need-returns-3
 returns-3 c = search needs
@@ -66,11 +63,10 @@ copy-some-spec =
     enum-told
     returns
     returns-2
-    sub-write-all
-    part-write-all-start
-    part-write-all-end
-    write-all-requires
-    slice-aggregate-fail
-    fail-requires
+    slice-aggregate-write
+    sub-write
+    part-write-start
+    part-write-end
+    write-requires
     returns-3
     returns-4)

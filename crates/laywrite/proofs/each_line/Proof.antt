@@ -4,9 +4,9 @@ use mathlib.Core.Path.{_≡_, subst, subst⁻¹}
 use native.Mathlib.Omega.{arith}
 use borrow.Author.Needs.{needs}
 use lib.ListN.{length, take, drop}
-use Rattle.typed.specs.Typed.{draftIn}
-use Rattle.lines.specs.Input.{IsNext}
-use Rattle.lines.proofs.LineLaws.{IsLine, line-next, holds-at-end}
+use Rattle.parsing.specs.Parsed.{parsedDraft}
+use Rattle.files.specs.Input.{IsNext}
+use Rattle.files.proofs.LineLaws.{IsLine, line-next, holds-at-end}
 use Rattle.laywrite.specs.Waiting.{allDropped, HoldRecords}
 use Rattle.laywrite.proofs.WaitLaws.{hold-none, hold-inside, hold-taken}
 use Rattle.laywrite.proofs.each_line.Statement.{statement}
@@ -22,8 +22,8 @@ abbrev μ-loop : tie.MeasureT-loop
 loop-holds : tie.Need-loop-holds Inv-loop μ-loop
 loop-holds c = (hold-none (c .before .before .args .out .now), (search needs, search needs))
 
-next-requires : tie.Need-next-requires Inv-loop μ-loop
-next-requires c κs = search needs
+next-line-requires : tie.Need-next-line-requires Inv-loop μ-loop
+next-line-requires c κs = search needs
 
 add-line : tie.Need-add-line Inv-loop μ-loop
 add-line c = search needs
@@ -43,13 +43,13 @@ same-length-2 c = search needs
 returns : tie.Need-returns Inv-loop μ-loop
 returns c =
     let l = c .before .before .before .before .before .before .before .loop in
-    subst⁻¹ (HoldRecords (l .out)) (c .ended .ensures) (holds-at-end (HoldRecords (l .out)) (c .before .before .before .before .next .result) (l .records) allDropped (l .inv .0) tt)
+    subst⁻¹ (HoldRecords (l .out)) (c .ended .ensures) (holds-at-end (HoldRecords (l .out)) (c .before .before .before .before .next-line .result) (l .records) allDropped (l .inv .0) tt)
 
 -- The line that comes next.
-found : (c : tie.After-input Inv-loop μ-loop) → IsLine (c .before .before .before .before .next .last .0) (c .input .given .0 .0) (c .input .given .0 .1 .0) (c .input .given .0 .1 .1 .0)
+found : (c : tie.After-input Inv-loop μ-loop) → IsLine (c .before .before .before .before .next-line .last .0) (c .input .given .0 .0) (c .input .given .0 .1 .0) (c .input .given .0 .1 .1 .0)
 found c =
     let l = c .before .before .before .before .before .before .before .loop in
-    let call = c .before .before .before .before .next in
+    let call = c .before .before .before .before .next-line in
     line-next (l .buffer) (l .from) (l .to) (call .last .0) (subst (IsNext (l .buffer) (l .from) (l .to) (call .last .0)) (c .input .given .1) (call .ensures))
 
 sub-take-line : tie.Need-sub-take-line Inv-loop μ-loop
@@ -77,8 +77,8 @@ loop-again c =
     let l = c .before .before .before .before .before .before .before .before .before .before .before .before .before .before .loop in
     let call = c .before .before .take-line in
     let start = c .before .before .before .before .before .before .before .input .given .0 .0 in
-    let text = take (c .before .before .before .before .before .before .before .input .given .0 .1 .0 - start) (drop start (c .before .before .before .before .before .before .before .before .before .before .before .next .last .0)) in
-    (hold-taken (l .records) (l .out) (call .last .0) (draftIn text) (call .result) (l .inv .0) (call .ensures), (search needs, search needs))
+    let text = take (c .before .before .before .before .before .before .before .input .given .0 .1 .0 - start) (drop start (c .before .before .before .before .before .before .before .before .before .before .before .next-line .last .0)) in
+    (hold-taken (l .records) (l .out) (call .last .0) (parsedDraft text) (call .result) (l .inv .0) (call .ensures), (search needs, search needs))
 
 same-length-3 : tie.Need-same-length-3 Inv-loop μ-loop
 same-length-3 c = search needs
@@ -96,7 +96,7 @@ each-line-spec =
     Inv-loop
     μ-loop
     loop-holds
-    next-requires
+    next-line-requires
     add-line
     enum-known-input
     ended-requires

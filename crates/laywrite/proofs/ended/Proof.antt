@@ -1,6 +1,6 @@
 -- `laywrite::ended` goes by what comes next.
 use borrow.Author.Needs.{needs}
-use Rattle.lines.proofs.LineLaws.{not-at-end}
+use Rattle.files.proofs.LineLaws.{not-at-end}
 use Rattle.laywrite.specs.Waiting.{allDropped}
 use Rattle.laywrite.proofs.ended.Statement.{statement}
 use Rattle.laywrite.proofs.ended.Tie as tie

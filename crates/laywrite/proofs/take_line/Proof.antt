@@ -1,7 +1,7 @@
 -- `laywrite::take_line` goes by the draft of the line.
 use borrow.Author.Needs.{needs}
 use mathlib.Core.Path.{sym, _∙_, subst⁻¹}
-use Rattle.typed.specs.declared.TypedDraft.{TypedDraft}
+use Rattle.parsing.specs.declared.ParsedDraft.{ParsedDraft}
 use Rattle.laywrite.specs.Waiting.{IsTaken}
 use Rattle.laywrite.proofs.take_line.Statement.{statement}
 use Rattle.laywrite.proofs.take_line.Tie as tie
@@ -28,12 +28,12 @@ returns : tie.Need-returns
 returns c =
     let a = c .before .before .before .before .before .before .before .before .before .before .args in
     let call = c .before .before .take-draft in
-    subst⁻¹ (λ (t : TypedDraft). IsTaken (a .before) (a .out .now) t (call .last .0) (call .result)) (sym (c .before .before .before .before .before .before .before .draft .ensures) ∙ c .before .before .before .before .before .d .given .1) (call .ensures)
+    subst⁻¹ (λ (t : ParsedDraft). IsTaken (a .before) (a .out .now) t (call .last .0) (call .result)) (sym (c .before .before .before .before .before .before .before .draft .ensures) ∙ c .before .before .before .before .before .d .given .1) (call .ensures)
 
 returns-2 : tie.Need-returns-2
 returns-2 c =
     let a = c .before .before .before .before .before .before .before .args in
-    subst⁻¹ (λ (t : TypedDraft). IsTaken (a .before) (a .out .now) t (a .out .now) (c .dropped .result)) (sym (c .before .before .before .before .draft .ensures) ∙ c .before .before .number .given .1) (c .dropped .ensures)
+    subst⁻¹ (λ (t : ParsedDraft). IsTaken (a .before) (a .out .now) t (a .out .now) (c .dropped .result)) (sym (c .before .before .before .before .draft .ensures) ∙ c .before .before .number .given .1) (c .dropped .ensures)
 
 pub take-line-spec : {M : Type 1} → statement M
 take-line-spec =

@@ -6,13 +6,13 @@ use borrow.Author.Needs.{needs}
 use lib.ListN.{length, length-drop}
 use Rattle.text.proofs.PutLaws.{put-length}
 use Rattle.listing.specs.Putting.{listEntries}
-use Rattle.listing.proofs.EachLaws.{Reached, reached-none, reached-more, reached-all}
+use Rattle.listing.proofs.EachLaws.{ListedTo, listed-none, listed-more, listed-all}
 use Rattle.listing.proofs.each_line.Statement.{statement}
 use Rattle.listing.proofs.each_line.Tie as tie
 
 abbrev Inv-loop : tie.InvT-loop
 Inv-loop out₀ list₀ j table log before end₀ done₀ out list place end done =
-    Reached j table before log done out₀ out end place × (length list ≡ listEntries)
+    ListedTo j table before log done out₀ out end place × (length list ≡ listEntries)
 
 abbrev μ-loop : tie.MeasureT-loop
 μ-loop out₀ list₀ j table log before end₀ done₀ out list place end done = length log - done
@@ -21,19 +21,19 @@ loop-holds : tie.Need-loop-holds Inv-loop μ-loop
 loop-holds c =
     let start = c .before .before .before .before in
     let a = start .args in
-    (reached-none (a .j) (a .table .now) (a .before) (a .log .now) (a .out .now) (start .pre .1), start .pre .0)
+    (listed-none (a .j) (a .table .now) (a .before) (a .log .now) (a .out .now) (start .pre .1), start .pre .0)
 
-record-end-requires : tie.Need-record-end-requires Inv-loop μ-loop
-record-end-requires c κs = search needs
+piece-end-requires : tie.Need-piece-end-requires Inv-loop μ-loop
+piece-end-requires c κs = search needs
 
 sub-one : tie.Need-sub-one Inv-loop μ-loop
-sub-one c = omega (arith, c .before .before .record-end .ensures, c .before .before .before .loop-test)
+sub-one c = omega (arith, c .before .before .piece-end .ensures, c .before .before .before .loop-test)
 
 part-one-start : tie.Need-part-one-start Inv-loop μ-loop
-part-one-start c = omega (arith, c .before .before .record-end .ensures, c .before .before .before .loop-test .taken)
+part-one-start c = omega (arith, c .before .before .piece-end .ensures, c .before .before .before .loop-test .taken)
 
 part-one-end : tie.Need-part-one-end Inv-loop μ-loop
-part-one-end c = omega (arith, c .before .before .record-end .ensures)
+part-one-end c = omega (arith, c .before .before .piece-end .ensures)
 
 one-requires : tie.Need-one-requires Inv-loop μ-loop
 one-requires c κs =
@@ -41,10 +41,10 @@ one-requires c κs =
     let loop = turn .before .loop in
     let log = turn .before .before .before .before .before .before .args .log .now in
     let left = length-drop (loop .done) log in
-    (loop .inv .1, omega (arith, loop .inv .0 .room, put-length (loop .inv .0 .put), left, turn .loop-test .taken))
+    (loop .inv .1, omega (arith, loop .inv .0 .room, put-length (loop .inv .0 .lines .put), left, turn .loop-test .taken))
 
 loop-less : tie.Need-loop-less Inv-loop μ-loop
-loop-less c = omega (arith, c .before .before .before .before .before .before .before .before .record-end .ensures)
+loop-less c = omega (arith, c .before .before .before .before .before .before .before .before .piece-end .ensures)
 
 loop-again : tie.Need-loop-again Inv-loop μ-loop
 loop-again c =
@@ -54,12 +54,12 @@ loop-again c =
     let start = next .before .before .before .before .before .before .before in
     let a = start .args in
     let one = call .one .ensures in (
-      reached-more (a .j) (a .table .now) (a .before) (a .log .now) (loop .done) (a .out .now) (loop .out) (loop .length) (loop .carried) (loop .inv .0) (next .before .loop-test .taken) (next .record-end .result) (next .record-end .ensures) _ _ _ (one .0) (one .1 .0) (one .1 .1),
+      listed-more (a .j) (a .table .now) (a .before) (a .log .now) (loop .done) (a .out .now) (loop .out) (loop .length) (loop .carried) (loop .inv .0) (next .before .loop-test .taken) (next .piece-end .result) (next .piece-end .ensures) _ _ _ (one .0) (one .1 .0) (one .1 .1),
       call .one .kept .1 .1 .0 ∙ loop .inv .1,
     )
 
 same-length : tie.Need-same-length Inv-loop μ-loop
-same-length c = put-length (c .before .loop .inv .0 .put)
+same-length c = put-length (c .before .loop .inv .0 .lines .put)
 
 same-length-2 : tie.Need-same-length-2 Inv-loop μ-loop
 same-length-2 c = c .before .loop .inv .1 ∙ sym (c .before .before .before .before .before .before .pre .0)
@@ -69,7 +69,7 @@ returns c =
     let loop = c .before .loop in
     let start = c .before .before .before .before .before .before in
     let a = start .args in
-    reached-all (a .j) (a .table .now) (a .before) (a .log .now) (loop .done) (a .out .now) (loop .out) (loop .length) (loop .carried) (loop .inv .0) (omega arith)
+    listed-all (a .j) (a .table .now) (a .before) (a .log .now) (loop .done) (a .out .now) (loop .out) (loop .length) (loop .carried) (loop .inv .0) (omega arith)
 
 pub each-line-spec : {M : Type 1} → statement M
 each-line-spec =
@@ -78,7 +78,7 @@ each-line-spec =
     Inv-loop
     μ-loop
     loop-holds
-    record-end-requires
+    piece-end-requires
     sub-one
     part-one-start
     part-one-end

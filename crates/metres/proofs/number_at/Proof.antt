@@ -3,7 +3,7 @@ use mathlib.Core.Path.{sym, ap, _∙_}
 use denote.Ref.{now}
 use borrow.Author.Needs.{needs}
 use Rattle.metres.specs.declared.Number.the-variants.{Value}
-use Rattle.metres.proofs.PatternLaws.{numberIn, number-of-eight}
+use Rattle.metres.proofs.PatternLaws.{numberFrom, number-of-eight}
 use Rattle.metres.proofs.number_at.Statement.{statement}
 use Rattle.metres.proofs.number_at.Tie as tie
 
@@ -24,13 +24,13 @@ returns c =
     let e = c .before .before in
     let s = e .before .before .before .before in
     ap Value (c .number-of .ensures)
-    ∙ ap numberIn (sym (e .pattern .given .1) ∙ e .before .before .eight-at .ensures)
+    ∙ ap numberFrom (sym (e .pattern .given .1) ∙ e .before .before .eight-at .ensures)
     ∙ number-of-eight (now (s .args .s)) (s .args .at)
 
 returns-2 : tie.Need-returns-2
 returns-2 c =
     let s = c .before .before .before .before in
-    ap numberIn (sym (c .enum-told .given .1) ∙ c .before .before .eight-at .ensures)
+    ap numberFrom (sym (c .enum-told .given .1) ∙ c .before .before .eight-at .ensures)
     ∙ number-of-eight (now (s .args .s)) (s .args .at)
 
 pub number-at-spec : {M : Type 1} → statement M

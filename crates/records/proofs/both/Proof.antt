@@ -6,7 +6,7 @@ use borrow.Author.Needs.{needs}
 use Rattle.metres.specs.declared.Whole.{Whole}
 use Rattle.metres.specs.Metres.{centimetresOf}
 use Rattle.records.specs.declared.Pair.the-variants.{Both}
-use Rattle.records.specs.Gathered.{pairOf}
+use Rattle.records.specs.LogRecords.{pairOf}
 use Rattle.records.proofs.both.Statement.{statement}
 use Rattle.records.proofs.both.Tie as tie
 

@@ -3,8 +3,7 @@ use mathlib.Core.Path.{ap, _∙_}
 use denote.Ref.{now}
 use borrow.Author.Needs.{needs}
 use Rattle.records.specs.declared.LogEntry.the-variants.{Readings}
-use Rattle.records.specs.LogRecords.{placed}
-use Rattle.records.specs.Gathered.{given}
+use Rattle.records.specs.LogRecords.{placed, withPair}
 use Rattle.records.proofs.LogLaws.{entry-hyperbolic, entry-grid, entry-hold, entry-refused}
 use Rattle.records.proofs.log_entry.Statement.{statement}
 use Rattle.records.proofs.log_entry.Tie as tie
@@ -41,7 +40,7 @@ returns c =
     let a = c .before .before .before in
     let read = a .before .before in
     c .readings .ensures
-    ∙ ap (given Readings) (c .before .both .ensures)
+    ∙ ap (withPair Readings) (c .before .both .ensures)
     ∙ entry-hyperbolic (now (read .before .before .args .s)) _ _ _ (read .log-record .ensures) (a .a .given .1)
 
 returns-2 : tie.Need-returns-2
@@ -49,7 +48,7 @@ returns-2 c =
     let a = c .before .before .before in
     let read = a .before .before in
     c .place .ensures
-    ∙ ap (given placed) (c .before .both2 .ensures)
+    ∙ ap (withPair placed) (c .before .both2 .ensures)
     ∙ entry-grid (now (read .before .before .args .s)) _ _ _ (read .log-record .ensures) (a .easting .given .1)
 
 returns-3 : tie.Need-returns-3

@@ -11,8 +11,7 @@ use mir.ValLaws.{toZ-ofZ}
 use borrow.Author.Needs.{needs}
 use Rattle.chart.specs.Places.{mostEasting, mostNorthing}
 use Rattle.records.specs.declared.LogEntry.the-variants.{Place}
-use Rattle.records.specs.LogRecords.{isPlace, placed}
-use Rattle.records.specs.Gathered.{given}
+use Rattle.records.specs.LogRecords.{isPlace, placed, withPair}
 use Rattle.records.proofs.GridLaws.{place-small, placed-4, placed-there}
 use Rattle.records.proofs.place.Statement.{statement}
 use Rattle.records.proofs.place.Tie as tie
@@ -30,8 +29,8 @@ back-first c = toZ-ofZ w64 (first c) (record { sfits = c .known-told .given .0 .
 back-second : (c : tie.After-known-told) → toZ w64 (ofZ w64 (second c)) ≡ second c
 back-second c = toZ-ofZ w64 (second c) (record { sfits = c .known-told .given .1 .0 .1 })
 
-both-given : (c : tie.After-known-told) → placed (first c) (second c) ≡ given placed (c .before .before .before .args .p)
-both-given c = ap (given placed) (sym (c .before .p .given .1))
+both-given : (c : tie.After-known-told) → placed (first c) (second c) ≡ withPair placed (c .before .before .before .args .p)
+both-given c = ap (withPair placed) (sym (c .before .p .given .1))
 
 told : (c : tie.After-is-place) → c .is-place .result ≡ isPlace (first (c .before)) (second (c .before))
 told c = c .is-place .ensures ∙ ap₂ isPlace (back-first (c .before)) (back-second (c .before))
@@ -55,7 +54,7 @@ enum-told : tie.Need-enum-told
 enum-told c = search needs
 
 returns : tie.Need-returns
-returns c = ap (given placed) (sym (c .enum-told .given .1))
+returns c = ap (withPair placed) (sym (c .enum-told .given .1))
 
 is-place-requires : tie.Need-is-place-requires
 is-place-requires c κs = search needs

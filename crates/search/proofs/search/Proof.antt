@@ -18,7 +18,7 @@ use Rattle.search.specs.Walk.{visit, start}
 use Rattle.search.specs.Answers.{Outcome, ended, Accepted}
 use Rattle.search.proofs.AnswerLaws.{search-3, search-5, search-6, search-7, search-walks}
 use Rattle.search.proofs.Asking.{wishOf, asks, ready}
-use Rattle.search.proofs.EndLaws.{Told, refusal-told}
+use Rattle.search.proofs.EndLaws.{IsTold, refusal-told}
 use Rattle.search.proofs.search.Statement.{statement}
 use Rattle.search.proofs.search.Tie as tie
 
@@ -52,8 +52,8 @@ sound-requires c κs = search needs
 is-window-requires : tie.Need-is-window-requires
 is-window-requires c κs = search needs
 
-clear-requires : tie.Need-clear-requires
-clear-requires c κs = search needs
+clear-entries-requires : tie.Need-clear-entries-requires
+clear-entries-requires c κs = search needs
 
 same-length : tie.Need-same-length
 same-length c = search needs
@@ -62,13 +62,13 @@ returns : tie.Need-returns
 returns c =
     let then = c .before .before .before .before in
     let o = from (then .before) in
-    refusal-told _ _ _ (o .args .list .now) _ refl (search-3 (asked o) (o .args .w) (sym (first (then .before)) ∙ not-true _ (then .if1 .taken))) (c .before .before .clear .ensures)
+    refusal-told _ _ _ (o .args .list .now) _ refl (search-3 (asked o) (o .args .w) (sym (first (then .before)) ∙ not-true _ (then .if1 .taken))) (c .before .before .clear-entries .ensures)
 
 small : (c : tie.Else1) → noneTooLarge (asked (from (c .before)) .rule .wanted) ≡ true
 small c = sym (first (c .before)) ∙ not-false _ (c .if1 .left)
 
-clear-requires-2 : tie.Need-clear-requires-2
-clear-requires-2 c κs = search needs
+clear-entries-requires-2 : tie.Need-clear-entries-requires-2
+clear-entries-requires-2 c κs = search needs
 
 same-length-2 : tie.Need-same-length-2
 same-length-2 c = search needs
@@ -78,13 +78,13 @@ returns-2 c =
     let then = c .before .before .before .before in
     let tests = then .before .before in
     let o = from tests in
-    refusal-told _ _ _ (o .args .list .now) _ refl (search-5 (asked o) (o .args .w) (small (then .before)) (sym (tests .before .sound .ensures) ∙ not-true _ (then .if2 .taken))) (c .before .before .clear2 .ensures)
+    refusal-told _ _ _ (o .args .list .now) _ refl (search-5 (asked o) (o .args .w) (small (then .before)) (sym (tests .before .sound .ensures) ∙ not-true _ (then .if2 .taken))) (c .before .before .clear-entries2 .ensures)
 
 sound-chain : (c : tie.Else2) → isSound (from (c .before .before) .args .c) ≡ true
 sound-chain c = sym (c .before .before .before .sound .ensures) ∙ not-false _ (c .if2 .left)
 
-clear-requires-3 : tie.Need-clear-requires-3
-clear-requires-3 c κs = search needs
+clear-entries-requires-3 : tie.Need-clear-entries-requires-3
+clear-entries-requires-3 c κs = search needs
 
 same-length-3 : tie.Need-same-length-3
 same-length-3 c = search needs
@@ -95,13 +95,13 @@ returns-3 c =
     let sound = then .before in
     let tests = sound .before .before in
     let o = from tests in
-    refusal-told _ _ _ (o .args .list .now) _ refl (search-6 (asked o) (o .args .w) (small (sound .before)) (sound-chain sound) (sym (tests .is-window .ensures) ∙ not-true _ (then .if3 .taken))) (c .before .before .clear3 .ensures)
+    refusal-told _ _ _ (o .args .list .now) _ refl (search-6 (asked o) (o .args .w) (small (sound .before)) (sound-chain sound) (sym (tests .is-window .ensures) ∙ not-true _ (then .if3 .taken))) (c .before .before .clear-entries3 .ensures)
 
 good-window : (c : tie.Else3) → isWindow (from (c .before .before .before) .args .w) ≡ true
 good-window c = sym (c .before .before .before .is-window .ensures) ∙ not-false _ (c .if3 .left)
 
-clear-requires-4 : tie.Need-clear-requires-4
-clear-requires-4 c κs = search needs
+clear-entries-requires-4 : tie.Need-clear-entries-requires-4
+clear-entries-requires-4 c κs = search needs
 
 same-length-4 : tie.Need-same-length-4
 same-length-4 c = search needs
@@ -112,7 +112,7 @@ returns-4 c =
     let window = then .before in
     let sound = window .before in
     let o = from (sound .before .before) in
-    refusal-told _ _ _ (o .args .list .now) _ refl (search-7 (asked o) (o .args .w) (small (sound .before)) (sound-chain sound) (good-window window) (then .if4 .taken)) (c .before .before .clear4 .ensures)
+    refusal-told _ _ _ (o .args .list .now) _ refl (search-7 (asked o) (o .args .w) (small (sound .before)) (sound-chain sound) (good-window window) (then .if4 .taken)) (c .before .before .clear-entries4 .ensures)
 
 wished-requires : tie.Need-wished-requires
 wished-requires c κs = search needs
@@ -164,7 +164,7 @@ returns-5 c =
     let o = begun tests in
     let a = o .args in
     let n = length (a .list .now) in
-    subst (λ (x : Outcome). Told n x (walked .walked .result) (walked .walked .last .0))
+    subst (λ (x : Outcome). IsTold n x (walked .walked .result) (walked .walked .last .0))
     (ap (λ (q : Question). ended (visit q (a .w .k) (a .w .corner) start)) (asks (a .c) (a .ra) (a .rb) (a .tolerance) (a .allowance) _ _ _ (wish-a (b .before)) (wish-b b) n refl)
     ∙ sym (search-walks (asked o) (a .w) (accepted tests)))
     (walked .walked .ensures)
@@ -176,16 +176,16 @@ search-spec =
     none-too-large-requires
     sound-requires
     is-window-requires
-    clear-requires
+    clear-entries-requires
     same-length
     returns
-    clear-requires-2
+    clear-entries-requires-2
     same-length-2
     returns-2
-    clear-requires-3
+    clear-entries-requires-3
     same-length-3
     returns-3
-    clear-requires-4
+    clear-entries-requires-4
     same-length-4
     returns-4
     wished-requires

@@ -21,8 +21,8 @@ visit-requires c κs =
 held : (c : tie.After-visit) → let a = c .before .before .before .before .args in Holds (visit (questionBy (a .h)) (a .w .k) (a .w .corner) start) (c .visit .result) (c .visit .last .0)
 held c = c .visit .ensures start (start-holds _)
 
-clear-requires : tie.Need-clear-requires
-clear-requires c κs = search needs
+clear-entries-requires : tie.Need-clear-entries-requires
+clear-entries-requires c κs = search needs
 
 same-length : tie.Need-same-length
 same-length c = search needs
@@ -31,10 +31,10 @@ returns : tie.Need-returns
 returns c =
     let then = c .before .before .before .before in
     let visit = then .before .before .before .before in
-    out-told _ _ (visit .visit .result) (visit .visit .last .0) _ (held visit) (visit .visit .kept .0) (then .if1 .taken) (c .before .before .clear .ensures)
+    out-told _ _ (visit .visit .result) (visit .visit .last .0) _ (held visit) (visit .visit .kept .0) (then .if1 .taken) (c .before .before .clear-entries .ensures)
 
-clear-requires-2 : tie.Need-clear-requires-2
-clear-requires-2 c κs = search needs
+clear-entries-requires-2 : tie.Need-clear-entries-requires-2
+clear-entries-requires-2 c κs = search needs
 
 same-length-2 : tie.Need-same-length-2
 same-length-2 c = search needs
@@ -44,10 +44,10 @@ returns-2 c =
     let then = c .before .before .before .before in
     let not-out = then .before .before in
     let visit = not-out .before .before .before .before in
-    full-told _ _ (visit .visit .result) (visit .visit .last .0) _ (held visit) (visit .visit .kept .0) (not-out .if1 .left) (then .if2 .taken) (c .before .before .clear2 .ensures)
+    full-told _ _ (visit .visit .result) (visit .visit .last .0) _ (held visit) (visit .visit .kept .0) (not-out .if1 .left) (then .if2 .taken) (c .before .before .clear-entries2 .ensures)
 
-clear-requires-3 : tie.Need-clear-requires-3
-clear-requires-3 c κs = search needs
+clear-entries-requires-3 : tie.Need-clear-entries-requires-3
+clear-entries-requires-3 c κs = search needs
 
 same-length-3 : tie.Need-same-length-3
 same-length-3 c = search needs
@@ -58,15 +58,15 @@ returns-3 c =
     let not-full = then .before in
     let not-out = not-full .before .before in
     let visit = not-out .before .before .before .before in
-    none-told _ _ (visit .visit .result) (visit .visit .last .0) _ (held visit) (visit .visit .kept .0) (not-out .if1 .left) (not-full .if2 .left) (then .if3 .taken) (c .before .before .clear3 .ensures)
+    none-told _ _ (visit .visit .result) (visit .visit .last .0) _ (held visit) (visit .visit .kept .0) (not-out .if1 .left) (not-full .if2 .left) (then .if3 .taken) (c .before .before .clear-entries3 .ensures)
 
-mul-clear : tie.Need-mul-clear
-mul-clear c =
+mul-clear-entries : tie.Need-mul-clear-entries
+mul-clear-entries c =
     let visit = c .before .before .before .before .before .before .before .before in
     omega (arith, held-fits _ _ _ (held visit), visit .visit .kept .0)
 
-clear-requires-4 : tie.Need-clear-requires-4
-clear-requires-4 c κs = search needs
+clear-entries-requires-4 : tie.Need-clear-entries-requires-4
+clear-entries-requires-4 c κs = search needs
 
 same-length-4 : tie.Need-same-length-4
 same-length-4 c = search needs
@@ -77,7 +77,7 @@ returns-4 c =
     let not-full = some .before in
     let not-out = not-full .before .before in
     let visit = not-out .before .before .before .before in
-    some-told _ _ (visit .visit .result) (visit .visit .last .0) _ (held visit) (visit .visit .kept .0) (not-out .if1 .left) (not-full .if2 .left) (some .if3 .left) (c .before .before .clear4 .ensures)
+    some-told _ _ (visit .visit .result) (visit .visit .last .0) _ (held visit) (visit .visit .kept .0) (not-out .if1 .left) (not-full .if2 .left) (some .if3 .left) (c .before .before .clear-entries4 .ensures)
 
 pub walked-spec : {M : Type 1} → statement M
 walked-spec =
@@ -85,16 +85,16 @@ walked-spec =
     (tie.spec
     side-of-requires
     visit-requires
-    clear-requires
+    clear-entries-requires
     same-length
     returns
-    clear-requires-2
+    clear-entries-requires-2
     same-length-2
     returns-2
-    clear-requires-3
+    clear-entries-requires-3
     same-length-3
     returns-3
-    mul-clear
-    clear-requires-4
+    mul-clear-entries
+    clear-entries-requires-4
     same-length-4
     returns-4)

@@ -15,13 +15,13 @@ use borrow.Author.Needs.{needs}
 use Rattle.shown.proofs.chain.Statement.{statement}
 use Rattle.shown.proofs.chain.Tie as tie
 
-has-room-requires : tie.Need-has-room-requires
-has-room-requires c κs = search needs
+has-line-room-requires : tie.Need-has-line-room-requires
+has-line-room-requires c κs = search needs
 
 returns : tie.Need-returns
 returns c =
     let a = c .before .before .before .before .args in
-    without-room (a .out .now) (length (a .s .now)) (Says _) (sym (c .before .has-room .ensures) ∙ not-true _ (c .if1 .taken))
+    without-room (a .out .now) (length (a .s .now)) (Says _) (sym (c .before .has-line-room .ensures) ∙ not-true _ (c .if1 .taken))
 
 chain-refusal-requires : tie.Need-chain-refusal-requires
 chain-refusal-requires c κs = search needs
@@ -54,7 +54,7 @@ returns-2 c =
     let number = start .args .number in
     let behind = refusedText (refusalIn s) s ++ bytesIn "\n" in
     let same = ap (λ (n : ℕ). refusedText n s ++ bytesIn "\n") (refusal .chain-refusal .ensures) in
-    answered (start .args .out .now) (length s) (chainLine number s) (sym (room .before .has-room .ensures) ∙ not-false _ (room .if1 .left))
+    answered (start .args .out .now) (length s) (chainLine number s) (sym (room .before .has-line-room .ensures) ∙ not-false _ (room .if1 .left))
     (put-both (put-from (word .put .ensures)) (put-both (fields .put-chain .ensures .0) (puts-as same (end .put-end .ensures .0))))
     (omega (arith, length-append (bytesIn "CHAIN") (chainText number s ++ behind), length-append (chainText number s) behind, fields .put-chain .ensures .1, subst (λ (x : List ℕ). length x ≤ 31 + 2 * length s) same (end .put-end .ensures .1)))
 
@@ -62,7 +62,7 @@ pub chain-spec : {M : Type 1} → statement M
 chain-spec =
     tie.close
     (tie.spec
-    has-room-requires
+    has-line-room-requires
     returns
     chain-refusal-requires
     slice-aggregate-put

@@ -11,24 +11,24 @@ use mir.ValLaws.{toZ-ofZ}
 use Rattle.chart.specs.declared.Expected.{Expected}
 use Rattle.chart.specs.Readings.{saidBy}
 use Rattle.shown.specs.Expected.{expectedText}
-use Rattle.shown.specs.Rooms.{Reply, Says, lineFor, bufferFor, hasRoom, inRoom, replyOf}
+use Rattle.shown.specs.Rooms.{Reply, Says, lineFor, bufferFor, hasLineRoom, inRoom, replyOf}
 use Rattle.shown.proofs.ShownLaws.{with-room, without-room, answered}
 use Rattle.shown.proofs.expected.Statement.{statement}
 use Rattle.shown.proofs.expected.Tie as tie
 
-has-room-requires : tie.Need-has-room-requires
-has-room-requires c κs = search needs
+has-line-room-requires : tie.Need-has-line-room-requires
+has-line-room-requires c κs = search needs
 
 returns : tie.Need-returns
 returns c =
     let a = c .before .before .before .before .args in
-    without-room (a .out .now) 0 _ (sym (c .before .has-room .ensures) ∙ not-true _ (c .if1 .taken))
+    without-room (a .out .now) 0 _ (sym (c .before .has-line-room .ensures) ∙ not-true _ (c .if1 .taken))
 
 readings-requires : tie.Need-readings-requires
 readings-requires c κs = search needs
 
-room : (c : tie.Else1) → hasRoom (length (c .before .before .before .before .args .out .now)) 0 ≡ true
-room c = sym (c .before .has-room .ensures) ∙ not-false _ (c .if1 .left)
+room : (c : tie.Else1) → hasLineRoom (length (c .before .before .before .before .args .out .now)) 0 ≡ true
+room c = sym (c .before .has-line-room .ensures) ∙ not-false _ (c .if1 .left)
 
 enum-known-a : tie.Need-enum-known-a
 enum-known-a c = search needs
@@ -68,7 +68,7 @@ pub expected-spec : {M : Type 1} → statement M
 expected-spec =
     tie.close
     (tie.spec
-    has-room-requires
+    has-line-room-requires
     returns
     readings-requires
     enum-known-a

@@ -17,13 +17,13 @@ use borrow.Author.Needs.{needs}
 use Rattle.shown.proofs.job.Statement.{statement}
 use Rattle.shown.proofs.job.Tie as tie
 
-has-room-requires : tie.Need-has-room-requires
-has-room-requires c κs = search needs
+has-line-room-requires : tie.Need-has-line-room-requires
+has-line-room-requires c κs = search needs
 
 returns : tie.Need-returns
 returns c =
     let a = c .before .before .before .before .args in
-    without-room (a .out .now) (length (a .s .now)) (Says _) (sym (c .before .has-room .ensures) ∙ not-true _ (c .if1 .taken))
+    without-room (a .out .now) (length (a .s .now)) (Says _) (sym (c .before .has-line-room .ensures) ∙ not-true _ (c .if1 .taken))
 
 job-refusal-requires : tie.Need-job-refusal-requires
 job-refusal-requires c κs = search needs
@@ -55,7 +55,7 @@ returns-2 c =
     let s = start .args .s .now in
     let behind = refusedText (jobRefusal (jobOf s)) s ++ bytesIn "\n" in
     let same = ap (λ (n : ℕ). refusedText n s ++ bytesIn "\n") (refusal .job-refusal .ensures) in
-    answered (start .args .out .now) (length s) (jobLine s) (sym (room .before .has-room .ensures) ∙ not-false _ (room .if1 .left))
+    answered (start .args .out .now) (length s) (jobLine s) (sym (room .before .has-line-room .ensures) ∙ not-false _ (room .if1 .left))
     (put-both (put-from (word .put .ensures)) (put-both (fields .put-job .ensures .0) (puts-as same (end .put-end .ensures .0))))
     (omega (arith, length-append (bytesIn "JOB") (jobText s ++ behind), length-append (jobText s) behind, fields .put-job .ensures .1, subst (λ (x : List ℕ). length x ≤ 31 + 2 * length s) same (end .put-end .ensures .1)))
 
@@ -63,7 +63,7 @@ pub job-spec : {M : Type 1} → statement M
 job-spec =
     tie.close
     (tie.spec
-    has-room-requires
+    has-line-room-requires
     returns
     job-refusal-requires
     slice-aggregate-put

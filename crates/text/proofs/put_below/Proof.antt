@@ -13,18 +13,18 @@ use Rattle.text.proofs.put_below.Tie as tie
 digit-count-requires : tie.Need-digit-count-requires
 digit-count-requires c κs = search needs
 
-add-has-room : tie.Need-add-has-room
-add-has-room c = search needs
+add-lies-inside : tie.Need-add-lies-inside
+add-lies-inside c = search needs
 
-has-room-requires : tie.Need-has-room-requires
-has-room-requires c κs = search needs
+lies-inside-requires : tie.Need-lies-inside-requires
+lies-inside-requires c κs = search needs
 
 returns : tie.Need-returns
 returns c =
     let count = c .before .before in
     let a = count .before .before .args in
     let few : length (a .out .now) < a .at + (1 + count .digit-count .result) =
-    leb-false _ _ (sym (c .before .has-room .ensures) ∙ not-true _ (c .if1 .taken)) in
+    leb-false _ _ (sym (c .before .lies-inside .ensures) ∙ not-true _ (c .if1 .taken)) in
     nothing-promised _ _ _ (omega (arith, few, count .digit-count .ensures .0))
 
 -- The room for both.
@@ -33,7 +33,7 @@ room c =
     let count = c .before .before in
     let a = count .before .before .args in
     let enough : a .at + (1 + count .digit-count .result) ≤ length (a .out .now) =
-    leb-true _ _ (sym (c .before .has-room .ensures) ∙ not-false _ (c .if1 .left)) in
+    leb-true _ _ (sym (c .before .lies-inside .ensures) ∙ not-false _ (c .if1 .left)) in
     omega (arith, enough, count .digit-count .ensures .0)
 
 put-one-requires : tie.Need-put-one-requires
@@ -58,8 +58,8 @@ put-below-spec =
     tie.close
     (tie.spec
     digit-count-requires
-    add-has-room
-    has-room-requires
+    add-lies-inside
+    lies-inside-requires
     returns
     put-one-requires
     put-digits-requires

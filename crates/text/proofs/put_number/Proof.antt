@@ -12,15 +12,15 @@ use Rattle.text.proofs.put_number.Tie as tie
 digit-count-requires : tie.Need-digit-count-requires
 digit-count-requires c κs = search needs
 
-has-room-requires : tie.Need-has-room-requires
-has-room-requires c κs = search needs
+lies-inside-requires : tie.Need-lies-inside-requires
+lies-inside-requires c κs = search needs
 
 returns : tie.Need-returns
 returns c =
     let count = c .before .before in
     let a = count .before .before .args in
     let few : length (a .out .now) < a .at + count .digit-count .result =
-    leb-false _ _ (sym (c .before .has-room .ensures) ∙ not-true _ (c .if1 .taken)) in
+    leb-false _ _ (sym (c .before .lies-inside .ensures) ∙ not-true _ (c .if1 .taken)) in
     nothing-promised _ _ _ (omega (arith, few, count .digit-count .ensures .0))
 
 put-digits-requires : tie.Need-put-digits-requires
@@ -28,7 +28,7 @@ put-digits-requires c κs =
     let count = c .before .before .before in
     let a = count .before .before .args in
     let enough : a .at + count .digit-count .result ≤ length (a .out .now) =
-    leb-true _ _ (sym (c .before .before .has-room .ensures) ∙ not-false _ (c .before .if1 .left)) in
+    leb-true _ _ (sym (c .before .before .lies-inside .ensures) ∙ not-false _ (c .before .if1 .left)) in
     omega (arith, enough, count .digit-count .ensures .0)
 
 same-length : tie.Need-same-length
@@ -42,7 +42,7 @@ put-number-spec =
     tie.close
     (tie.spec
     digit-count-requires
-    has-room-requires
+    lies-inside-requires
     returns
     put-digits-requires
     same-length

@@ -12,8 +12,8 @@ use Rattle.writing.proofs.write.Tie as tie
 refusal-of-requires : tie.Need-refusal-of-requires
 refusal-of-requires c κs = search needs
 
-clear-requires : tie.Need-clear-requires
-clear-requires c κs = search needs
+clear-buffer-requires : tie.Need-clear-buffer-requires
+clear-buffer-requires c κs = search needs
 
 same-length : tie.Need-same-length
 same-length c = search needs
@@ -24,7 +24,7 @@ returns c =
     let read = cleared .before .before in
     let a = read .before .before .args in
     let length-is = length (a .buffer .now) in
-    (read .refusal-of .ensures, cleared .clear .ensures ∙ sym (buffer-zero length-is (a .d) (λ e. c .if1 .taken (read .refusal-of .ensures ∙ e))))
+    (read .refusal-of .ensures, cleared .clear-buffer .ensures ∙ sym (buffer-zero length-is (a .d) (λ e. c .if1 .taken (read .refusal-of .ensures ∙ e))))
 
 used-requires : tie.Need-used-requires
 used-requires c κs = search needs
@@ -41,7 +41,7 @@ put-requires c κs =
     let cleared = over .before .before .before in
     let o = start over in
     let small = used-small (length (o .args .buffer .now)) (o .args .d) (written over) in (
-      cleared .clear .ensures ∙ ap (λ (n : ℕ). replicate n 0) (written-bytes (length (o .args .buffer .now)) (o .args .d) (written over)),
+      cleared .clear-buffer .ensures ∙ ap (λ (n : ℕ). replicate n 0) (written-bytes (length (o .args .buffer .now)) (o .args .d) (written over)),
       subst⁻¹ (λ (d : Draft). d .kind < 256) (c .used .ensures) (small .0),
       subst⁻¹ (λ (d : Draft). d .chain < 256) (c .used .ensures) (small .1),
     )
@@ -63,7 +63,7 @@ write-spec =
     tie.close
     (tie.spec
     refusal-of-requires
-    clear-requires
+    clear-buffer-requires
     same-length
     returns
     used-requires

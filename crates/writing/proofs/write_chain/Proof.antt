@@ -11,8 +11,8 @@ use Rattle.writing.proofs.write_chain.Tie as tie
 chain-refusal-requires : tie.Need-chain-refusal-requires
 chain-refusal-requires c κs = search needs
 
-clear-requires : tie.Need-clear-requires
-clear-requires c κs = search needs
+clear-buffer-requires : tie.Need-clear-buffer-requires
+clear-buffer-requires c κs = search needs
 
 same-length : tie.Need-same-length
 same-length c = search needs
@@ -22,7 +22,7 @@ returns c =
     let cleared = c .before .before .before in
     let read = cleared .before .before in
     let a = read .before .before .args in
-    (read .chain-refusal .ensures, cleared .clear .ensures ∙ sym (chain-zero (length (a .buffer .now)) (a .c) (λ e. c .if1 .taken (read .chain-refusal .ensures ∙ e))))
+    (read .chain-refusal .ensures, cleared .clear-buffer .ensures ∙ sym (chain-zero (length (a .buffer .now)) (a .c) (λ e. c .if1 .taken (read .chain-refusal .ensures ∙ e))))
 
 abbrev start : tie.Else1 → tie.Start
 start c = c .before .before .before .before .before .before .before
@@ -34,7 +34,7 @@ put-chain-requires : tie.Need-put-chain-requires
 put-chain-requires c κs =
     let over = c .before in
     let a = start over .args in
-    over .before .before .before .clear .ensures ∙ ap (λ (n : ℕ). replicate n 0) (chain-fills (length (a .buffer .now)) (a .c) (written over))
+    over .before .before .before .clear-buffer .ensures ∙ ap (λ (n : ℕ). replicate n 0) (chain-fills (length (a .buffer .now)) (a .c) (written over))
 
 same-length-2 : tie.Need-same-length-2
 same-length-2 c = search needs
@@ -51,7 +51,7 @@ write-chain-spec =
     tie.close
     (tie.spec
     chain-refusal-requires
-    clear-requires
+    clear-buffer-requires
     same-length
     returns
     put-chain-requires

@@ -11,8 +11,8 @@ use Rattle.writing.proofs.write_job.Tie as tie
 job-refusal-requires : tie.Need-job-refusal-requires
 job-refusal-requires c κs = search needs
 
-clear-requires : tie.Need-clear-requires
-clear-requires c κs = search needs
+clear-buffer-requires : tie.Need-clear-buffer-requires
+clear-buffer-requires c κs = search needs
 
 same-length : tie.Need-same-length
 same-length c = search needs
@@ -22,7 +22,7 @@ returns c =
     let cleared = c .before .before .before in
     let read = cleared .before .before in
     let a = read .before .before .args in
-    (read .job-refusal .ensures, cleared .clear .ensures ∙ sym (job-zero (length (a .buffer .now)) (a .j) (λ e. c .if1 .taken (read .job-refusal .ensures ∙ e))))
+    (read .job-refusal .ensures, cleared .clear-buffer .ensures ∙ sym (job-zero (length (a .buffer .now)) (a .j) (λ e. c .if1 .taken (read .job-refusal .ensures ∙ e))))
 
 abbrev start : tie.Else1 → tie.Start
 start c = c .before .before .before .before .before .before .before
@@ -35,7 +35,7 @@ put-job-requires c κs =
     let over = c .before in
     let a = start over .args in
     let tests = job-passed (length (a .buffer .now)) (a .j) (written over) in
-    (over .before .before .before .clear .ensures ∙ ap (λ (n : ℕ). replicate n 0) (tests .0), small-k (a .j) (tests .1))
+    (over .before .before .before .clear-buffer .ensures ∙ ap (λ (n : ℕ). replicate n 0) (tests .0), small-k (a .j) (tests .1))
 
 same-length-2 : tie.Need-same-length-2
 same-length-2 c = search needs
@@ -52,7 +52,7 @@ write-job-spec =
     tie.close
     (tie.spec
     job-refusal-requires
-    clear-requires
+    clear-buffer-requires
     same-length
     returns
     put-job-requires

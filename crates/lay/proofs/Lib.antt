@@ -1,0 +1,2 @@
+-- What the proofs of the library share.
+pub mod Lists

@@ -1,0 +1,222 @@
+-- What the library for C tells of each answer: the number of the refusal, 0 for none, and the answer's figures, which are 0
+-- after a refusal (01, Numbers of refusal). Metres, expected readings and searches have their figures in
+-- their own crates.
+use Prim.Native.Nat.{ℕ, _/_, _%_, _^_}
+use mathlib.Core.Bool.{cond}
+use mathlib.Core.List.{List, [], _∷_, _++_}
+use lib.Dec.{eqb}
+use lib.IntN.{ℤ, pos}
+use lib.ListN.{length, getD, replicate}
+use Rattle.chart.specs.declared.Place.{Place}
+use Rattle.chart.specs.declared.Chain.{Chain}
+use Rattle.chart.specs.declared.Figures.{Figures}
+use Rattle.chart.specs.Places.{placeOf}
+use Rattle.chart.specs.Chains.{stationsOf, isSound}
+use Rattle.chart.specs.Readings.{expectedAt, figuresOf}
+use Rattle.search.specs.declared.Window.{Window}
+use Rattle.search.specs.declared.SearchFigures.{SearchFigures}
+use Rattle.search.specs.Answers.{entriesOf, searchFigures, searchLeft}
+use Rattle.records.specs.declared.Job.{Job}
+use Rattle.records.specs.declared.RawAnswer.{RawAnswer}
+use Rattle.records.specs.declared.RawAnswer.the-variants as raw
+use Rattle.records.specs.declared.LogEntry.{LogEntry}
+use Rattle.records.specs.declared.LogEntry.the-variants as entry
+use Rattle.records.specs.declared.ChainCount.{ChainCount}
+use Rattle.records.specs.declared.ChainCount.the-variants as count
+use Rattle.records.specs.declared.NamedChain.{NamedChain}
+use Rattle.records.specs.declared.NamedChain.the-variants as named
+use Rattle.records.specs.declared.JobAnswer.{JobAnswer}
+use Rattle.records.specs.declared.JobAnswer.the-variants as job
+use Rattle.records.specs.LogRecords.{rawRecordOf, logEntryOf}
+use Rattle.records.specs.Bytes.{unless}
+use Rattle.records.specs.ChainTables.{chainCountOf, rawChainOf, chainOf}
+use Rattle.records.specs.Jobs.{formedJobOf, jobOf}
+use Rattle.writing.specs.declared.Draft.{Draft}
+use Rattle.writing.specs.ChainWriting.{chainRefusalOf, chainBufferOf}
+use Rattle.listing.specs.declared.Carried.{Carried}
+use Rattle.listing.specs.declared.Carried.the-variants as carried
+use Rattle.listing.specs.declared.Listed.{Listed}
+use Rattle.listing.specs.declared.Listed.the-variants as listed
+use Rattle.listing.specs.Listings.{listLeft}
+use Rattle.lay.specs.declared.RecordFigures.{RecordFigures}
+use Rattle.lay.specs.declared.CountFigures.{CountFigures}
+use Rattle.lay.specs.declared.JobFigures.{JobFigures}
+use Rattle.lay.specs.declared.HeldFigures.{HeldFigures}
+use Rattle.lay.specs.declared.ListedFigures.{ListedFigures}
+
+-- The number of what lay.h declares: another one where a caller must be compiled anew.
+abbrev pub version : ℕ
+version = 1
+
+-- A window, a job and a draft by their figures.
+abbrev pub windowBy : ℕ → ℕ → ℕ → Window
+windowBy e n k = record { corner = placeOf e n; k = k }
+
+abbrev pub jobBy : ℕ → ℕ → ℕ → ℕ → ℕ → Job
+jobBy e n k tolerance allowance = record { window = windowBy e n k; tolerance = tolerance; allowance = allowance }
+
+abbrev pub draftBy : ℕ → ℕ → ℕ → ℤ → ℤ → Draft
+draftBy kind chain line x y = record { kind = kind; chain = chain; line = line; x = x; y = y }
+
+-- A chain by the numbers of its stations, easting and northing in turn: so many, or 1.
+abbrev pub chainNumbers : ℕ
+chainNumbers = 6
+
+abbrev pub chainWith : List ℕ → Chain
+chainWith s =
+    record {
+      master = placeOf (getD s 0 0) (getD s 1 0);
+      a = placeOf (getD s 2 0) (getD s 3 0);
+      b = placeOf (getD s 4 0) (getD s 5 0);
+    }
+
+unfoldable pub chainBy : List ℕ → NamedChain
+chainBy s = unless (eqb (length s) chainNumbers) (named.Refused 1) (named.Chain (chainWith s))
+
+-- The number of a refusal, and all that a lent list or buffer holds then.
+pub record Lent (A : Type 0) : Type 0 where
+  pub refusal : ℕ
+  pub holds : List A
+
+-- After a refusal it holds zeros alone.
+abbrev pub refusedWith : ℕ → ℕ → Lent ℕ
+refusedWith number entries = record { refusal = number; holds = replicate entries 0 }
+
+-- The bytes of a chain in a buffer: what the writer makes of it.
+unfoldable pub chainLent : ℕ → NamedChain → Lent ℕ
+chainLent bytes (named.Chain c) = record { refusal = chainRefusalOf bytes c; holds = chainBufferOf bytes c }
+chainLent bytes (named.Refused number) = refusedWith number bytes
+
+-- The chain of a number in a table, and the chain of these stations.
+abbrev pub chainTold : ℕ → List ℕ → ℕ → Lent ℕ
+chainTold bytes table number = chainLent bytes (chainOf table number)
+
+abbrev pub chainWritten : ℕ → List ℕ → Lent ℕ
+chainWritten bytes stations = chainLent bytes (chainBy stations)
+
+-- The numbers of a chain's stations in a list of so many entries: 1, then 5.
+unfoldable pub stationsLent : ℕ → NamedChain → Lent ℕ
+stationsLent entries (named.Chain c) =
+    unless (eqb entries chainNumbers) (refusedWith 1 entries)
+    (unless (isSound c) (refusedWith 5 entries) (record { refusal = 0; holds = entriesOf (stationsOf c) }))
+stationsLent entries (named.Refused number) = refusedWith number entries
+
+abbrev pub stationsTold : ℕ → List ℕ → Lent ℕ
+stationsTold entries chain = stationsLent entries (rawChainOf chain)
+
+-- The readings of a chain, one for each slave: so many.
+abbrev pub chainReadings : ℕ
+chainReadings = 2
+
+-- The figures of expected readings as a list.
+abbrev pub readingsLent : Figures → Lent ℤ
+readingsLent f = record { refusal = f .refusal; holds = f .a ∷ f .b ∷ [] }
+
+-- The readings expected at a place, in a list of so many entries: 1, then 4, then 5.
+unfoldable pub expectedLent : ℕ → NamedChain → Place → Lent ℤ
+expectedLent entries (named.Chain c) p =
+    unless (eqb entries chainReadings) (record { refusal = 1; holds = replicate entries (pos 0) })
+    (readingsLent (figuresOf (expectedAt c p)))
+expectedLent entries (named.Refused number) p = record { refusal = number; holds = replicate entries (pos 0) }
+
+abbrev pub expectedTold : ℕ → List ℕ → ℕ → ℕ → Lent ℤ
+expectedTold entries chain e n = expectedLent entries (rawChainOf chain) (placeOf e n)
+
+-- All that a search tells: its figures, and every entry of its list.
+pub record SearchTold : Type 0 where
+  pub figures : SearchFigures
+  pub list : List ℕ
+
+-- Nothing is searched: the list is zero.
+abbrev pub unsearched : ℕ → ℕ → SearchTold
+unsearched number entries =
+    record { figures = record { refusal = number; count = 0; visits = 0 }; list = replicate entries 0 }
+
+-- A search by a job, whose window and tolerance it tests itself.
+unfoldable pub searchedBy : Chain → List ℤ → JobAnswer → ℕ → SearchTold
+searchedBy c readings (job.Job j) entries =
+    let left = searchLeft c readings (j .window) (j .tolerance) (j .allowance) entries in
+    record { figures = searchFigures (left .answer); list = left .list }
+searchedBy c readings (job.Refused number) entries = unsearched number entries
+
+-- Before it 1 for the chain, and for readings that are not as many as it has slaves.
+unfoldable pub searchedIn : NamedChain → List ℤ → JobAnswer → ℕ → SearchTold
+searchedIn (named.Chain c) readings j entries =
+    unless (eqb (length readings) chainReadings) (unsearched 1 entries) (searchedBy c readings j entries)
+searchedIn (named.Refused number) readings j entries = unsearched number entries
+
+-- The bytes of a chain and of a job, and the readings: 1 where there are not as many, 2 for the job's zeros, then the search.
+abbrev pub searchTold : List ℕ → List ℤ → List ℕ → ℕ → SearchTold
+searchTold chain readings job entries = searchedIn (rawChainOf chain) readings (formedJobOf job) entries
+
+-- How many places were found, and the visits.
+abbrev pub foundIn : SearchFigures → List ℕ
+foundIn f = f .count ∷ f .visits ∷ []
+
+-- A log record in centimetres, with its line number. The chain number is a hyperbolic record's alone.
+unfoldable pub entryFigures : ℕ → ℕ → LogEntry → RecordFigures
+entryFigures line chain (entry.Readings a b) = record { refusal = 0; kind = 1; chain = chain; line = line; x = a; y = b }
+entryFigures line chain (entry.Place p) = record { refusal = 0; kind = 2; chain = 0; line = line; x = pos (p .easting); y = pos (p .northing) }
+entryFigures line chain entry.Hold = record { refusal = 0; kind = 3; chain = 0; line = line; x = pos 0; y = pos 0 }
+entryFigures line chain (entry.Refused number) = record { refusal = number; kind = 0; chain = 0; line = line; x = pos 0; y = pos 0 }
+
+-- The line number is told wherever there are 32 bytes, since any is allowed.
+unfoldable pub recordBy : RawAnswer → LogEntry → RecordFigures
+recordBy (raw.Record r) e = entryFigures (r .line) (r .chain) e
+recordBy (raw.Refused number) e = entryFigures 0 0 (entry.Refused number)
+
+-- A log record from its bytes.
+abbrev pub recordFigures : List ℕ → RecordFigures
+recordFigures s = recordBy (rawRecordOf s) (logEntryOf s)
+
+-- How many chains a table has.
+unfoldable pub countFigures : ChainCount → CountFigures
+countFigures (count.Chains n) = record { refusal = 0; count = n }
+countFigures (count.Refused number) = record { refusal = number; count = 0 }
+
+abbrev pub countTold : List ℕ → CountFigures
+countTold table = countFigures (chainCountOf table)
+
+-- A job.
+unfoldable pub jobAnswered : JobAnswer → JobFigures
+jobAnswered (job.Job j) = record { refusal = 0; job = j }
+jobAnswered (job.Refused number) = record { refusal = number; job = jobBy 0 0 0 0 0 }
+
+abbrev pub jobTold : List ℕ → JobFigures
+jobTold s = jobAnswered (jobOf s)
+
+-- The place carried to a record: none where `held` is 0.
+unfoldable pub carriedIn : ℕ → ℕ → ℕ → Carried
+carriedIn held e n = cond (eqb held 0) carried.Nothing (carried.Place (placeOf e n))
+
+-- The same as figures.
+unfoldable pub heldFigures : Carried → HeldFigures
+heldFigures (carried.Place p) = record { held = 1; place = p }
+heldFigures carried.Nothing = record { held = 0; place = placeOf 0 0 }
+
+-- A listing in a buffer.
+unfoldable pub listedFigures : Listed → ListedFigures
+listedFigures (listed.Text n c) = record { refusal = 0; length = n; carried = heldFigures c }
+listedFigures (listed.Refused number) = record { refusal = number; length = 0; carried = heldFigures carried.Nothing }
+
+-- A number of 64 bits in its two halves, the lower one first, as they lie in memory.
+abbrev pub halves : ℕ → List ℕ
+halves n = n % 2 ^ 32 ∷ n / 2 ^ 32 ∷ []
+
+-- A part of a listing in five numbers: the halves of its length, then the place carried on from it.
+abbrev pub partOf : ListedFigures → List ℕ
+partOf f = halves (f .length) ++ (f .carried .held ∷ f .carried .place .easting ∷ f .carried .place .northing ∷ [])
+
+-- The place carried to a part, from the same five numbers.
+abbrev pub carriedTo : List ℕ → Carried
+carriedTo part = carriedIn (getD part 2 0) (getD part 3 0) (getD part 4 0)
+
+-- All that the listing of a log, or of a further part of one, tells: its figures, and every byte of its buffer.
+pub record ListTold : Type 0 where
+  pub figures : ListedFigures
+  pub text : List ℕ
+
+abbrev pub listTold : List ℕ → List ℕ → List ℕ → List ℕ → List ℕ → ListTold
+listTold text job table log part =
+    let left = listLeft text job table log (carriedTo part) in
+    record { figures = listedFigures (left .answer); text = left .buffer }

@@ -1,2 +1,0 @@
--- What the next line of an input is.
-pub mod Input

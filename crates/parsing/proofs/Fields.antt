@@ -1,0 +1,136 @@
+-- Numbers that are too large for their field (specs/Numbers.antt, `held`). What is refused of a line's numbers as they are held
+-- is what would be refused of the numbers themselves, whatever their size; and a number that is written is the one typed.
+use Prim.Native.Nat.{ℕ, _+_, _^_, _<_}
+use mathlib.Core.Path.{_≡_, sym, ap, _∙_}
+use mathlib.Core.Bool.{true, _&&_, false≢true}
+use mathlib.Core.List.{List}
+use native.Mathlib.Omega.{arith}
+use borrow.Author.Tests.{ltb-true, lt-ltb}
+use Rattle.chart.specs.declared.Place.{Place}
+use Rattle.chart.specs.declared.Chain.{Chain}
+use Rattle.chart.specs.Places.{inRange}
+use Rattle.chart.specs.Readings.{expectedAt}
+use Rattle.chart.proofs.PlaceLaws.{both}
+use Rattle.records.specs.Bytes.{unless}
+use Rattle.records.specs.declared.Job.{Job}
+use Rattle.records.specs.ChainTables.{chainOf}
+use Rattle.writing.specs.declared.Draft.{Draft}
+use Rattle.writing.specs.Writing.{refusalOf, usedOf}
+use Rattle.writing.specs.ChainWriting.{chainRefusalOf}
+use Rattle.writing.specs.JobWriting.{jobRefusalOf}
+use Rattle.records.proofs.RefusalLaws.{passed}
+use Rattle.parsing.specs.declared.ParsedJob.the-variants as job
+use Rattle.parsing.specs.declared.ParsedChain.the-variants as chain
+use Rattle.parsing.specs.declared.ParsedDraft.the-variants as draft
+use Rattle.parsing.specs.declared.ParsedQuestion.the-variants as question
+use Rattle.parsing.specs.Words.{wordAt}
+use Rattle.parsing.specs.Numbers.{isBelow, isReading, areNumbers, noWord, isLine, valueAt, fits, held, sizeAt, readingAt}
+use Rattle.parsing.specs.Parsed.{parsedJob, parsedChain, isDraft, parsedDraft, parsedQuestion}
+use Rattle.parsing.proofs.Held.{heldPlace, held-in-range, heldChain, held-signed}
+use Rattle.parsing.proofs.HeldRecords.{heldJob, job-refused, job-kept, chain-refused, chain-kept, heldDraft, draft-refused, used-kept, draft-kept, named-held, expected-held}
+
+-- What a line says, whatever the size of its numbers.
+abbrev pub placeTyped : List ℕ → ℕ → Place
+placeTyped s i = record { easting = valueAt s i; northing = valueAt s (i + 1) }
+
+abbrev pub jobTyped : List ℕ → Job
+jobTyped s =
+    record {
+      window = record { corner = placeTyped s 0; k = valueAt s 2 };
+      tolerance = valueAt s 3;
+      allowance = valueAt s 4;
+    }
+
+abbrev pub chainTyped : List ℕ → Chain
+chainTyped s = record { master = placeTyped s 0; a = placeTyped s 2; b = placeTyped s 4 }
+
+abbrev pub draftTyped : List ℕ → Draft
+draftTyped s =
+    record {
+      kind = valueAt s 0;
+      chain = valueAt s 1;
+      line = valueAt s 2;
+      x = readingAt s 3;
+      y = readingAt s 4;
+    }
+
+-- The line number of a draft fits its field.
+line-fits : (s : List ℕ) → isDraft s ≡ true → valueAt s 2 < 2 ^ 32
+line-fits s h =
+    let x = both (areNumbers 3 s) _ h .1 in
+    let y = both (isReading (wordAt 3 s)) _ x .1 in
+    let rest = both (isReading (wordAt 4 s)) _ y .1 in
+    ltb-true (valueAt s 2) (2 ^ 32) (both (noWord 5 s) (fits 32 (valueAt s 2)) rest .1)
+
+-- A draft has its line's numbers as their fields hold them.
+pub draft-line : (s : List ℕ) → parsedDraft s ≡ unless (isDraft s) (draft.Refused 12) (draft.Draft (heldDraft (draftTyped s)))
+unfolding parsedDraft
+draft-line s = rw (held-signed (isBelow (wordAt 3 s)) (sizeAt s 3), held-signed (isBelow (wordAt 4 s)) (sizeAt s 4))
+
+-- A line that is taken as a job. The writer refuses of it what it would refuse of the numbers as they were typed, whatever their
+-- size; and a job that it accepts has those numbers.
+pub job-as-typed : (bytes : ℕ) (s : List ℕ) (j : Job) → parsedJob s ≡ job.Job j →
+    (jobRefusalOf bytes j ≡ jobRefusalOf bytes (jobTyped s)) × (jobRefusalOf bytes j ≡ 0 → j ≡ jobTyped s)
+unfolding parsedJob
+job-as-typed bytes s j e =
+    let form = passed (isLine 5 s && fits 64 (valueAt s 4)) (λ f. false≢true (cc)) e in
+    let same : j ≡ heldJob (jobTyped s) = cc (form .1) in
+    let small = ltb-true _ _ (both (isLine 5 s) (fits 64 (valueAt s 4)) (form .0) .1) in
+    let refused = ap (jobRefusalOf bytes) same ∙ job-refused bytes (jobTyped s) in
+    (refused, λ accepted. same ∙ job-kept bytes (jobTyped s) small (sym refused ∙ accepted))
+
+-- The same of a chain.
+pub chain-as-typed : (bytes : ℕ) (s : List ℕ) (c : Chain) → parsedChain s ≡ chain.Chain c →
+    (chainRefusalOf bytes c ≡ chainRefusalOf bytes (chainTyped s)) × (chainRefusalOf bytes c ≡ 0 → c ≡ chainTyped s)
+unfolding parsedChain
+chain-as-typed bytes s c e =
+    let form = passed (isLine 6 s) (λ f. false≢true (cc)) e in
+    let same : c ≡ heldChain (chainTyped s) = cc (form .1) in
+    let refused = ap (chainRefusalOf bytes) same ∙ chain-refused bytes (chainTyped s) in
+    (refused, λ accepted. same ∙ chain-kept bytes (chainTyped s) (sym refused ∙ accepted))
+
+-- The same of a draft; one that is accepted has the numbers that its kind uses.
+pub draft-as-typed : (bytes : ℕ) (s : List ℕ) (d : Draft) → parsedDraft s ≡ draft.Draft d →
+    (refusalOf bytes d ≡ refusalOf bytes (draftTyped s)) × (refusalOf bytes d ≡ 0 → usedOf d ≡ usedOf (draftTyped s))
+draft-as-typed bytes s d e =
+    let form = passed (isDraft s) (λ f. false≢true (cc)) (sym (draft-line s) ∙ e) in
+    let same : d ≡ heldDraft (draftTyped s) = cc (form .1) in
+    let refused = ap (refusalOf bytes) same ∙ draft-refused bytes (draftTyped s) in
+    (refused, λ accepted. ap usedOf same ∙ draft-kept bytes (draftTyped s) (line-fits s (form .0)) (sym refused ∙ accepted))
+
+-- The other way: a line of the form whose numbers the writer accepts is taken as these numbers; of a draft, as what its kind
+-- uses.
+pub job-taken : (bytes : ℕ) (s : List ℕ) → isLine 5 s ≡ true → valueAt s 4 < 2 ^ 64 → jobRefusalOf bytes (jobTyped s) ≡ 0 →
+    parsedJob s ≡ job.Job (jobTyped s)
+unfolding parsedJob
+job-taken bytes s line small accepted =
+    rw (line, lt-ltb (valueAt s 4) (2 ^ 64) small) (ap job.Job (job-kept bytes (jobTyped s) small accepted))
+
+pub chain-taken : (bytes : ℕ) (s : List ℕ) → isLine 6 s ≡ true → chainRefusalOf bytes (chainTyped s) ≡ 0 →
+    parsedChain s ≡ chain.Chain (chainTyped s)
+unfolding parsedChain
+chain-taken bytes s line accepted = rw line (ap chain.Chain (chain-kept bytes (chainTyped s) accepted))
+
+pub draft-taken : (bytes : ℕ) (s : List ℕ) (d : Draft) → isDraft s ≡ true → draftTyped s ≡ usedOf d → refusalOf bytes d ≡ 0 →
+    parsedDraft s ≡ draft.Draft (usedOf d)
+unfolding usedOf
+draft-taken bytes s d form typed accepted =
+    let line : valueAt s 2 ≡ d .line = ap (λ (e : Draft). e .line) typed in
+    draft-line s
+    ∙ rw form (ap draft.Draft (ap heldDraft typed ∙ used-kept bytes d (omega (arith, line-fits s form)) accepted))
+
+-- A line that is taken as a question. A table names the chain that it names by the number as it was typed, whatever its size; and
+-- at the place a chain has the readings, or the refusal, that it has at the place as it was typed.
+pub question-as-typed : (table s : List ℕ) (number : ℕ) (p : Place) → parsedQuestion s ≡ question.Question number p →
+    (chainOf table number ≡ chainOf table (valueAt s 0))
+    × (inRange p ≡ inRange (placeTyped s 1))
+    × ((c : Chain) → expectedAt c p ≡ expectedAt c (placeTyped s 1))
+unfolding parsedQuestion
+question-as-typed table s number p e =
+    let form = passed (isLine 3 s) (λ f. false≢true (cc)) e in
+    let n : number ≡ held 32 (valueAt s 0) = cc (form .1) in
+    let place : p ≡ heldPlace (placeTyped s 1) = cc (form .1) in (
+      ap (chainOf table) n ∙ named-held table (valueAt s 0),
+      ap inRange place ∙ held-in-range 32 (valueAt s 1) (valueAt s 2) (omega arith),
+      λ c. ap (expectedAt c) place ∙ expected-held c (placeTyped s 1),
+    )

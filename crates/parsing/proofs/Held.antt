@@ -1,0 +1,157 @@
+-- A number in its field passes the tests that the number itself passes, as long as they ask for less than the greatest that
+-- the field holds; and where it passes them it is the number itself.
+use Prim.Native.Nat.{ℕ, zero, suc, _+_, _-_, _^_, _≤_, _<_}
+use mathlib.Core.Path.{_≡_, refl, sym, ap, ap₂, _∙_}
+use mathlib.Core.Bool.{Bool, true, false, _&&_}
+use native.Mathlib.Omega.{arith}
+use borrow.Author.Tests.{leb-true, leb-false, le-leb, lt-leb, eqb-true, eqb-false, eq-eqb, ne-eqb}
+use lib.Dec.{leb, eqb}
+use lib.IntN.{ℤ, pos, negsuc, negℤ, natAbs}
+use Rattle.metres.specs.Metres.{signed, mostCentimetres}
+use Rattle.chart.specs.declared.Place.{Place}
+use Rattle.chart.specs.declared.Chain.{Chain}
+use Rattle.chart.specs.Places.{mostEasting, mostNorthing, inRange}
+use Rattle.chart.specs.Chains.{stationsOf, allInRange, noTwoEqual, isSound}
+use Rattle.chart.proofs.PlaceLaws.{both, in-range-says}
+use Rattle.chart.proofs.ChainLaws.{each-in-range}
+use Rattle.search.specs.declared.Window.{Window}
+use Rattle.search.specs.Windows.{northEast, mostExponent, isWindow}
+use Rattle.records.specs.LogRecords.{isPlace}
+use Rattle.records.specs.ChainTables.{oneTo}
+use Rattle.parsing.specs.Numbers.{held}
+
+-- Tests that fail together and pass together are one.
+leb-agree : (a b most : ℕ) → (most < b → most < a) → (b ≤ most → a ≤ most) → leb a most ≡ leb b most
+leb-agree a b most f g = go (leb b most) refl
+  where
+    go : (t : Bool) → leb b most ≡ t → leb a most ≡ t
+    go true e = le-leb a most (g (leb-true b most e))
+    go false e = lt-leb a most (f (leb-false b most e))
+
+-- A number that the field has room for is itself there.
+pub number-held : (bits n : ℕ) → n < 2 ^ bits → held bits n ≡ n
+number-held bits n h = omega arith
+
+-- The tests: at most, at most with more behind it, at least 1, equal, 1 to another.
+pub held-most : (bits n most : ℕ) → most + 1 < 2 ^ bits → leb (held bits n) most ≡ leb n most
+held-most bits n most h = leb-agree (held bits n) n most (λ l. omega arith) (λ l. omega arith)
+
+held-farther : (bits n more most : ℕ) → most + 1 < 2 ^ bits → leb (held bits n + more) most ≡ leb (n + more) most
+held-farther bits n more most h = leb-agree (held bits n + more) (n + more) most (λ l. omega arith) (λ l. omega arith)
+
+pub held-some : (bits n : ℕ) → 1 < 2 ^ bits → leb 1 (held bits n) ≡ leb 1 n
+held-some bits n h = go (leb 1 n) refl
+  where
+    go : (t : Bool) → leb 1 n ≡ t → leb 1 (held bits n) ≡ t
+    go true e = le-leb 1 (held bits n) (omega (arith, leb-true 1 n e))
+    go false e = lt-leb 1 (held bits n) (omega (arith, leb-false 1 n e))
+
+pub held-equal : (bits n m : ℕ) → m + 1 < 2 ^ bits → eqb (held bits n) m ≡ eqb n m
+held-equal bits n m h = go (eqb n m) refl
+  where
+    go : (t : Bool) → eqb n m ≡ t → eqb (held bits n) m ≡ t
+    go true e = eq-eqb (held bits n) m (omega (arith, eqb-true n m e))
+    go false e = ne-eqb (held bits n) m (λ f. eqb-false n m e (omega arith))
+
+pub held-one-to : (bits most n : ℕ) → most + 1 < 2 ^ bits → oneTo most (held bits n) ≡ oneTo most n
+held-one-to bits most n h = ap₂ _&&_ (held-some bits n (omega arith)) (held-most bits n most h)
+
+-- A place.
+abbrev pub heldPlace : Place → Place
+heldPlace p = record { easting = held 32 (p .easting); northing = held 32 (p .northing) }
+
+pub held-in-range : (bits e n : ℕ) → mostNorthing + 1 < 2 ^ bits →
+    inRange (record { easting = held bits e; northing = held bits n }) ≡ inRange (record { easting = e; northing = n })
+unfolding inRange
+held-in-range bits e n h = ap₂ _&&_ (held-most bits e mostEasting (omega arith)) (held-most bits n mostNorthing h)
+
+pub place-held : (p : Place) → inRange p ≡ true → heldPlace p ≡ p
+place-held p h =
+    let says = in-range-says p h in
+    rw (number-held 32 (p .easting) (omega arith), number-held 32 (p .northing) (omega arith))
+
+-- A chain. Stations that are equal only as they are held are out of range, and so were they before.
+abbrev pub heldChain : Chain → Chain
+heldChain c = record { master = heldPlace (c .master); a = heldPlace (c .a); b = heldPlace (c .b) }
+
+held-all-in-range : (c : Chain) → allInRange (stationsOf (heldChain c)) ≡ allInRange (stationsOf c)
+held-all-in-range c =
+    let one : (p : Place) → inRange (heldPlace p) ≡ inRange p = λ p. held-in-range 32 (p .easting) (p .northing) (omega arith) in
+    rw (one (c .master), one (c .a), one (c .b))
+
+all-held : (c : Chain) → allInRange (stationsOf c) ≡ true → heldChain c ≡ c
+all-held c h =
+    let each = each-in-range (stationsOf c) h in
+    rw (place-held (c .master) (each .0), place-held (c .a) (each .1 .0), place-held (c .b) (each .1 .1 .0))
+
+pub held-sound : (c : Chain) → isSound (heldChain c) ≡ isSound c
+unfolding isSound
+held-sound c = go (allInRange (stationsOf c)) refl
+  where
+    go : (t : Bool) → allInRange (stationsOf c) ≡ t → isSound (heldChain c) ≡ isSound c
+    go true e = ap isSound (all-held c e)
+    go false e =
+        ap (λ (t : Bool). t && noTwoEqual (stationsOf (heldChain c))) (held-all-in-range c ∙ e)
+        ∙ sym (ap (λ (t : Bool). t && noTwoEqual (stationsOf c)) e)
+
+pub chain-held : (c : Chain) → isSound c ≡ true → heldChain c ≡ c
+unfolding isSound
+chain-held c h = all-held c (both (allInRange (stationsOf c)) (noTwoEqual (stationsOf c)) h .0)
+
+-- A window.
+abbrev pub heldWindow : Window → Window
+heldWindow w = record { corner = heldPlace (w .corner); k = held 32 (w .k) }
+
+pub held-is-window : (w : Window) → isWindow (heldWindow w) ≡ isWindow w
+unfolding isWindow inRange
+held-is-window w = go (leb (w .k) mostExponent) refl
+  where
+    go : (t : Bool) → leb (w .k) mostExponent ≡ t → isWindow (heldWindow w) ≡ isWindow w
+    go true e =
+        let same = number-held 32 (w .k) (omega (arith, leb-true (w .k) mostExponent e)) in
+        rw same (ap₂ (λ (e n : Bool). leb (w .k) mostExponent && (e && n))
+        (held-farther 32 (w .corner .easting) (2 ^ w .k - 1) mostEasting (omega arith))
+        (held-farther 32 (w .corner .northing) (2 ^ w .k - 1) mostNorthing (omega arith)))
+    go false e = rw (held-most 32 (w .k) mostExponent (omega arith), e)
+
+pub window-held : (w : Window) → isWindow w ≡ true → heldWindow w ≡ w
+unfolding isWindow
+window-held w h =
+    let two = both (leb (w .k) mostExponent) (inRange (northEast (2 ^ w .k - 1) (w .corner))) h in
+    let far = in-range-says (northEast (2 ^ w .k - 1) (w .corner)) (two .1) in
+    rw (
+      number-held 32 (w .k) (omega (arith, leb-true (w .k) mostExponent (two .0))),
+      number-held 32 (w .corner .easting) (omega (arith, far .0)),
+      number-held 32 (w .corner .northing) (omega (arith, far .1)),
+    )
+
+-- A whole number in 64 bits with a sign.
+abbrev pub heldWhole : ℤ → ℤ
+heldWhole (pos n) = pos (held 63 n)
+heldWhole (negsuc n) = negℤ (pos (held 63 (suc n)))
+
+pub held-signed : (below : Bool) (n : ℕ) → heldWhole (signed below n) ≡ signed below (held 63 n)
+held-signed false n = refl
+held-signed true zero = refl
+held-signed true (suc n) = refl
+
+held-below : (n : ℕ) → heldWhole (negsuc n) ≡ negsuc (held 63 (suc n) - 1)
+held-below n =
+    let some : held 63 (suc n) ≡ suc (held 63 (suc n) - 1) = omega arith in
+    ap (λ (m : ℕ). negℤ (pos m)) some
+
+pub held-size : (z : ℤ) → leb (natAbs (heldWhole z)) mostCentimetres ≡ leb (natAbs z) mostCentimetres
+held-size (pos n) = held-most 63 n mostCentimetres (omega arith)
+held-size (negsuc n) =
+    ap (λ (z : ℤ). leb (natAbs z) mostCentimetres) (held-below n)
+    ∙ leb-agree (suc (held 63 (suc n) - 1)) (suc n) mostCentimetres (λ l. omega arith) (λ l. omega arith)
+
+pub whole-held : (z : ℤ) → natAbs z ≤ mostCentimetres → heldWhole z ≡ z
+whole-held (pos n) h = ap pos (number-held 63 n (omega arith))
+whole-held (negsuc n) h = ap (λ (m : ℕ). negℤ (pos m)) (number-held 63 (suc n) (omega arith))
+
+pub held-is-place : (x y : ℤ) → isPlace (heldWhole x) (heldWhole y) ≡ isPlace x y
+unfolding isPlace
+held-is-place (pos e) (pos n) = held-in-range 63 e n (omega arith)
+held-is-place (pos e) (negsuc n) = ap (isPlace (pos (held 63 e))) (held-below n)
+held-is-place (negsuc e) y = ap (λ (x : ℤ). isPlace x (heldWhole y)) (held-below e)

@@ -1,0 +1,46 @@
+-- How the code goes through a line: what its private functions promise each other. No public promise rests on it.
+use Prim.Native.Nat.{ℕ, _-_, _^_, _≤_, min}
+use mathlib.Core.Path.{_≡_}
+use mathlib.Core.Bool.{Bool, true, false, cond}
+use mathlib.Core.List.{List}
+use lib.ListN.{length, take, drop}
+use Rattle.parsing.specs.declared.Class.{Class}
+use Rattle.parsing.specs.declared.Class.the-variants as class
+use Rattle.parsing.specs.declared.Sized.{Sized}
+use Rattle.parsing.specs.declared.Sized.the-variants as sized
+use Rattle.parsing.specs.declared.Span.{Span}
+use Rattle.parsing.specs.Words.{isInLine, isBlank, isInWord}
+use Rattle.parsing.specs.Numbers.{isDigit, fits}
+
+-- The bytes of a class.
+unfoldable pub isOf : Class → ℕ → Bool
+isOf class.InLine b = isInLine b
+isOf class.Blank b = isBlank b
+isOf class.InWord b = isInWord b
+isOf class.Digit b = isDigit b
+
+-- A number in 64 bits, or that it is larger.
+abbrev pub sizedOf : ℕ → Sized
+sizedOf n = cond (fits 64 n) (sized.Value n) sized.Large
+
+-- Whether it has 64 bits; the same in a field that holds at most so much, or so many bits; and whether it fits there.
+unfoldable pub isValue : Sized → Bool
+isValue (sized.Value n) = true
+isValue sized.Large = false
+
+unfoldable pub heldTo : ℕ → Sized → ℕ
+heldTo most (sized.Value n) = min n most
+heldTo most sized.Large = most
+
+abbrev pub heldIn : ℕ → Sized → ℕ
+heldIn bits n = heldTo (2 ^ bits - 1) n
+
+unfoldable pub fitsIn : ℕ → Sized → Bool
+fitsIn bits (sized.Value n) = fits bits n
+fitsIn bits sized.Large = false
+
+-- A span of a line has these bytes.
+pub record Spans (s : List ℕ) (w : List ℕ) (p : Span) : Type 0 where
+  pub rises : p .start ≤ p .end
+  pub inside : p .end ≤ length s
+  pub word : take (p .end - p .start) (drop (p .start) s) ≡ w

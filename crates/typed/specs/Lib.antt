@@ -1,5 +1,0 @@
--- Text that a person types, and what it stands for.
-pub mod Words
-pub mod Numbers
-pub mod Typed
-pub mod Scanning

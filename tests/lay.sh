@@ -1,0 +1,107 @@
+#!/usr/bin/env bash
+# What the library lists into a buffer, at once and in parts, against document 01's listing and against the rule (listing.py,
+# rule.py); and that the harness answers no request that is ill-formed.
+cd "$(dirname "$0")/.." && . tests/common.bash && . tests/library.bash
+
+# digits TEXT: its bytes in hexadecimal
+digits() { printf '%s' "$1" | od -An -v -tx1 | tr -d ' \n'; }
+
+# 01's job, its chain, and its log of three records, whose whole output stands there.
+job=30750000409c0000010000000000000064000000000000000000000000000000
+table=0000000000000000307500000000000000000000409c0000
+fix=010100000100000000000000000059c000000000000069c00000000000000000
+grid=02000000020000005c8fc2f528c0724000000000000079400000000000000000
+hold=0300000003000000000000000000000000000000000000000000000000000000
+lines=('1 FIX 2 5 30000 40000 30001 40001'$'\n' '2 GRID 1 0 30001 40000'$'\n' '3 HOLD 1 0 30001 40000'$'\n')
+whole=${lines[0]}${lines[1]}${lines[2]}
+
+# asks LENGTH DIRT HELD E N JOB TABLE LOG: a request; gives REFUSAL HELD E N TEXT: the answer that it must have
+asks() { echo "list $*" >>"$requests"; }
+gives() {
+    local text
+    text=$(digits "$5")
+    echo "$1 ${#5} $2 $3 $4 ${text:--} kept" >>"$asked/literal"
+}
+
+# The log at once; then its records one by one, with the place that each leaves.
+asks 23040 165 0 0 0 $job $table $fix$grid$hold
+gives 0 1 30001 40000 "$whole"
+asks 11520 165 0 0 0 $job $table $fix
+gives 0 0 0 0 "${lines[0]}"
+asks 11520 165 0 0 0 $job $table $grid
+gives 0 1 30001 40000 "${lines[1]}"
+asks 11520 165 1 30001 40000 $job $table $hold
+gives 0 1 30001 40000 "${lines[2]}"
+
+# A hold with nothing to hold, whatever place stands beside it; one whose mark is another number; after a window of one cell.
+asks 11520 0 0 30001 40000 $job $table $hold
+gives 0 0 0 0 '3 REFUSED 11 0'$'\n'
+asks 11520 0 4294967295 30001 40000 $job $table $hold
+gives 0 1 30001 40000 "${lines[2]}"
+asks 17280 10 0 0 0 ${job/0001/0000} $table $fix$hold
+gives 0 1 30000 40000 '1 FIX 1 1 30000 40000'$'\n''3 HOLD 1 0 30000 40000'$'\n'
+
+# A buffer that is a byte too short, for the log and for no log; a short last record, a bad job before a bad table.
+asks 23039 165 0 0 0 $job $table $fix$grid$hold
+gives 9 0 0 0 ''
+asks 5759 0 0 0 0 $job $table -
+gives 9 0 0 0 ''
+asks 5760 0 0 0 0 $job $table -
+gives 0 0 0 0 ''
+asks 11520 255 1 30001 40000 $job $table ${grid}03
+gives 0 0 0 0 "${lines[1]}"'- REFUSED 1 0'$'\n'
+asks 11520 255 0 0 0 $job ${table}00 $grid
+gives 0 0 0 0 'CHAIN REFUSED 1'$'\n'
+asks 11520 255 0 0 0 ${job/0001/0019} ${table}00 $grid
+gives 0 0 0 0 'JOB REFUSED 6'$'\n'
+ask cat "$asked/literal"
+
+# The folders that have a reason.
+python3 tests/listing.py requests >"$requests"
+ask python3 tests/listing.py answers
+refuses list 0 9
+
+# no_answer LINE: that the harness ends with 2 at such a request, behind the answer to the one before it
+no_answer() {
+    local status=0
+    printf '%s\n%s\n' 'metres 0' "$1" | harness >"$answers" 2>"$wanted" || status=$?
+    [ "$status" -eq 2 ] && [ "$(<"$answers")" = '0 0000000000000000' ] && [ "$(wc -l <"$wanted")" -eq 1 ]
+}
+while IFS= read -r line; do
+    pass_if "no answer to '$line'" no_answer "$line"
+done <<'END'
+
+metre 0
+metres
+metres 
+metres  0
+metres 0 0
+metres +1
+metres -
+metres 1x
+metres 9223372036854775808
+metres -9223372036854775809
+centimetres 0
+centimetres 3FC0000000000000
+centimetres 3fc00000000000000
+read_record 0
+read_record 0A
+read_record --
+count_chains  
+chain 24 90 4294967296 -
+chain 24 90 -1 -
+write_record 32 256 1 1 1 0 0
+write_record 18446744073709551615 0 1 1 1 0 0
+expected 2 7 0,0,30000,0,0 0 0
+expected 2 7 0,0,30000,0,0,40000,0 0 0
+expected 2 7 0,0,30000,0,,40000 0 0
+expected 2 7 0,0,30000,0,0,4294967296 0 0
+search 4611686018427387904 7 0,0,30000,0,0,40000 0,0,0,0,0 0 0
+search 1 7 0,0,30000,0,0,40000 0,0,0,0,18446744073709551616 0 0
+search 1 7 0,0,30000,0,0,40000 0,0,256,0,0 0 0
+search 1 7 0,0,30000,0,0,40000
+write_chain 24
+version 1
+list 5760 0 0 0 0 - -
+END
+done_testing

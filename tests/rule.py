@@ -1,0 +1,333 @@
+"""The rules of document 01 in whole numbers and exact fractions, section by section in that paper's order: the one statement
+of them that the models of the tests share. The second program, second/, stays apart from it.
+
+A place is a pair, easting and northing, in centimetres. Readings are a tuple, one for each slave of a chain. A rule that can
+refuse has its tests in the order in which they go, each with its number.
+"""
+import struct
+from fractions import Fraction
+from math import isfinite, isqrt
+from typing import NamedTuple
+
+
+class Refusal(Exception):
+    def __init__(self, number):
+        super().__init__(number)
+        self.number = number
+
+
+def refuse(number, wrong):
+    """A test: the first that fails answers."""
+    if wrong:
+        raise Refusal(number)
+
+
+def tried(rule, *given):
+    """The number of the refusal and None; or 0 and what the rule gives."""
+    try:
+        return 0, rule(*given)
+    except Refusal as refusal:
+        return refusal.number, None
+
+
+# 01, The work and its edges
+
+EAST, NORTH = 100_000_000, 1_000_000_000
+
+
+def in_range(place):
+    return 0 <= place[0] <= EAST and 0 <= place[1] <= NORTH
+
+
+def moved(place, east, north):
+    return place[0] + east, place[1] + north
+
+
+def flat(places):
+    """Easting and northing of each place, in one list."""
+    return [number for place in places for number in place]
+
+
+# 01, Distance and reading
+
+
+class Chain(NamedTuple):
+    """The places of the master and of the slaves A and B."""
+
+    master: tuple
+    slaves: tuple
+
+
+def stations(chain):
+    return chain.master, *chain.slaves
+
+
+def distance(p, q):
+    """The whole part of the square root of the sum of the squared differences."""
+    return isqrt((p[0] - q[0]) ** 2 + (p[1] - q[1]) ** 2)
+
+
+def range_of(chain, station, place):
+    """How far a place is from a station of a chain, as readings count it."""
+    return distance(place, station)
+
+
+def readings(chain, place):
+    """For each slave its range less the master's, each cut to a whole number first."""
+    to_master = range_of(chain, chain.master, place)
+    return tuple(range_of(chain, slave, place) - to_master for slave in chain.slaves)
+
+
+def is_sound(chain):
+    """All its places are in range, and no two are equal."""
+    places = stations(chain)
+    return all(map(in_range, places)) and len(set(places)) == len(places)
+
+
+def agrees(chain, place, wanted, by):
+    """Every reading differs from the one wanted by at most so much. A cell matches if it agrees by the tolerance."""
+    return all(abs(reading - want) <= by for reading, want in zip(readings(chain, place), wanted))
+
+
+# 01, Metres to centimetres and back
+
+SIZE = 1_000_000_000
+
+
+def centimetres(metres):
+    """The whole number nearest to exactly 100 times a binary64 number, a tie to the even one, as Python's `round` has it."""
+    refuse(3, not isfinite(metres) or abs(metres) > 10_000_000)
+    return round(100 * Fraction(metres))
+
+
+def metres(centimetres):
+    """Divided by 100 in one rounded operation, as Python's quotient of two whole numbers is."""
+    refuse(3, abs(centimetres) > SIZE)
+    return centimetres / 100
+
+
+# 01, The records: the log
+
+# How many of the three numbers each kind uses: readings, easting and northing, none.
+USED = {1: 2, 2: 2, 3: 0}
+
+
+class Record(NamedTuple):
+    kind: int
+    chain: int
+    line: int
+    numbers: tuple
+
+
+def raw_record(s):
+    """What stands where in 32 bytes, with three numbers in metres."""
+    kind, chain, line, *numbers = struct.unpack("<BBxxI3d", s)
+    return Record(kind, chain, line, tuple(numbers))
+
+
+def zero_bytes(s):
+    """The bytes that must be zero: the chain but for kind 1, bytes 2 and 3, and every number that the kind does not use."""
+    return s[2 if s[0] == 1 else 1 : 4] + s[8 + 8 * USED[s[0]] :]
+
+
+def log_record(s):
+    """A record with the numbers that its kind uses, in centimetres."""
+    refuse(1, len(s) != 32)
+    raw = raw_record(s)
+    refuse(2, raw.kind not in USED or any(zero_bytes(s)))
+    numbers = tuple(map(centimetres, raw.numbers[: USED[raw.kind]]))
+    refuse(4, raw.kind == 2 and not in_range(numbers))
+    return raw._replace(numbers=numbers)
+
+
+def record_bytes(record, length=32):
+    """What the writer leaves in a buffer of that length, of numbers in centimetres. What the kind does not use is ignored."""
+    refuse(1, length != 32)
+    refuse(2, record.kind not in USED)
+    numbers = record.numbers[: USED[record.kind]]
+    fields = b"".join(struct.pack("<d", metres(number)) for number in numbers)
+    refuse(4, record.kind == 2 and not in_range(numbers))
+    refuse(5, record.kind == 1 and not 1 <= record.chain <= 16)
+    return struct.pack("<BBxxI24s", record.kind, record.chain if record.kind == 1 else 0, record.line, fields)
+
+
+# 01, The records: the chain table
+
+
+def pieces(s, size):
+    return [s[at : at + size] for at in range(0, len(s), size)]
+
+
+def chain_of(numbers):
+    """The chain of eastings and northings in turn, those of the master first."""
+    master, *slaves = zip(numbers[0::2], numbers[1::2])
+    return Chain(master, tuple(slaves))
+
+
+def chain_bytes(chain):
+    return struct.pack("<6I", *flat(stations(chain)))
+
+
+def chains_in(table):
+    """Every chain of a table, sound or not."""
+    refuse(1, len(table) % 24 or not 1 <= len(table) // 24 <= 16)
+    return [chain_of(struct.unpack("<6I", s)) for s in pieces(table, 24)]
+
+
+def chain_in(table, number):
+    """The chain of a number, which is counted from 1."""
+    chains = chains_in(table)
+    refuse(5, not 1 <= number <= len(chains))
+    refuse(5, not is_sound(chains[number - 1]))
+    return chains[number - 1]
+
+
+# 01, The records: the job
+
+
+class Job(NamedTuple):
+    """The window's south-west cell and its exponent, the tolerance and the allowance."""
+
+    corner: tuple
+    k: int
+    tolerance: int
+    allowance: int
+
+
+def raw_job(s):
+    """What stands where in 32 bytes."""
+    easting, northing, *others = struct.unpack("<IIB3xIQ8x", s)
+    return Job((easting, northing), *others)
+
+
+def job_bytes(job):
+    return struct.pack("<IIB3xIQ8x", *job.corner, *job[1:])
+
+
+def is_window(corner, k):
+    """Every cell of 2^k by 2^k is in range."""
+    return k <= 24 and in_range(corner) and in_range(moved(corner, 2**k - 1, 2**k - 1))
+
+
+def check_job(job):
+    refuse(6, not is_window(job.corner, job.k))
+    refuse(7, job.tolerance > 100_000)
+
+
+def job_zeros(s):
+    """The bytes that must be zero."""
+    return s[9:12] + s[24:]
+
+
+def job_in(s):
+    refuse(1, len(s) != 32)
+    refuse(2, any(job_zeros(s)))
+    check_job(raw_job(s))
+    return raw_job(s)
+
+
+# 01, The search and its count
+
+
+def walk(chain, wanted, job):
+    """The squares in the order of their visits, each by its south-west cell and its side. What is put last is taken first, so
+    each quarter is finished before the next."""
+    squares = [(job.corner, 2**job.k)]
+    while squares:
+        corner, side = squares.pop()
+        yield corner, side
+        half = side // 2
+        if side > 1 and agrees(chain, moved(corner, half, half), wanted, job.tolerance + 2 * side + 2):
+            for east, north in (half, half), (0, half), (half, 0), (0, 0):
+                squares.append((moved(corner, east, north), half))
+
+
+def search(chain, wanted, job, room):
+    """The refusal, the visits and the places; 8, 9 and 10 come as the walk meets them."""
+    refusal, _ = tried(check_search, chain, wanted, job)
+    if refusal:
+        return refusal, 0, []
+    visits, places = 0, []
+    for cell, side in walk(chain, wanted, job):
+        if visits == job.allowance:
+            return 10, visits, []
+        visits += 1
+        if side == 1 and agrees(chain, cell, wanted, job.tolerance):
+            if len(places) == room:
+                return 9, visits, []
+            places.append(cell)
+    return 0 if places else 8, visits, places
+
+
+def check_search(chain, wanted, job):
+    """What is tested before any visit (01, Numbers of refusal)."""
+    refuse(3, any(abs(reading) > SIZE for reading in wanted))
+    refuse(5, not is_sound(chain))
+    check_job(job)
+
+
+def chart_number(corner, cell):
+    """The bits of a cell's offsets interleaved, the northing's above the easting's; chart order is by these."""
+    east, north = cell[0] - corner[0], cell[1] - corner[1]
+    return sum((east >> i & 1) << 2 * i | (north >> i & 1) << 2 * i + 1 for i in range(24))
+
+
+# 01, Numbers of refusal: a place's expected readings
+
+
+def expected(table, number, place):
+    """4 precedes 5; a table that is none comes before both."""
+    chains_in(table)
+    refuse(4, not in_range(place))
+    return readings(chain_in(table, number), place)
+
+
+# 01, The program
+
+ROOM = 256
+
+
+def given(word, places, visits=0):
+    return word, len(places), visits, places
+
+
+def refused(number, visits=0):
+    return "REFUSED", number, visits, []
+
+
+def answer(job, table, held, s, find):
+    """A record's word, the count of its places or the number of its refusal, the visits and the places. `held` has the place
+    that a hold repeats, or nothing."""
+    refusal, record = tried(log_record, s)
+    if refusal:
+        return refused(refusal)
+    if record.kind == 3:
+        return given("HOLD", held) if held else refused(11)
+    if record.kind == 2:
+        return given("GRID", [record.numbers])
+    refusal, chain = tried(chain_in, table, record.chain)
+    if refusal:
+        return refused(refusal)
+    refusal, visits, places = find(chain, record.numbers, job, ROOM)
+    return refused(refusal, visits) if refusal else given("FIX", places, visits)
+
+
+def lines(job, table, log, held, find):
+    """A line a record, and with it the place that a hold behind it repeats, or nothing."""
+    for s in pieces(log, 32):
+        *words, places = answer(job, table, held, s, find)
+        held = places if len(places) == 1 else []
+        line = raw_record(s).line if len(s) == 32 else "-"
+        yield " ".join(map(str, (line, *words, *flat(places)))), held
+
+
+def listing(job, table, log, held=(), find=search):
+    """The lines for the bytes of three files. A log may be a part of one, with the place that the part before it leaves; and
+    `find` another search that answers the same."""
+    refusal, asked = tried(job_in, job)
+    if refusal:
+        return [(f"JOB REFUSED {refusal}", [])]
+    refusal, _ = tried(chains_in, table)
+    if refusal:
+        return [(f"CHAIN REFUSED {refusal}", [])]
+    return list(lines(asked, table, log, held, find))
