@@ -35,6 +35,12 @@
 #include <stdlib.h>
 #include <string.h>
 
+/* The structs lie in memory as the arrays do that the library takes them for. */
+_Static_assert(sizeof(struct lay_found) == 2 * sizeof(uint64_t), "two numbers of 64 bits");
+_Static_assert(offsetof(struct lay_found, visits) == 8, "the second of them");
+_Static_assert(offsetof(struct lay_part, held) == 8 && offsetof(struct lay_part, easting) == 12, "behind the length");
+_Static_assert(offsetof(struct lay_part, northing) == 16, "the last of five numbers of 32 bits");
+
 enum { GUARD = 64, GUARD_BYTE = 0xC3, RESULT_DIRT = 0xA5, MOST_LENT = 8 };
 
 static const char HEX[] = "0123456789abcdef";

@@ -42,9 +42,11 @@ pass_if 'LAY_TABLE_BYTES is that of the most chains' same "$(in_header LAY_TABLE
 pass_if 'the library has the version of the header' \
     same "$(echo version | harness)" "$(sed -n 's/^#define LAY_VERSION \([0-9]*\)$/\1/p' $header)"
 
-# declared: a line for each function of the header, its name and its arguments; exported: the functions that the library has
+# declared: a line for each function of the header, its name and its arguments; symbols: what the library has, by the tool that
+# belongs to its compiler; exported: its functions
 declared() { tr '\n' ' ' <$header | grep -oE 'uint32_t lay_[a-z_]+\([^)]*\);' | sed 's/^uint32_t //'; }
-exported() { nm "$library" 2>/dev/null | awk '$2 == "T" { print $3 }' | sort; }
+symbols() { "${compiler%gcc}nm" "$@" "$library"; }
+exported() { symbols | awk '$2 == "T" { print $3 }' | sort; }
 pass_if 'the header declares what the library has' [ "$(declared | sed 's/(.*//' | sort)" = "$(exported)" ]
 while read -r function; do
     commas=${function//[^,]/}
@@ -52,6 +54,6 @@ while read -r function; do
 done < <(declared)
 
 # No variable that outlives a call, and nothing called but what fills and copies memory: no file, no heap and no lock.
-pass_if 'the library has no variables' [ -z "$(nm "$library" 2>/dev/null | awk '$2 ~ /^[bBdDcC]$/')" ]
-pass_if 'the library calls on nothing outside' [ -z "$(nm -u "$library" 2>/dev/null | awk '$1 == "U" && $2 !~ /^mem(set|cpy|move)$/')" ]
+pass_if 'the library has no variables' [ -z "$(symbols | awk '$2 ~ /^[bBdDcC]$/')" ]
+pass_if 'the library calls on nothing outside' [ -z "$(symbols -u | awk '$1 == "U" && $2 !~ /^mem(set|cpy|move)$/')" ]
 done_testing
