@@ -1,4 +1,4 @@
-// Places, and the distance of two of them by the processor's square root.
+// For the C programs of the bench: places, and the distance of two places by the processor's square root.
 #include <math.h>
 #include <stdint.h>
 
@@ -6,7 +6,7 @@ typedef struct {
     int64_t easting, northing;
 } Place;
 
-// The whole part of the root. Just below a perfect square the root of a double is one too large, so it is put right.
+// The whole part of the root. Just below a perfect square the root of a double may be one too large, so it is corrected.
 static int64_t whole_root(int64_t n) {
     int64_t r = (int64_t)sqrt((double)n);
     while (r * r > n) r--;

@@ -1,5 +1,5 @@
-// The C code behind the toolchain's library os, as far as laylist calls it. The toolchain has it for x86-64 alone; this is
-// for measuring on other machines, and no program of target/bin has it.
+// The C code under the toolchain's library os, as far as laylist calls it. The toolchain has it for x86-64 only; this file is
+// for measuring on other machines, and no program of target/bin contains it.
 #include <errno.h>
 #include <fcntl.h>
 #include <stddef.h>
@@ -11,7 +11,7 @@ int32_t rattle_errno(void) { return errno; }
 
 void rattle_set_errno(int32_t error) { errno = error; }
 
-// The bench gives laylist no argument: there is its own name alone.
+// The bench runs laylist without arguments: there is only its own name.
 size_t rattle_arg_count(void) { return 1; }
 
 ptrdiff_t rattle_arg(size_t i, unsigned char *buffer, size_t bytes) {

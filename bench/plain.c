@@ -1,6 +1,6 @@
-// Lists a lay log in the plain way: the measure that the bench holds the other programs against.
+// Lists a lay log in the plain way: the program with which the bench compares the times of the others.
 //     cc -O2 -o target/bench/plain bench/plain.c -lm && target/bench/plain FOLDER
-// It prints what laylist prints of the folder, or of the one it is run in. Each visit takes three roots.
+// It prints what laylist prints for FOLDER, or for the folder it is run in if none is given. Each visit takes three square roots.
 #include <inttypes.h>
 #include <stdbool.h>
 #include <stdio.h>
@@ -29,7 +29,7 @@ typedef struct {
     uint64_t allowance;
 } Job;
 
-// A search: what it goes by, and how far it is.
+// A search: what it is asked for, and what it has done so far.
 typedef struct {
     Chain chain;
     int64_t a, b, tolerance;
@@ -61,8 +61,8 @@ static bool sound(Chain c) {
     return !same(c.master, c.a) && !same(c.master, c.b) && !same(c.a, c.b);
 }
 
-// Metres to the nearest centimetre, a tie to the even one; false for what is no number or too large. A double's 53 digits
-// times 100 fit 64, so the product is exact and rounded once.
+// Metres to the nearest centimetre, a tie to the even one; false for NaN and for what is too large. The 53 binary digits of a
+// double, times 100, fit into 64, so the product is exact and is rounded once.
 static bool centimetres(const uint8_t *bytes, int64_t *answer) {
     uint64_t bits = number(bytes, 8);
     double metres;
@@ -96,7 +96,8 @@ static void test_cell(Search *s, Place p) {
         s->places[s->count++] = p;
 }
 
-// Easting and northing go as two numbers: some compilers pass a struct of both by way of memory, at half the cost again.
+// Easting and northing are passed as two numbers: some compilers pass a struct of both through memory, which costs half as much
+// again.
 static void visit(Search *s, int64_t e, int64_t n, int64_t side) {
     if (s->refusal) return;
     if (s->visits == s->allowance) {
@@ -134,7 +135,7 @@ static int table_refusal(File f) {
     return fits ? 0 : 1;
 }
 
-// The tests of a log record by itself, with its two numbers in centimetres.
+// The refusal of a log record by itself, 0 for none; `numbers` gets its two numbers in centimetres.
 static int record_refusal(const uint8_t *r, int64_t numbers[2]) {
     if (r[0] < HYPERBOLIC || r[0] > HOLD || !zeros(r + 2, 2) || !zeros(r + 24, 8)) return 2;
     if (r[0] != HYPERBOLIC && r[1] != 0) return 2;
@@ -162,7 +163,7 @@ static void search(Search *s, const Job *job, File table, int which, const int64
     if (!s->refusal && s->count == 0) s->refusal = 8;
 }
 
-// What a record answers, in the search's own terms. A hold finds in it what the record before answered.
+// Leaves the answer of a record in `s`, as a search does. There a hold finds the answer of the record before it.
 static void answer(Search *s, const Job *job, File table, const uint8_t *r) {
     int64_t numbers[2];
     bool held = !s->refusal && s->count == 1;
@@ -182,7 +183,7 @@ static void answer(Search *s, const Job *job, File table, const uint8_t *r) {
     s->places[0] = (Place){numbers[0], numbers[1]};
 }
 
-// Puts a space and a number, and tells where they end: printf would take longer than the search where places are many.
+// Puts a space and a number at `at`, and returns where they end. With many places, printf would take longer than the search.
 static char *put_number(char *at, int64_t n) {
     char digits[20];
     int count = 0;

@@ -1,7 +1,7 @@
-// Ways to the whole part of a square root, timed in one run against the processor's own square root.
+// Times several ways to find the whole part of a square root, in one run, against the processor's own square root.
 //     cc -O3 -o target/roots bench/roots.c -lm && target/roots
 // The numbers are squared distances of two places up to 280 km apart. Each way is timed twice: with each root waiting for
-// the one before (latency), as in a search, where the next visit hangs on the last one, and with none waiting (throughput).
+// the one before (latency), as in a search, where the next visit depends on the last one, and with none waiting (throughput).
 #include <math.h>
 #include <stdint.h>
 #include <stdio.h>
@@ -40,7 +40,7 @@ static inline uint64_t power(uint64_t n) {
     return settled(n, 1ull << ((65 - __builtin_clzll(n)) / 2));
 }
 
-// Two steps from a table of the roots of the leading eight digits.
+// Two steps from a table of the roots of the leading eight binary digits.
 static inline uint64_t tabled(uint64_t n) {
     uint64_t k = 64 - __builtin_clzll(n | 1);
     uint64_t s = k <= 8 ? 0 : (k - 7) / 2;

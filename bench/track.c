@@ -1,6 +1,6 @@
-// Makes the folder of a bench's log: a ship's track through the middle of a chain with baselines of about 100 km.
+// Makes a folder for the bench: its log is a ship's track through the middle of a chain with baselines of about 100 km.
 //     cc -O2 -o target/bench/track bench/track.c -lm && target/bench/track FOLDER K TOLERANCE RECORDS
-// The window of 2^K lies about the track, and each record has the exact readings of a place on it.
+// The window of 2^K by 2^K cells lies around the track, and each record has the exact readings of a place on the track.
 #include <stdio.h>
 #include <stdlib.h>
 #include <string.h>
@@ -12,8 +12,8 @@ enum { LOG_RECORD = 32, CHAIN_RECORD = 24, JOB_RECORD = 32, LEGS = 5 };
 static const Place master = {50000000, 500000000}, a = {41400000, 505100000}, b = {50100000, 510000000};
 static const Place middle = {47200000, 505000000};
 
-// Farther from the middle the lines of the chain cross so flatly that tolerance 10 matches more cells than a list has
-// room for.
+// Farther from the middle the hyperbolas of the chain cross at so small an angle that with tolerance 10 more cells match than a
+// list has room for.
 static const int64_t most_reach = 1000000;
 
 static void put(uint8_t *bytes, int width, uint64_t n) {
@@ -65,7 +65,7 @@ static void write_chain(const char *folder) {
     write_file(folder, "chain.dat", chain, sizeof chain);
 }
 
-// The ship goes east at an even speed, and north and south in turn on legs of one length.
+// The ship goes east at an even speed, and north and south in turn on legs of equal length.
 static Place on_track(int64_t i, int64_t records, int64_t reach) {
     int64_t along = i * LEGS % records, leg = i * LEGS / records;
     int64_t north = 2 * reach * along / records;

@@ -40,9 +40,16 @@ fn job(easting: u32, northing: u32, k: u32, tolerance: u32, allowance: u64) -> O
 }
 
 fn main() {
-    let (Some(a), Some(b)) = (centimetres(-100.0), centimetres(-200.0)) else { return };
-    let (Some(chain), Some(job)) = (chain([0, 0, 30000, 0, 0, 40000]), job(30000, 40000, 1, 0, 100)) else { return };
-    let (readings, mut list, mut found) = ([a, b], [0u32; 8], Found::default());
+    if print_places().is_none() {
+        println!("a number of metres, the chain or the job is refused");
+    }
+}
+
+fn print_places() -> Option<()> {
+    let readings = [centimetres(-100.0)?, centimetres(-200.0)?];
+    let chain = chain([0, 0, 30000, 0, 0, 40000])?;
+    let job = job(30000, 40000, 1, 0, 100)?;
+    let (mut list, mut found) = ([0u32; 8], Found::default());
     #[rustfmt::skip]
     let refusal = unsafe {
         lay_search(
@@ -54,4 +61,5 @@ fn main() {
     for place in list[..2 * found.count as usize].chunks(2) {
         println!("{} {}", place[0], place[1]);
     }
+    Some(())
 }

@@ -1,6 +1,6 @@
 #!/usr/bin/env bash
-# The listing program and the library against the second program, second/, which shares no code and no definition with
-# them: folders listed by both, byte for byte, and requests answered by both.
+# Compares the listing program and the library with the second program, second/, which shares no code and no definition with
+# them: both list the same folders, byte for byte, and both answer the same requests.
 #
 #   bash tests/comparison.sh [SEED [FOLDERS [REQUESTS]]]
 cd "$(dirname "$0")/.." && . tests/common.bash && . tests/library.bash
@@ -11,8 +11,8 @@ second=$repository/target/second/release/second
 logs=$asked/logs listed=$asked/listed printed=$asked/printed said=$asked/said
 mkdir "$logs"
 
-# In each folder the second program leaves its listing in `expected`, and here laylist leaves its own in `printed`. Nothing
-# else is started for a folder: there are many.
+# In each folder the second program has left its listing in `expected`; here laylist leaves its own in `printed`. There are many
+# folders, so nothing else is started for each.
 list_all() {
     local folder
     for folder in "$logs"/*; do
@@ -22,11 +22,11 @@ list_all() {
     cd "$repository"
 }
 
-# joined NAME: the bytes of the files with a name in all folders, and the length of each, so that no two folders can make up
-# for each other
+# joined NAME: the bytes of the files NAME of all folders, then the length of each, so that bytes missing in one folder cannot be
+# made up for by bytes too many in the next
 joined() { (cd "$logs" && printf '%s\0' */"$1" | xargs -0 cat && printf '%s\0' */"$1" | xargs -0 stat -c %s); }
 
-# the first folder whose listings differ, and where they do
+# first_folder: prints the first folder whose listings differ, and where they differ
 first_folder() {
     local folder
     for folder in "$logs"/*; do
@@ -50,13 +50,13 @@ passed=$((passed + folders))
 pass_if "there are $count requests" [ "$(wc -l <"$requests")" -eq "$count" ]
 ask "$second" answers
 
-# Fewer than the gate's need not meet everything.
+# With fewer folders or requests than the gate uses, what is tested below need not occur.
 ((folders >= 2100 && count >= 150000)) || {
     done_testing
     exit
 }
 
-# Every line that a listing may have, each refusal of a job, a table and a record among them, and a long log.
+# Every form of line that a listing may have occurs, with each refusal of a job, a table and a record; and there is a long log.
 while read -r line; do
     pass_if "a line $line is among the listings" grep -qE "^$line" "$listed"
 done <<'END'
@@ -84,7 +84,7 @@ for file in job.dat chain.dat lay.dat; do
     pass_if "$file is missing somewhere" [ "$(find "$logs" -name "$file" | wc -l)" -lt "$folders" ]
 done
 
-# Every verb, with each refusal that it knows.
+# Every verb has been answered with each refusal that it can give; 0 is none.
 refuses centimetres 0 3
 refuses metres 0 3
 refuses expected 0 1 4 5
@@ -100,7 +100,7 @@ refuses write_chain 0 1 5
 refuses list 0 9
 told version 1
 
-# Searches by numbers and by bytes, and with each length just beside the one that fits.
+# Searches with the chain and the job given by numbers and by bytes, and with lengths that do not fit.
 lent='[0-9]+ [0-9]+' numbers='[0-9]+(,[0-9]+)+' readings='-?[0-9]+ -?[0-9]+'
 told "search $lent $numbers $numbers $readings" '0 .*'
 told "search $lent [0-9a-f]{48} [0-9a-f]{64} $readings" '0 .*'

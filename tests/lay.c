@@ -1,13 +1,13 @@
-/* Puts requests to the functions of lay.h: one to a line on standard input, and the answer a line on standard output. A verb is
- * the name of its function without `lay_`.
+/* The harness by which the tests call the library: it reads requests from standard input, one to a line, calls a function of lay.h
+ * for each, and prints each answer on a line of standard output. A verb is the name of its function without `lay_`.
  *
- * Words stand apart by single spaces. Numbers are decimal; BYTES, CHAIN, JOB, TABLE and LOG are lower-case hexadecimal, `-` for
- * none; a CHAIN, and the JOB of a search, may be its numbers with commas between instead, as in 0,0,30000,0,0,40000 and
- * 30000,40000,1,0,100; a PATTERN is that of a binary64 number in 16 such digits, the highest first; N.. are any number of
- * numbers. R is the number of the refusal, 0 for none. LENGTH is how many elements a lent buffer or list has, and DIRT what each
- * holds before the call.
+ * Words are separated by single spaces. Numbers are decimal. BYTES, CHAIN, JOB, TABLE, LOG and TEXT are lower-case hexadecimal, `-`
+ * for no bytes. A CHAIN, and the JOB of a search, may also be its numbers with commas between, as in 0,0,30000,0,0,40000 and
+ * 30000,40000,1,0,100; for log records CHAIN is the chain's number. A PATTERN is the bits of a binary64 number in 16 hexadecimal
+ * digits, the highest first. READING.. and N.. are any number of numbers. R is the number of the refusal, 0 for none. LENGTH is how
+ * many elements a lent buffer or list has, and DIRT is what each of them holds before the call.
  *
- *   version                                      ->  R
+ *   version                                      ->  VERSION
  *   centimetres PATTERN                          ->  R C
  *   metres C                                     ->  R PATTERN
  *   expected LENGTH DIRT CHAIN E N               ->  R and every entry of the list
@@ -20,12 +20,12 @@
  *   chain LENGTH DIRT NUMBER TABLE               ->  R BYTES
  *   read_chain LENGTH DIRT CHAIN                 ->  R and every entry of the list
  *   write_chain LENGTH DIRT N..                  ->  R BYTES
- *   list LENGTH DIRT HELD E N JOB TABLE LOG      ->  R TEXTLENGTH HELD E N TEXT, and `kept` where every byte behind the text
- *                                                    holds DIRT, else `touched`
+ *   list LENGTH DIRT HELD E N JOB TABLE LOG      ->  R TEXTLENGTH HELD E N TEXT, and `kept` if every byte after the text
+ *                                                    still holds DIRT, else `touched`
  *
- * What a call is lent, results as well as buffers, has exactly its length and stands between guards; a result holds dirt
- * before the call. Where a guard has changed after it, or bytes that were to be read only, the answer ends with `damaged`.
- * A request that is none of these ends the program with 2.
+ * Each buffer, list and result that is lent to a call has exactly its length and lies between guard bytes; a result holds dirt
+ * before the call. If the call has changed a guard, or bytes that it may only read, the answer ends with `damaged`. The program
+ * ends with 2 at a request that is none of these.
  */
 #define _POSIX_C_SOURCE 200809L
 #include "lay.h"
@@ -35,7 +35,7 @@
 #include <stdlib.h>
 #include <string.h>
 
-/* The structs lie in memory as the arrays do that the library takes them for. */
+/* The structs have the same layout in memory as the arrays that the library takes them for. */
 _Static_assert(sizeof(struct lay_found) == 2 * sizeof(uint64_t), "two numbers of 64 bits");
 _Static_assert(offsetof(struct lay_found, visits) == 8, "the second of them");
 _Static_assert(offsetof(struct lay_part, held) == 8 && offsetof(struct lay_part, easting) == 12, "behind the length");
@@ -45,7 +45,7 @@ enum { GUARD = 64, GUARD_BYTE = 0xC3, RESULT_DIRT = 0xA5, MOST_LENT = 8 };
 
 static const char HEX[] = "0123456789abcdef";
 
-/* The request's number, and its words not read so far, each ended by a zero byte. */
+/* The number of the request, how many of its words are not read yet, and the next of these; each ends with a zero byte. */
 static size_t request_number, words_left;
 static const char *next_word;
 
@@ -56,7 +56,7 @@ static _Noreturn void ill_formed(const char *why)
     exit(2);
 }
 
-/* Words. How many there are is known before the first is read. */
+/* Reading words. `answer` checks how many there are before a verb reads its own. */
 
 static const char *word(void)
 {
@@ -137,7 +137,7 @@ static struct place place(void)
     return p;
 }
 
-/* What is lent to a call. `hex` has the digits of what must not change. */
+/* What is lent to a call. `hex` has the digits of bytes that the call must not change; it is NULL for what the call may write. */
 
 struct loan {
     uint8_t *whole;
@@ -189,12 +189,12 @@ static struct bytes bytes_in(const char *hex)
 
 static struct bytes bytes(void) { return bytes_in(word()); }
 
-/* Where a number stands in a record, the lowest byte first, and in how many bytes. */
+/* Where a number begins in a record, and in how many bytes it is, the lowest first. */
 struct field {
     size_t at, width;
 };
 
-/* Puts numbers with commas between into the digits of a record, which are all zero. */
+/* Puts numbers with commas between into `hex`, the digits of a record, which are all zero before. */
 static void put_fields(const char *numbers, const struct field *fields, size_t count, char *hex)
 {
     for (size_t i = 0; i < count; i++) {
@@ -212,7 +212,7 @@ static void put_fields(const char *numbers, const struct field *fields, size_t c
     }
 }
 
-/* The bytes of a word, or those of its numbers. */
+/* The bytes that the next word has in hexadecimal, or those of its numbers with commas between. */
 static struct bytes bytes_by(const struct field *fields, size_t count, char *hex, size_t digits)
 {
     const char *given = word();
@@ -280,7 +280,7 @@ static void print_bytes(const uint8_t *at, size_t length)
     }
 }
 
-/* The verbs, each with the call that it stands for. */
+/* The verbs, each with its call of the library. */
 
 static void ask_version(void) { printf("%" PRIu32, lay_version()); }
 
@@ -456,7 +456,7 @@ static void ask_list(void)
     fputs(all(text + part->length, length - part->length, dirt) ? " kept" : " touched", stdout);
 }
 
-/* `more` is that any number of words may follow. */
+/* `words` is how many words follow the verb; if `more` is true, there may be any number of others after them. */
 static const struct verb {
     const char *name;
     size_t words;
@@ -488,7 +488,7 @@ static const struct verb *verb(void)
     ill_formed("no such verb");
 }
 
-/* Ends each word of the line with a zero byte, and counts the words behind the first. */
+/* Ends each word of the line with a zero byte, and counts the words after the first. */
 static size_t part(char *line)
 {
     size_t spaces = 0;

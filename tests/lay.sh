@@ -1,12 +1,12 @@
 #!/usr/bin/env bash
-# What the library lists into a buffer, at once and in parts, against document 01's listing and against the rule (listing.py,
-# rule.py); and that the harness answers no request that is ill-formed.
+# Tests of lay_list, which lists a log into a buffer, at once or in parts: compared with document 01's listing and with the rule
+# (listing.py, rule.py). Also tests that the harness, lay.c, answers no ill-formed request.
 cd "$(dirname "$0")/.." && . tests/common.bash && . tests/library.bash
 
 # digits TEXT: its bytes in hexadecimal
 digits() { printf '%s' "$1" | od -An -v -tx1 | tr -d ' \n'; }
 
-# 01's job, its chain, and its log of three records, whose whole output stands there.
+# 01's job, its chain and its log of three records; 01 gives their whole output.
 job=30750000409c0000010000000000000064000000000000000000000000000000
 table=0000000000000000307500000000000000000000409c0000
 fix=010100000100000000000000000059c000000000000069c00000000000000000
@@ -15,7 +15,7 @@ hold=0300000003000000000000000000000000000000000000000000000000000000
 lines=('1 FIX 2 5 30000 40000 30001 40001'$'\n' '2 GRID 1 0 30001 40000'$'\n' '3 HOLD 1 0 30001 40000'$'\n')
 whole=${lines[0]}${lines[1]}${lines[2]}
 
-# asks LENGTH DIRT HELD E N JOB TABLE LOG: a request; gives REFUSAL HELD E N TEXT: the answer that it must have
+# asks LENGTH DIRT HELD E N JOB TABLE LOG: adds a request; gives REFUSAL HELD E N TEXT: adds the answer that it must have
 asks() { echo "list $*" >>"$requests"; }
 gives() {
     local text
@@ -23,7 +23,7 @@ gives() {
     echo "$1 ${#5} $2 $3 $4 ${text:--} kept" >>"$asked/literal"
 }
 
-# The log at once; then its records one by one, with the place that each leaves.
+# The whole log at once; then its records one by one, each with the place that the record before it leaves.
 asks 23040 165 0 0 0 $job $table $fix$grid$hold
 gives 0 1 30001 40000 "$whole"
 asks 11520 165 0 0 0 $job $table $fix
@@ -33,7 +33,8 @@ gives 0 1 30001 40000 "${lines[1]}"
 asks 11520 165 1 30001 40000 $job $table $hold
 gives 0 1 30001 40000 "${lines[2]}"
 
-# A hold with nothing to hold, whatever place stands beside it; one whose mark is another number; after a window of one cell.
+# A hold with nothing to hold (HELD is 0), whatever place is given with it; a HELD other than 0 and 1; a hold after a fix in a
+# window of one cell.
 asks 11520 0 0 30001 40000 $job $table $hold
 gives 0 0 0 0 '3 REFUSED 11 0'$'\n'
 asks 11520 0 4294967295 30001 40000 $job $table $hold
@@ -41,7 +42,8 @@ gives 0 1 30001 40000 "${lines[2]}"
 asks 17280 10 0 0 0 ${job/0001/0000} $table $fix$hold
 gives 0 1 30000 40000 '1 FIX 1 1 30000 40000'$'\n''3 HOLD 1 0 30000 40000'$'\n'
 
-# A buffer that is a byte too short, for the log and for no log; a short last record, a bad job before a bad table.
+# A buffer that is one byte too short, for the log and for an empty log; a short last record; a bad table; a bad job, which is
+# reported before a bad table.
 asks 23039 165 0 0 0 $job $table $fix$grid$hold
 gives 9 0 0 0 ''
 asks 5759 0 0 0 0 $job $table -
@@ -56,12 +58,12 @@ asks 11520 255 0 0 0 ${job/0001/0019} ${table}00 $grid
 gives 0 0 0 0 'JOB REFUSED 6'$'\n'
 ask cat "$asked/literal"
 
-# The folders that have a reason.
+# The chosen folders.
 python3 tests/listing.py requests >"$requests"
 ask python3 tests/listing.py answers
 refuses list 0 9
 
-# no_answer LINE: that the harness ends with 2 at such a request, behind the answer to the one before it
+# no_answer LINE: tests that the harness ends with 2 at the request LINE, after its answer to the request before it
 no_answer() {
     local status=0
     printf '%s\n%s\n' 'metres 0' "$1" | harness >"$answers" 2>"$wanted" || status=$?

@@ -1,17 +1,17 @@
 #!/usr/bin/env python3
-"""Folders to list, and their listings by rule.py.
+"""Makes folders to list, and their listings by rule.py.
 
-    listing.py list FOLDER             the listing of the job.dat, chain.dat and lay.dat in a folder
+    listing.py list FOLDER             prints the listing of the job.dat, chain.dat and lay.dat in a folder
     listing.py examples FOLDER         writes the folders of examples/ into a folder
-    listing.py cases FOLDER            writes folders that have a reason
-    listing.py edges FOLDER            writes folders whose logs end about the edges of the program's buffers
+    listing.py cases FOLDER            writes folders chosen to test something
+    listing.py edges FOLDER            writes folders whose logs end near the edges of the program's buffers
     listing.py long FOLDER             writes folders of long logs, and of long lines
     listing.py random SEED FOLDER      writes 200 folders at random
-    listing.py memory FOLDER PROGRAM   the most memory, in kilobytes, that a program held when it had listed most of a folder
-    listing.py requests                the folders that have a reason as requests in the words of lay.c, one to a line
-    listing.py answers                 the answers to the requests on standard input
+    listing.py memory FOLDER PROGRAM   prints the most memory, in kilobytes, that a program has used once most of a folder is listed
+    listing.py requests                prints the chosen folders as requests in the words of lay.c, one to a line
+    listing.py answers                 answers the requests on standard input
 
-A folder that is written has the three files, or those that its case has, and in `listing` what must be printed of them.
+A folder that is written has the three files, or those that its case has, and in `listing` what must be printed for them.
 Searches are answered as search.py answers them.
 """
 import fcntl
@@ -23,7 +23,7 @@ from functools import lru_cache
 from itertools import chain, cycle, islice
 from typing import NamedTuple
 
-# Those beside this would else leave compiled files in the tree.
+# Without this the modules beside this one would leave compiled files in the tree.
 sys.dont_write_bytecode = True
 import records
 import rule
@@ -35,7 +35,7 @@ FILES = "job.dat", "chain.dat", "lay.dat"
 
 
 class Folder(NamedTuple):
-    """The bytes of the three files; None where a file is missing."""
+    """The bytes of the three files; None for a missing file."""
 
     job: bytes
     table: bytes
@@ -46,11 +46,12 @@ searched = lru_cache(maxsize=None)(search.checked)
 
 
 def listed(folder, held=()):
-    """The lines of a folder, each with the place that a hold behind it repeats, or nothing; a missing file counts as empty."""
+    """The lines of a folder, each with a list of the place that a hold after it repeats, or an empty list. A missing file counts
+    as empty."""
     return rule.listing(*(content or b"" for content in folder), held, searched)
 
 
-# Folders to list. A record that gives readings or a place is made from centimetres.
+# Folders to list. Records of readings and of places are made from centimetres.
 
 
 def readings_record(number, wanted, line=0):
@@ -62,12 +63,12 @@ def place_record(place, line):
 
 
 def job_of(question):
-    """The job that asks a search's question."""
+    """The bytes of the job of a search request."""
     return rule.job_bytes(question.job)
 
 
 def table_of(*questions):
-    """The chains of searches, numbered from 1."""
+    """A table of the chains of search requests, numbered from 1."""
     return b"".join(rule.chain_bytes(q.chain) for q in questions)
 
 
@@ -79,7 +80,7 @@ def numbered(*log):
 P4 = search.P4
 FIX, GRID, HOLD = records.SOUND
 THREE = Folder(job_of(P4), table_of(P4), FIX + GRID + HOLD)
-# 01's first record, in a window that is its first place alone: one place.
+# P4 in a window of one cell, its first place: there is one place.
 ONE = P4._replace(k=0)
 REFUSED = records.log(kind=9)
 
@@ -89,18 +90,18 @@ def three(**changes):
 
 
 def by_job(**changes):
-    """01's log under another job."""
+    """01's example with changes in its job."""
     return three(job=records.job(**changes))
 
 
 def asking(*questions, log=None):
-    """Searches of one job, each with a chain of its own; the log has a record for each unless it is given."""
+    """A folder for search requests of one job, each with a chain of its own; unless `log` is given, it has a record for each."""
     log = log or numbered(*(readings_record(i, q.wanted) for i, q in enumerate(questions, 1)))
     return Folder(job_of(questions[0]), table_of(*questions), log)
 
 
 def double_crossing():
-    """Stations in a line, which see a place and its mirror image; those of source document 002; three about the place."""
+    """Stations in a line, which cannot tell a place from its mirror image; those of source document 002; three around the place."""
     window = {"corner": (47_499_999, 497_945_629), "k": 24, "allowance": 10_000}
     line = search.LINE._replace(wanted=(894427, 698348), **window)
     paper = search.PAPER._replace(wanted=(12205441, 9172617), **window)
@@ -118,7 +119,7 @@ def double_crossing():
 
 
 def every_refusal():
-    """Chain 1 takes more visits than are allowed, in chain 2 all cells read the same, 3 is well placed, 4 is not sound."""
+    """Chain 1 takes more visits than are allowed, chain 2 has the same readings at all cells, 3 is well placed, 4 is not sound."""
     slow = P4._replace(corner=(29984, 39984), k=5, allowance=500)
     far = slow._replace(master=(30000, 900_000_000), a=(30000, 900_100_000), b=(31000, 900_000_000))
     good = slow._replace(master=(30000, 20000), a=(10000, 50000), b=(50000, 50000))
@@ -166,7 +167,7 @@ def missing():
 
 
 def jobs():
-    """Limits of a job, and faults together; the job is told before the table, and a refused one lists nothing."""
+    """Limits of a job, and several faults at once: the job is refused before the table, and after a refusal nothing is listed."""
     yield "k_24", by_job(k=24)
     yield "k_25", by_job(k=25)
     yield "k_255", by_job(k=255)
@@ -205,7 +206,7 @@ def tables():
 
 
 def holds():
-    """A hold after every kind of answer, twice in a row, and after two that differ."""
+    """Holds after every kind of answer, two in a row, and after two answers that differ."""
     bad_hold = records.hold(chain=1)
     fixes_two = numbered(HOLD, HOLD, GRID, HOLD, HOLD, bad_hold, HOLD, GRID, bad_hold, HOLD, FIX, HOLD, HOLD, REFUSED, HOLD)
     yield "hold_after_two_places", three(log=fixes_two)
@@ -223,7 +224,7 @@ def holds():
 
 
 def rooms():
-    """As many places as the program has room for, and one more: whole windows, and cells of a window."""
+    """As many places as the program has room for, and one more: all cells of a window, and some of them."""
     for k in 3, 4, 5:
         yield f"whole_window_k_{k}", asking(P4._replace(k=k, tolerance=100_000, allowance=2000))
     yield "places_256", asking(P4._replace(corner=(29994, 39976), k=5, tolerance=6, allowance=2000))
@@ -236,7 +237,7 @@ def rooms():
 
 
 def longest_line():
-    """01's chain moved so that its window lies in the far corner of the chart, all of whose cells match."""
+    """01's chain moved so that the window lies in the far corner of the chart; every cell of the window matches."""
     q = P4._replace(master=(EAST - 30008, NORTH - 40008), a=(EAST - 8, NORTH - 40008), b=(EAST - 30008, NORTH - 8))
     return q._replace(corner=(EAST - 15, NORTH - 15), k=4, tolerance=9, allowance=341)
 
@@ -252,7 +253,7 @@ def searches():
 
 
 def numbers():
-    """Line numbers and places with every count of digits; then all records that records.py has a reason for, as one log."""
+    """Line numbers and places of every number of digits; then the records that records.py chooses and sweeps, as logs."""
     edges = sorted({n for i in range(10) for n in (10**i - 1, 10**i)} | {2**31, 2**32 - 1})
     sized = (place_record((min(n, EAST), min(n, NORTH)), n) for n in edges)
     yield "digits", three(log=b"".join(sized) + b"".join(records.hold(line=n) for n in edges))
@@ -275,7 +276,7 @@ def cases():
 
 
 def part_ends():
-    """Places without end, all different, with a hold after every sixteenth record; what goes before the hold takes turns."""
+    """Different places without end, with a hold as every sixteenth record; the record before the hold is of five kinds in turn."""
     i = 0
     while True:
         last = place_record((i, 3 * i), i), records.hold(line=i), REFUSED, FIX, records.log(first=-99.99)
@@ -293,19 +294,19 @@ def part_log(count):
 
 
 def over_edges():
-    """A hold as the first record of every part but the first, and of the second buffer, behind a place of its own."""
+    """A hold as the first record of every part but the first, also of the second buffer, each just after a place of its own."""
     log = [REFUSED] * (2048 + 128 + 1)
     for first in range(128, len(log), 128):
         log[first - 1 : first + 1] = place_record((first, 3 * first), first), records.hold(line=first)
     return b"".join(log)
 
 
-# P4 has two places for one of the readings above, and one for the other.
+# In P4's window one of the readings above matches two places, and the other matches one.
 PARTS = asking(P4)
 
 
 def edges():
-    """Logs that end at a part of 128 records or a buffer of 2,048, and a byte or a record to either side; holds behind them."""
+    """Logs that end with a part of 128 records or a buffer of 2,048, or a byte or a record before or after; holds at such ends."""
     log = part_log(3 * 2048)
     ends = (1, 2, 15, 16, 17, 31, 32)
     for end in (4096 * n for n in ends):
@@ -322,7 +323,7 @@ def long():
 
 
 def long_lines():
-    """The longest lines one after the other, then lines of all lengths in no order, which begin and end anywhere."""
+    """The longest lines one after the other, then lines of many lengths in random order, so that they begin and end anywhere."""
     draw = random.Random(1)
     q = longest_line()
     slides = [0] * 48 + [draw.randint(0, 16) for _ in range(700)]
@@ -339,7 +340,7 @@ def on_chart(place):
 
 
 def drawn_readings(draw, question, chains):
-    """Readings that a place of the window, or one near it, may have; and the number of their chain."""
+    """The number of a chain, and readings in it that a place in the window or near it may have, or else the question's."""
     number = draw.randrange(len(chains))
     c = chains[number]
     near = on_chart(question.corner)
@@ -372,7 +373,7 @@ def drawn_record(draw, fixes):
 
 def drawn_folder(draw):
     question = search.drawn(draw)
-    # more than this takes long where cells are many and few are dropped
+    # a larger allowance takes long if there are many cells and few squares are dropped
     most = 2**64 - 1 if question.k < 6 else 4000
     _, visits, _ = searched(question.chain, question.wanted, question.job._replace(allowance=4000), rule.ROOM)
     allowance = draw.choice((visits, max(0, visits - 1), draw.randint(0, 50), most, most))
@@ -401,7 +402,7 @@ def at_random(seed):
 
 
 def needed(log):
-    """As many bytes as a buffer must have."""
+    """How many bytes the buffer must have for a log."""
     return 5760 * (len(log) // 32 + 1)
 
 
@@ -411,7 +412,7 @@ def request(folder, held=(0, 0, 0), length=None, dirt=165):
 
 
 def in_parts(folder):
-    """The records one by one, each with the place before it; a number of places other than 0 is taken as 1."""
+    """The records one by one, each with the place that the one before it leaves; any `held` other than 0 counts as 1."""
     held, numbers = (0, 0, 0), cycle((1, 7, 2**32 - 1))
     for record in rule.pieces(folder.log, 32):
         part = folder._replace(log=record)
@@ -468,14 +469,14 @@ def content_of(path):
         return None
 
 
-# fcntl has the name of this only in later versions
+# F_SETPIPE_SZ, which the module fcntl has only in later versions of Python
 SET_PIPE_SIZE = 1031
 
 
 def memory(folder, program):
-    """What is not yet read of the listing is more than the pipe holds, so the program waits while it is looked at. The
-    figure is from /proc, and so its own: what a parent is told of a child's memory counts the parent's as well, as it was
-    when the child began."""
+    """The most memory that the program has used so far, in kilobytes. The part of the listing that is not yet read is more than the
+    pipe holds, so the program waits meanwhile. The figure is from /proc, as the one that a parent gets for its child also counts
+    the parent's own memory when the child began."""
     pipe, unread = 65536, 131072
     size = os.path.getsize(os.path.join(folder, "listing"))
     ours, theirs = os.pipe()

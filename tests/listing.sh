@@ -1,7 +1,7 @@
 #!/usr/bin/env bash
-# What laylist prints of folders, against document 01's listing and limits, byte by byte, and against the rule's listing
-# (listing.py); how it ends where a file cannot be read or its listing not be written; and the examples, by bin/laylist. A
-# seed other than the gate's may be given.
+# Tests of laylist: what it prints for folders, compared byte by byte with document 01's listing and limits and with the rule's
+# listing (listing.py); how it ends if a file cannot be read or its listing cannot be written; and the examples, listed by
+# bin/laylist. A seed other than the gate's may be given.
 cd "$(dirname "$0")/.." && . tests/common.bash
 seed=${1:-20261115}
 folders=$(mktemp -d)
@@ -11,7 +11,7 @@ folder=$folders/folder printed=$folders/printed said=$folders/said
 # bytes HEXADECIMAL: the bytes themselves
 bytes() { printf "$(sed 's/[^ ][^ ]/\\x&/g; s/ //g' <<<"$1")"; }
 
-# put JOB TABLE LOG: makes the folder anew, of files with these bytes; a file given as `none` is missing
+# put JOB TABLE LOG: makes the folder anew, with files of these bytes; a file given as `none` is missing
 put() {
     local file
     rm -rf "$folder"
@@ -22,7 +22,7 @@ put() {
     done
 }
 
-# run FOLDER: what is printed, what is said on standard error, and in `status` how it ended
+# run FOLDER: runs laylist there; its output goes to the file $printed, its standard error to $said, its exit status to `status`
 run() {
     status=0
     (cd "$1" && program laylist) >"$printed" 2>"$said" || status=$?
@@ -30,17 +30,17 @@ run() {
 
 ended_well() { [ "$status" -eq 0 ] && [ ! -s "$said" ]; }
 
-# prints LINES: that these were printed, to the byte, and no others
+# prints LINES: tests that exactly these lines were printed, byte by byte, and that nothing went wrong
 prints() { ended_well && cmp -s "$printed" <(printf "${1:+%s\n}" "$1"); }
 
-# listed JOB TABLE LOG LINES: that such a folder has this listing
+# listed JOB TABLE LOG LINES: tests that a folder with these files has the listing LINES
 listed() {
     put "$1" "$2" "$3"
     run "$folder"
     pass_if "job $1, table $2, log $3: $(cat "$printed" "$said"), not $4" prints "$4"
 }
 
-# agrees FOLDER: that its listing is the one in its file
+# agrees FOLDER: tests that laylist prints what the file `listing` of the folder has
 agrees() {
     run "$1"
     ended_well && cmp -s "$printed" "$1/listing" || {
@@ -50,7 +50,7 @@ agrees() {
     }
 }
 
-# all_agree VERB...: that of every folder that listing.py writes
+# all_agree VERB...: tests the same for every folder that `listing.py VERB...` writes
 all_agree() {
     local made=$folders/$1 each
     mkdir "$made"
@@ -60,7 +60,7 @@ all_agree() {
     done
 }
 
-# 01's chain, its job, and its log of three records, whose whole output stands there.
+# 01's job, its chain and its log of three records; 01 gives their whole output.
 job='30750000 409c0000 01 000000 00000000 6400000000000000 0000000000000000'
 table='00000000 00000000 30750000 00000000 00000000 409c0000'
 fix='01 01 0000 01000000 00000000000059c0 00000000000069c0 0000000000000000'
@@ -71,8 +71,8 @@ listed "$job" "$table" "$fix$grid$hold" \
 2 GRID 1 0 30001 40000
 3 HOLD 1 0 30001 40000'
 
-# Jobs: k 24 and 25; the easting and the northing at their ends with k 0 and k 1; tolerances; bytes that must be zero, beside
-# other faults; k and tolerance both at fault; a length beside 32.
+# Jobs: k 24 and 25; the easting and the northing at their limits with k 0 and k 1; tolerances; k and tolerance both wrong; a byte
+# that must be zero, with other faults and alone; lengths of 31 and 33.
 held='2 GRID 1 0 30001 40000
 3 HOLD 1 0 30001 40000'
 while IFS=: read -r asked answer; do
@@ -94,7 +94,7 @@ done <<'END'
 30750000 409c0000 01 000000 00000000 6400000000000000 0000000000000000 00: JOB REFUSED 1
 END
 
-# Tables of no bytes, of 23 and 25, of 16 chains, of a byte more and of 17. A bad job is told before a bad table.
+# Tables of 0, 23 and 25 bytes, of 16 chains, of 16 chains and a byte, and of 17 chains. A bad job is reported before a bad table.
 printf -v sixteen "$table%.0s" {1..16}
 listed "$job" '' "$grid$hold" 'CHAIN REFUSED 1'
 listed "$job" "${table%??}" "$grid$hold" 'CHAIN REFUSED 1'
@@ -120,8 +120,8 @@ listed "$job" "$table" "$grid 03" '2 GRID 1 0 30001 40000
 listed "$job" "$table" "$grid${hold%??}" '2 GRID 1 0 30001 40000
 - REFUSED 1 0'
 
-# Single records: eastings of -0.001 m and -0.01 m; the greatest line number, also where the record is refused; chains that
-# are not in the table; a kind that is not known, and a number that is NaN.
+# Single records: eastings of -0.001 m and -0.01 m; the greatest line number, also of a refused record; the far corner of the
+# chart; chains that are not in the table; NaN; readings that no cell matches; minus zero in an unused field.
 while IFS=: read -r record answer; do
     listed "$job" "$table" "$record" "${answer# }"
 done <<'END'
@@ -138,7 +138,7 @@ done <<'END'
 01 01 0000 01000000 00000000000059c0 00000000000069c0 0000000000000080: 1 REFUSED 2 0
 END
 
-# An unsound chain matters only where a record names it.
+# An unsound chain matters only if a record names it.
 listed "$job" "00000000 00000000 00000000 00000000 00000000 409c0000 $table" "$grid$fix${fix/01 01/01 02}" \
     '2 GRID 1 0 30001 40000
 1 REFUSED 5 0
@@ -160,8 +160,8 @@ listed "${job/ 01 / 00 }" "$table" "$grid$fix$hold${grid/02/04}$hold" \
 2 REFUSED 2 0
 3 REFUSED 11 0'
 
-# Allowances of 0, 4 and 5 for 01's first record. Then windows of which every cell matches: 256 cells and 1,024, the latter
-# with an allowance for as far as the list goes and with one less.
+# Allowances of 0, 4 and 5 for 01's first record. Then windows in which every cell matches: one of 1,024 cells, with an allowance
+# that lasts until the list is found full and with one visit less; and one of 256 cells, which all fit into the list.
 listed "${job/ 64/ 00}" "$table" "$fix$hold" '1 REFUSED 10 0
 3 REFUSED 11 0'
 listed "${job/ 64/ 04}" "$table" "$fix" '1 REFUSED 10 4'
@@ -175,23 +175,23 @@ pass_if '256 places are counted, and 341 visits' [ "$(cut -d ' ' -f 1-6 "$printe
 pass_if '256 places are all printed' [ "$(wc -w <"$printed")" -eq 516 ]
 pass_if '256 places differ' [ "$(cut -d ' ' -f 5- "$printed" | tr ' ' '\n' | paste - - | sort -u | wc -l)" -eq 256 ]
 
-# Folders that have a reason, and folders whose logs end about the edges of the buffers: the program reads 65,536 bytes of
-# the log at a time and lists them in parts of 4,096.
+# The chosen folders, and folders whose logs end near the edges of the buffers: the program reads 65,536 bytes of the log at a
+# time and lists them in parts of 4,096.
 all_agree cases
 all_agree edges
 
-# Long logs: 100,000 records, and lines of up to 256 places, which go over the edges of what is written at a time.
+# Long logs: 100,000 records, and lines of up to 256 places, which lie across the ends of what the program writes at a time.
 all_agree long
 
-# The log need not fit into memory. A pipe that is not read holds the program near the end of its listing, and /proc tells
-# the most memory that it has held; that works under the emulator as well, whose own memory is in both figures. The longer
-# log has 2,900 kilobytes more, and its listing 2,500.
+# The log need not fit into memory. A pipe that is not read keeps the program waiting near the end of its listing, and /proc gives
+# the most memory that it has used so far. This works under the emulator too, whose own memory is in both figures. The longer log
+# has 2,900 kilobytes more than the shorter one, and its listing 2,500 more.
 memory_of() { python3 tests/listing.py memory "$folders/long/$1" "${loader[@]}" "$repository/target/bin/laylist"; }
 few=$(memory_of records_8000)
 many=$(memory_of records_100000)
 pass_if "a log of 100,000 records takes $many kB, one of 8,000 takes $few" [ $((many - few)) -lt 1000 ]
 
-# A log that comes in pieces ends where it ends and not after the first piece.
+# A log that arrives in pieces is read to its end, not only to the end of the first piece.
 put "$job" "$table" none
 mkfifo "$folder/lay.dat"
 for piece in "${fix:0:5}" "${fix:5}" "$grid${hold:0:11}" "${hold:11}$hold" "$hold 03"; do
@@ -208,10 +208,10 @@ pass_if "a log in pieces: $(cat "$printed" "$said")" prints '1 FIX 2 5 30000 400
 - REFUSED 1 0'
 kill "$feeder" 2>/dev/null || true
 
-# tells NAME: that it told of NAME, and of nothing else
+# tells NAME: tests that standard error has one line, which begins with `NAME: `
 tells() { [[ "$(<"$said")" == "$1: "?* ]] && [ "$(wc -l <"$said")" -eq 1 ]; }
 
-# A folder in place of a file cannot be read, and neither can memory where there is none.
+# What cannot be read in place of a file: a folder; and /proc/self/mem, as there is no memory at address 0.
 for file in job.dat chain.dat lay.dat; do
     for unreadable in mkdir 'ln -s /proc/self/mem'; do
         put "$job" "$table" "$fix$grid$hold"
@@ -223,7 +223,7 @@ for file in job.dat chain.dat lay.dat; do
     done
 done
 
-# A job that is refused is told though the table or the log cannot be read, and a table though the log cannot.
+# A refused job is reported even if the table or the log cannot be read, and a refused table even if the log cannot.
 for bad in chain.dat:"${job/ 01 / 19 }":"$table":'JOB REFUSED 6' lay.dat:"${job/ 01 / 19 }":"$table":'JOB REFUSED 6' \
     lay.dat:"$job":"$table 00":'CHAIN REFUSED 1'; do
     IFS=: read -r file its_job its_table answer <<<"$bad"
@@ -236,7 +236,7 @@ for bad in chain.dat:"${job/ 01 / 19 }":"$table":'JOB REFUSED 6' lay.dat:"${job/
     done
 done
 
-# A listing that cannot be written is told, whether it is short or long or the refusal of a job.
+# That a listing cannot be written is reported, whether it is short, long or the refusal of a job.
 unwritten() {
     (cd "$1" && program laylist) 2>"$said" >/dev/full
     pass_if "$1 on a full device: $(cat "$said")" tells 'standard output'
@@ -247,20 +247,20 @@ unwritten examples/three_records
 unwritten examples/refused_job
 unwritten "$folders/long/records_100000"
 
-# by_bin ARGUMENTS...: what bin/laylist prints and says where the test stands, and in `status` how it ended
+# by_bin ARGUMENTS...: runs bin/laylist in the current folder; leaves what it does as `run` does
 laylist=$repository/bin/laylist
 by_bin() {
     status=0
     "$laylist" "$@" >"$printed" 2>"$said" || status=$?
 }
 
-# lists FILE ARGUMENTS...: that bin/laylist prints what the file has, and ends with 0
+# lists FILE ARGUMENTS...: tests that bin/laylist with these arguments prints what FILE has, and ends with 0
 lists() {
     by_bin "${@:2}"
     ended_well && cmp "$printed" "$1"
 }
 
-# The examples: their files are those that listing.py makes, and bin/laylist lists them as they say.
+# The examples: their files are those that listing.py makes, and bin/laylist prints what their `listing` has.
 mkdir "$folders/examples"
 python3 tests/listing.py examples "$folders/examples"
 examples=$(ls "$folders/examples")
@@ -280,8 +280,8 @@ pass_if 'the first command of README.md, and what it shows of it' [ "$(sed -n 's
     "bin/laylist examples/three_records
 $(<examples/three_records/listing)" ]
 
-# bin/laylist FOLDER from elsewhere. The folder where the test stands has another example, so that it is not listed instead; in it
-# are folders of three records with names that are easily misread.
+# bin/laylist FOLDER from another folder. That one has another example, which shows if it is listed by mistake; in it are folders
+# with the three records, under names that are easily misread.
 three=$repository/examples/three_records/listing
 desk=$folders/desk
 cp -r examples/every_refusal "$desk"
@@ -301,7 +301,8 @@ cd three
 pass_if 'bin/laylist . of another folder' lists "$three" .
 pass_if 'bin/laylist ..' lists "$repository/examples/every_refusal/listing" ..
 
-# A folder entered by a link: what is above it is above the folder itself. A folder that is a link; bin/laylist called by a link.
+# In a folder entered by a link, `..` is the parent of the folder itself, not of the link. A folder named by a link; bin/laylist
+# called by a link.
 ln -s "$desk/a/b" "$folders/examples/linked"
 cd "$folders/examples/linked"
 cp "$repository/examples/refused_job/"*.dat "$desk/a"
@@ -312,7 +313,7 @@ ln -s "$laylist" "$folders/laylist"
 laylist=../laylist pass_if 'a link to bin/laylist, by a path from here' lists "$three" linked
 laylist=../laylist pass_if 'a link to bin/laylist, with a path from here' lists "$three" ../desk/three
 
-# CDPATH leads nowhere else, and is not told of: the folder that it would lead to has another example.
+# CDPATH has no effect, and nothing is printed because of it. The folder that it would lead to has another example.
 mkdir -p "$folders/other/three"
 cp "$repository/examples/refused_job/"*.dat "$folders/other/three"
 cd "$desk"
@@ -323,14 +324,14 @@ pass_if 'bin/laylist of a folder that only CDPATH has' [ "$status" -eq 2 ]
 unset CDPATH
 cd "$repository"
 
-# It ends with 1 where laylist tells of something.
+# It ends with 1 if laylist reports something on standard error.
 put "$job" "$table" none
 mkdir "$folder/lay.dat"
 by_bin "$folder"
 pass_if 'bin/laylist tells what laylist tells' tells lay.dat
 pass_if 'and ends with 1' [ "$status" -eq 1 ]
 
-# misused ARGUMENTS...: that bin/laylist ends with 2, a line of its own, and no listing
+# misused ARGUMENTS...: tests that bin/laylist prints no listing, reports one line of its own, and ends with 2
 misused() {
     by_bin "$@"
     [ "$status" -eq 2 ] && [ ! -s "$printed" ] && [ "$(wc -l <"$said")" -eq 1 ] && grep -q '^laylist: .* ' "$said"
@@ -343,7 +344,7 @@ pass_if 'bin/laylist with a file' misused examples/README.md
 pass_if 'bin/laylist with a name of no bytes' misused ''
 pass_if 'bin/laylist with an option' misused -l
 
-# Help is the program's, whatever stands behind it and wherever it is asked for.
+# With --help first, bin/laylist prints the program's help, whatever arguments follow and whatever folder it is run in.
 program laylist --help >"$folders/help"
 pass_if 'bin/laylist --help' lists "$folders/help" --help
 pass_if 'bin/laylist --help with a folder' lists "$folders/help" --help examples/three_records

@@ -1,20 +1,19 @@
 #!/usr/bin/env python3
-"""Requests about metres and centimetres in the words of lay.c, and their answers by rule.py, which are also worked out here
-in another way.
+"""Makes requests about metres and centimetres in the words of lay.c, and answers them by rule.py and in a second way.
 
-    metres.py named        the requests that have a reason, one to a line
-    metres.py random SEED  1,000 of each of six kinds at random
-    metres.py answers      the answers to the requests on standard input
+    metres.py named        prints the chosen requests, one to a line
+    metres.py random SEED  prints 1,000 of each of six kinds at random
+    metres.py answers      answers the requests on standard input
 
-rule.py has Python turn patterns into floats and round. Here a pattern is taken apart into its fields and becomes a fraction,
-a quotient is rounded digit by digit, and where the two ways differ there is no answer.
+rule.py leaves it to Python to turn bit patterns into floats and to round. Here a pattern is taken apart into its fields and becomes
+a fraction, and a quotient is rounded as an exact fraction. If the two ways differ, the program stops without an answer.
 """
 import random
 import struct
 import sys
 from fractions import Fraction
 
-# The rule beside this would else leave compiled files in the tree.
+# Without this the modules beside this one would leave compiled files in the tree.
 sys.dont_write_bytecode = True
 import rule
 
@@ -69,7 +68,7 @@ def metres(number):
 
 
 def same(request, by_rule, apart):
-    """The answer to a request, which the rule and what is worked out apart from it must both have."""
+    """The answer to a request, if rule.py and this file give the same one; else the program stops."""
     if by_rule != apart:
         sys.exit(f"{request}: by rule.py {by_rule}, here {apart}")
     return apart
@@ -103,7 +102,7 @@ def beside(value):
 
 
 def there_and_back(numbers):
-    """Centimetres to be written; and what is then to be read, where they are."""
+    """Requests to write these centimetres; and if they are not refused, to read what is written."""
     for number in numbers:
         yield f"metres {number}"
         refusal, pattern = metres(number)
@@ -118,12 +117,12 @@ def named():
     # ties: odd eighths of a metre, small and up to the limit
     for eighths in *range(1, 42, 2), 1_000_001, 33_554_431, 79_999_997, 79_999_999:
         yield from both([pattern_of(Fraction(eighths, 8))])
-    # odd half centimetres, which binary64 mostly does not hold, and their neighbours on both sides
+    # odd half centimetres, which are mostly not exact in binary64, and their neighbours on both sides
     for halves in *range(1, 42, 2), 2_001, 200_001, 20_000_001, 1_999_999_999:
         yield from both(beside(Fraction(halves, 200)))
-    # subnormals and the first of the others
+    # subnormal numbers and the first normal ones
     yield from both([1, 2, 3, DIGITS // 2, DIGITS - 1, DIGITS, DIGITS + 1])
-    # the largest number that is read and the first that is refused, the largest of all, zeros, infinities, NaN's patterns
+    # the largest number that is read and the first that is refused, the largest finite one, zeros, infinities, NaNs
     yield from both([LIMIT - 1, LIMIT, LIMIT + 1, 2047 * DIGITS - 1, 0, 2047 * DIGITS])
     yield from both([2047 * DIGITS + 1, NAN - 1, NAN, NAN + 1, NAN + 0x123456789ABC, MINUS - 1])
     yield from there_and_back([*range(-105, 106), -30001, 30001, 40000])

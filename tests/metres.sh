@@ -1,17 +1,17 @@
 #!/usr/bin/env bash
-# What the library makes of numbers of metres and of centimetres, against document 01's examples and against the rule, worked
-# out in two ways (metres.py, rule.py). A seed other than the gate's may be given.
+# Tests of lay_centimetres and lay_metres, which turn metres into centimetres and back: compared with document 01's examples and
+# with the rule, worked out in two ways (metres.py, rule.py). A seed other than the gate's may be given.
 cd "$(dirname "$0")/.." && . tests/common.bash && . tests/library.bash
 seed=${1:-20261115}
 
-# The requests that have a reason, then those at random.
+# The chosen requests, then those at random.
 python3 tests/metres.py named >"$requests"
 python3 tests/metres.py random "$seed" >>"$requests"
 ask python3 tests/metres.py answers
 refuses centimetres 0 3
 refuses metres 0 3
 
-# 01's examples, by the patterns of the numbers: 0.125, 0.375, -0.125, 0.625, minus zero, NaN, the infinities, 10,000,000 and
+# 01's examples, as bit patterns of the numbers: 0.125, 0.375, -0.125, 0.625, minus zero, NaN, the infinities, 10,000,000 and
 # the next number; -0.001 and -0.01; 300.01, 400 and 1,000,000.005.
 while read -r pattern answer; do
     told "centimetres $pattern" "$answer"
@@ -33,7 +33,7 @@ bf847ae147ae147b 0 -1
 412e8480028f5c29 0 100000001
 END
 
-# Numbers of centimetres that are not written give plus zero; the last that is written; 300.01 and plus zero.
+# Centimetres over the limit are refused and give plus zero; then the lowest number that is written, 300.01, and plus zero.
 told 'metres 1000000001' '3 0000000000000000'
 told 'metres -1000000001' '3 0000000000000000'
 told 'metres -9223372036854775808' '3 0000000000000000'
@@ -41,7 +41,7 @@ told 'metres -1000000000' '0 c16312d000000000'
 told 'metres 30001' '0 4072c028f5c28f5c'
 told 'metres 0' '0 0000000000000000'
 
-# comes_back: that every number that was written, read again, gives the same centimetres, and that there are many
+# comes_back: tests that every number that was written gives the same centimetres when it is read, and that there are 1,000 or more
 comes_back() {
     awk -F '[: ]' '
         $1 == "metres" && $3 == 0 { written[$4] = $2 }

@@ -1,13 +1,14 @@
 #!/usr/bin/env bash
-# What crates/run_numbers prints: roots against their law, fields read against od, fields put against the digits of the
-# number in base 256.
+# Tests what crates/run_numbers prints: whole square roots against their definition, fields read from bytes against od, and fields
+# put into bytes against the digits of the number in base 256.
 cd "$(dirname "$0")/.." && . tests/common.bash
 
 output=$(mktemp)
 trap 'rm -f "$output"' EXIT
 program run_numbers >"$output"
 
-# Numbers beyond the shell's: 2^63 - 1, and about the largest square that 64 bits hold, of 2^32 - 1.
+# Numbers too large for the shell's arithmetic, with their roots: 2^63 - 1, the square of 2^32 - 1, which is the largest in 64 bits,
+# the number before it, and 2^64 - 1.
 declare -A beyond=(
     [9223372036854775807]=3037000499
     [18446744065119617024]=4294967294
@@ -33,7 +34,7 @@ read_by_od() { # WIDTH LENGTH AT
     fi
 }
 
-put_by_hand() { # WIDTH AT N: the buffer, twelve bytes of 170 before
+put_by_hand() { # WIDTH AT N: what must be left of a buffer that had twelve bytes of 170
     local buffer=(170 170 170 170 170 170 170 170 170 170 170 170) i
     if [ "${#2}" -gt 2 ] || (($2 + $1 > 12)); then
         echo "outside ${buffer[*]}"

@@ -1,11 +1,11 @@
 #!/usr/bin/env bash
-# The readings that the library expects at places, against document 01's examples, the plane readings printed in source
-# document 002, and the rule worked out here by bisection in whole numbers.
+# Tests of lay_expected, which gives the readings expected at a place: compared with document 01's examples, with the plane readings
+# printed in source document 002, and with the rule, worked out here in whole numbers with roots by bisection.
 cd "$(dirname "$0")/.." && . tests/common.bash && . tests/library.bash
 
 east=100000000 north=1000000000
 
-# root N: the whole part of the square root, in `root`
+# root N: leaves the whole part of the square root of N in `root`
 root() {
     local lo=0 hi=2000000000 mid
     while ((lo + 1 < hi)); do
@@ -15,7 +15,7 @@ root() {
     root=$lo
 }
 
-distance() { # of (E, N) and (E, N), in `root`
+distance() { # E N E N: leaves the distance of the two places in `root`
     root $((($1 - $3) * ($1 - $3) + ($2 - $4) * ($2 - $4)))
 }
 
@@ -26,7 +26,7 @@ unsound() { # ME MN AE AN BE BN
         [ "$1 $2" = "$3 $4" ] || [ "$1 $2" = "$5 $6" ] || [ "$3 $4" = "$5 $6" ]
 }
 
-# expected ME MN AE AN BE BN E N: refusal and readings, in `expected`
+# expected ME MN AE AN BE BN E N: leaves the refusal and the readings in `expected`
 expected() {
     local master a
     expected='4 0 0'
@@ -39,7 +39,7 @@ expected() {
     expected="0 $a $((root - master))"
 }
 
-# at CHAIN PLACE...: requests for the readings at places, each in a word of its own
+# at CHAIN PLACE...: prints a request for the readings at each place; a chain is one argument, and so is a place
 at() {
     local chain=$1 place
     shift
@@ -48,7 +48,7 @@ at() {
 
 near() { (($1 - $2 <= 6 && $2 - $1 <= 6)); }
 
-# Document 01's chain 1, and the stations of source document 002, at the places whose readings these give.
+# Document 01's chain 1 and the stations of source document 002, at the places for which these documents give the readings.
 first='0 0 30000 0 0 40000'
 paper='50000000 500000000 40000000 490000000 60000000 500000000'
 corners=('0 0' "$east 0" "0 $north" "$east $north")
@@ -56,11 +56,11 @@ corners=('0 0' "$east 0" "0 $north" "$east $north")
     at "$first" '30000 40000' '30001 40000' '30000 40001' '1 1'
     at "$paper" '60000000 490000000' '60000000 490100000' '60100000 490000000' '60100000 490100000'
     at "$paper" '60002450 490001960' '59999990 490100040' '60100050 489999960' '60099990 490100040'
-    # Stations and places in the corners of the chart: readings beyond 1,000,000,000 in size are given.
+    # Stations and places in the corners of the chart: readings over 1,000,000,000 in size are not refused.
     at "0 0 $east $north $east 0" "${corners[@]}"
     at "$east $north 0 0 0 $north" "${corners[@]}"
     at "0 $north 0 $((north - 1)) 1 $north" "${corners[@]}"
-    # Places out of range, by little and by much, one and both ways; then in a chain that is not sound either.
+    # Places out of range, by little and by much, in one number and in both; then with a chain that is not sound either.
     at "$first" "$((east + 1)) 0" "0 $((north + 1))" "$((east + 1)) $((north + 1))" '4294967295 40000' '30000 4294967295'
     at "0 0 0 0 0 $((north + 1))" "$((east + 1)) 0" "0 $((north + 1))"
     # Chains that are not sound: each station out of range, and each two of them equal.
@@ -95,7 +95,7 @@ done <<'END'
 END
 
 # Source document 002, Table 4 and appendix II: place, then the plane readings printed, in centimetres. They are printed to
-# the tenth of a metre, so 6 off is the most that rounding and the cut explain.
+# a tenth of a metre, so rounding and the cut to whole centimetres explain a difference of at most 6.
 while read -r line; do
     set -- $line
     found=$(sed -n "s/^expected 2 -7 ${paper// /,} $1 $2:0 //p" "$both")
@@ -112,13 +112,13 @@ done <<'END'
 60099990 490100040 5957430 -4242340
 END
 
-# Readings beyond 1,000,000,000 in size are given, at both signs; each refusal is there.
+# Readings over 1,000,000,000 in size are given, with either sign; each refusal occurs.
 told "expected 2 -7 0,0,$east,$north,$east,0 0 0" '0 1004987562 100000000'
 told "expected 2 -7 $east,$north,0,0,0,$north 0 0" '0 -1004987562 -4987562'
 pass_if 'seven places refused' [ "$(grep -c '^4 0 0$' "$answers")" -eq 7 ]
 pass_if 'nine chains refused' [ "$(grep -c '^5 0 0$' "$answers")" -eq 9 ]
 
-# Lists and chains of other lengths, before a place out of range and a chain that is not sound. The list held -7.
+# Lists and chains of wrong lengths are refused before a place out of range and a chain that is not sound. Each list held -7.
 chain=0000000000000000307500000000000000000000409c0000
 cat >"$requests" <<END
 expected 2 -7 $chain 30000 40000

@@ -1,17 +1,17 @@
 #!/usr/bin/env python3
-"""Requests about records read and written in the words of lay.c, and their answers by rule.py.
+"""Makes requests to read and write records in the words of lay.c, and answers them by rule.py.
 
-    records.py named        the requests that have a reason, one to a line
-    records.py sweep        sound records with each byte set to each other value
-    records.py random SEED  1,500 others at random
-    records.py answers      the answers to the requests on standard input
+    records.py named        prints the chosen requests, one to a line
+    records.py sweep        prints requests for sound records with each byte set to each other value
+    records.py random SEED  prints 1,500 others at random
+    records.py answers      answers the requests on standard input
 """
 import random
 import struct
 import sys
 from math import inf, nextafter
 
-# The rule beside this would else leave compiled files in the tree.
+# Without this the modules beside this one would leave compiled files in the tree.
 sys.dont_write_bytecode = True
 import rule
 from rule import EAST, NORTH
@@ -22,7 +22,7 @@ MINUS = 1 << 63
 FAR = 2**32 - 1
 
 
-# A request is its verb with the words of its line: whole numbers, and bytes at the end where it has some.
+# A request is a tuple: its verb, then the words of its line, which are whole numbers, and at the end bytes if it has some.
 
 
 def in_words(values):
@@ -38,8 +38,8 @@ def request_of(line):
 
 
 def lines_of(requests):
-    """The lines of requests. Wherever a chain is asked for, so is the count of its table, and its stations are read and written;
-    and what stands in a job is written."""
+    """The lines of requests. With each chain that is asked for, its table is counted, and its stations are read and written; with
+    each job that is read, its fields are written."""
     for request in requests:
         yield in_words(request)
         if request[0] == "chain":
@@ -61,11 +61,11 @@ def told(request):
     return in_words(ANSWERS[verb](*rest))
 
 
-# The answers: the number of the refusal, and behind it what the rule gives, or as many zeros
+# The answers: the number of the refusal, and after it what the rule gives, or as many zeros
 
 
 def record_answer(s):
-    """The line number is told of any whole record, what else it holds of a good one alone."""
+    """The line number is given for every record of 32 bytes, the other fields only for an accepted one."""
     refusal, record = rule.tried(rule.log_record, s)
     if refusal:
         return refusal, 0, 0, rule.raw_record(s).line if len(s) == 32 else 0, 0, 0
@@ -140,7 +140,7 @@ ANSWERS = {
 }
 
 
-# Records to ask about. A number is given as a float, or as a whole number where its pattern is meant.
+# Records to ask about. A number is given as a float, or as a whole number that is its bit pattern.
 
 
 def eight(x):
@@ -179,7 +179,7 @@ def changed(s, at, value):
     return s[:at] + bytes([value]) + s[at + 1 :]
 
 
-# 01's chain 1, and one as far out as a chain may stand; then a table of them, and of chains that are easily told apart.
+# 01's chain 1, and a chain as far out as may be; then a table of these two, and one of chains that are easily told apart.
 FIRST = (0, 0), (30000, 0), (0, 40000)
 OUTER = (EAST, NORTH), (0, NORTH), (EAST, 0)
 PAIR = chain_of(*FIRST) + chain_of(*OUTER)
@@ -235,7 +235,7 @@ ODD = INFINITY, MINUS + INFINITY, MINUS, 1, MINUS + 1, 2**52 - 1, 2**52, MINUS +
 
 
 def numbers():
-    """NaN, infinities, minus zero and numbers next to nothing: in used fields, and in those that must be zero bytes."""
+    """NaN, infinities, minus zero and the smallest numbers: in used fields, and in those that must be zero bytes."""
     for pattern in NANS + ODD:
         yield "read_record", log(first=pattern)
         yield "read_record", grid(second=pattern)
@@ -253,7 +253,7 @@ def numbers():
 
 
 def zeros():
-    """Bytes that must be zero, also where a number or a place is at fault as well: 2 comes first."""
+    """Bytes that must be zero, alone and with a wrong number or place: 2 comes first."""
     for value in 1, 128:
         for s in SOUND:
             yield "read_record", changed(s, 2, value)
@@ -292,7 +292,7 @@ def limits():
     yield "read_record", grid(first=2e6, second=NAN)
     yield "read_record", grid(first=-1.0, second=INFINITY)
     yield "read_record", grid(first=NAN, second=-1.0)
-    # whether its chain is in the table is no matter of the record
+    # whether its chain is in the table is not tested when a record is read by itself
     for chain in 0, 1, 16, 17, 255:
         yield "read_record", log(chain=chain)
         yield "read_record", log(chain=chain, first=NAN)
@@ -382,7 +382,7 @@ def drafts():
 
 
 def draft_faults():
-    """Every two faults at once, and all: the first in the order 1 to 5 answers, and nothing is left of what was held."""
+    """Every two faults at once, and more: the first in the order 1 to 5 answers, and nothing is left of what the buffer held."""
     faults = (
         {"length": 31},
         {"kind": 4},
@@ -403,7 +403,8 @@ def draft_faults():
 
 
 def rooms():
-    """Buffers and lists of other lengths, and what is refused at once with another length: the given first, then the buffer."""
+    """Buffers and lists of wrong lengths, alone and with other faults. The lengths are tested first, but for `chain`: there the
+    table and the number come before the buffer."""
     sound, unsound = (0, 0, 30000, 0, 0, 40000), (0, 0, 0, 0, 0, 40000)
     for length in 0, 1, 23, 25, 48:
         for number in 1, 3:
@@ -429,7 +430,7 @@ NAMED = examples, kinds, lengths, numbers, zeros, limits, roundings, chains, job
 
 
 def sweep():
-    """Each byte of a record of each kind and of a job set to each other value; in a table of two chains to a dozen."""
+    """Each byte of a record of each kind and of a job set to each other value; each of a table of two chains to a dozen values."""
     for verb, s in *(("read_record", s) for s in SOUND), ("read_job", job()):
         for at in range(32):
             for value in range(256):
@@ -442,7 +443,7 @@ def sweep():
 
 
 def drawn_number(draw):
-    """A pattern: whole centimetres and what lies beside them, numbers about the limits, and any bits at all."""
+    """A bit pattern: of whole centimetres or numbers next to them, of numbers near the limits, or of any bits at all."""
     centimetre = draw.choice((draw.randint(0, EAST), draw.randint(-NORTH, NORTH), draw.randint(-3, 300)))
     limit = draw.choice((1e7, -1e7, 1e6, 1e6 + 0.005, -0.005, 0.0, draw.randint(-(10**9), 10**9) / 8))
     x = draw.choice((centimetre / 100, centimetre / 100, draw.uniform(-2e6, 2e6), limit))

@@ -1,10 +1,10 @@
 #!/usr/bin/env bash
-# What the library makes of records read and written, against document 01's examples and limits, and against the rule
-# (records.py, rule.py). A seed other than the gate's may be given.
+# Tests of the library's functions that read and write log records, jobs and chains: compared with document 01's examples and
+# limits, and with the rule (records.py, rule.py). A seed other than the gate's may be given.
 cd "$(dirname "$0")/.." && . tests/common.bash && . tests/library.bash
 seed=${1:-20261115}
 
-# The requests that have a reason; then sound records with each byte set to other values, and 1,500 at random.
+# The chosen requests; then sound records with each byte set to other values, and 1,500 at random.
 python3 tests/records.py named >"$requests"
 python3 tests/records.py sweep >>"$requests"
 python3 tests/records.py random "$seed" >>"$requests"
@@ -18,7 +18,7 @@ refuses chain 0 1 5
 refuses read_chain 0 1 5
 refuses write_chain 0 1 5
 
-# each VERB: that each line of standard input, BYTES: ANSWER, is so; the bytes may be spaced
+# each VERB: tests each line of standard input, BYTES: ANSWER; there may be spaces between the bytes
 each() {
     local bytes answer
     while IFS=: read -r bytes answer; do told "$1 ${bytes// /}" "${answer# }"; done
@@ -29,9 +29,9 @@ told 'read_record 010100000100000000000000000059c000000000000069c000000000000000
 told 'read_record 02000000020000005c8fc2f528c0724000000000000079400000000000000000' '0 2 0 2 30001 40000'
 told 'read_record 0300000003000000000000000000000000000000000000000000000000000000' '0 3 0 3 0 0'
 
-# Log records by their bytes, and what they give in centimetres. Records too short and too long; the kinds beside the known
-# ones; the largest sizes and the next numbers; an infinity, a NaN, minus zero in a used field; 01's roundings; chain numbers
-# that are no matter of the record.
+# Log records as bytes, and what they give in centimetres: records too short and too long; known and unknown kinds; the largest
+# sizes and the next numbers; an infinity, a NaN, minus zero in a used field; 01's roundings; chain numbers, which are not tested
+# when a record is read by itself.
 each read_record <<'END'
 -: 1 0 0 0 0 0
 01 01 0000 01000000 00000000000059c0 00000000000069c0 00000000000000: 1 0 0 0 0 0
@@ -58,7 +58,7 @@ ff 00 0000 ff000000 0000000000000000 0000000000000000 0000000000000000: 2 0 0 25
 END
 
 # Bytes that must be zero: bytes 2 and 3, the chain of a grid record and of a hold, minus zero in a field that is not used;
-# also where a number is NaN. Then places: -0.001 m and -0.01 m, 1,000,000 m, 1,000,000.005 m, the northing 10,000,000 m,
+# also if a number is NaN. Then places: -0.001 m and -0.01 m, 1,000,000 m, 1,000,000.005 m, the northing 10,000,000 m,
 # and an easting out of range beside a northing that is NaN.
 each read_record <<'END'
 01 01 0100 01000000 00000000000059c0 00000000000069c0 0000000000000000: 2 0 0 1 0 0
@@ -82,9 +82,9 @@ each read_record <<'END'
 02 00 0000 02000000 0000000080843e41 000000000000f87f 0000000000000000: 3 0 0 2 0 0
 END
 
-# Tables: none, half a one, 01's chain 1 with one as far out as may be; their stations out of range and equal, in the chain
-# that is named and in the other. The number of the chain comes first, behind the bytes the count and the stations: the bytes of
-# the chain are those of the table, and read they give the stations, which written give the bytes.
+# Tables, on lines of NUMBER:BYTES: COUNT: CHAIN. They are empty, have a byte too many, or have 01's chain 1, alone or with a chain
+# as far out as may be; stations are out of range or equal, in chain NUMBER or in the other. COUNT is what count_chains answers, and
+# CHAIN what read_chain answers for chain NUMBER; its bytes are those in the table, and its stations are written as these bytes.
 while IFS=: read -r number bytes count chain; do
     bytes=${bytes// /} chain=${chain# }
     told "count_chains $bytes" "${count# }"
@@ -123,8 +123,8 @@ told 'write_chain 24 255 0 0 30000 0 0' '1 0{48}'
 told "read_chain 5 4294967295 ${zeros:768}" '1 0 0 0 0 0'
 told "read_chain 6 4294967295 ${zeros:768}" '5 0 0 0 0 0 0'
 
-# Jobs: 01's, and its limits of k, of the corner, of the tolerance and of the allowance; a byte that must be zero, beside a
-# wrong k as well.
+# Jobs: 01's, and the limits of k, of the corner, of the tolerance and of the allowance; a byte that must be zero, also with a
+# wrong k.
 each read_job <<'END'
 -: 1 0 0 0 0 0
 30750000 409c0000 01 000000 00000000 6400000000000000 00000000000000: 1 0 0 0 0 0
@@ -147,7 +147,7 @@ ffffffff 409c0000 01 000000 00000000 6400000000000000 0000000000000000: 6 0 0 0 
 30750000 409c0000 19 000000 00000000 6400000000000000 0000000000000080: 2 0 0 0 0 0
 END
 
-# The same written: 01's job, the limits, and 1, 6 and 7.
+# Jobs written: 01's, the limits, and the refusals 1, 6 and 7.
 told 'write_job 32 165 30000 40000 1 0 100' '0 30750000409c0000010000000000000064000000000000000000000000000000'
 told 'write_job 32 255 100000000 40000 0 0 0' '0 00e1f505409c0000000000000000000000000000000000000000000000000000'
 told 'write_job 32 0 0 0 0 100000 18446744073709551615' '0 0{24}a0860100f{16}0{16}'
@@ -156,8 +156,8 @@ told 'write_job 32 255 0 0 25 100001 0' '6 0{64}'
 told 'write_job 32 0 0 0 0 100001 18446744073709551615' '7 0{64}'
 told 'write_job 23 255 30000 40000 25 100001 0' '1 0{46}'
 
-# Drafts, by length, value held, kind, chain, line and two numbers in decimal: 01's log written; then each refusal, what
-# comes just before it, and several at once. A refused write leaves zeros.
+# Records written, given by the buffer's length and what it holds, then kind, chain, line and two numbers in decimal: 01's log; then
+# each refusal, numbers just within its limit, and several faults at once. A refused write leaves zeros.
 while IFS=: read -r numbers answer; do
     told "write_record $numbers" "${answer# }"
 done <<'END'

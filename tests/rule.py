@@ -1,8 +1,8 @@
-"""The rules of document 01 in whole numbers and exact fractions, section by section in that paper's order: the one statement
-of them that the models of the tests share. The second program, second/, stays apart from it.
+"""The rules of document 01 in whole numbers and exact fractions, section by section in that paper's order. The Python programs of
+the tests share this one statement of them; the second program, second/, does not use it.
 
 A place is a pair, easting and northing, in centimetres. Readings are a tuple, one for each slave of a chain. A rule that can
-refuse has its tests in the order in which they go, each with its number.
+refuse makes its tests in the order that 01 gives, each with the number of its refusal.
 """
 import struct
 from fractions import Fraction
@@ -17,7 +17,7 @@ class Refusal(Exception):
 
 
 def refuse(number, wrong):
-    """A test: the first that fails answers."""
+    """A test: if `wrong` is so, the rule ends with this refusal. So the first test that fails answers."""
     if wrong:
         raise Refusal(number)
 
@@ -68,12 +68,12 @@ def distance(p, q):
 
 
 def range_of(chain, station, place):
-    """How far a place is from a station of a chain, as readings count it."""
+    """The distance from a station of a chain to a place, as it is used in readings."""
     return distance(place, station)
 
 
 def readings(chain, place):
-    """For each slave its range less the master's, each cut to a whole number first."""
+    """For each slave its distance less the master's, each cut to a whole number first."""
     to_master = range_of(chain, chain.master, place)
     return tuple(range_of(chain, slave, place) - to_master for slave in chain.slaves)
 
@@ -85,7 +85,7 @@ def is_sound(chain):
 
 
 def agrees(chain, place, wanted, by):
-    """Every reading differs from the one wanted by at most so much. A cell matches if it agrees by the tolerance."""
+    """Every reading differs from the wanted one by at most `by`. A cell matches if it agrees by the tolerance."""
     return all(abs(reading - want) <= by for reading, want in zip(readings(chain, place), wanted))
 
 
@@ -101,7 +101,7 @@ def centimetres(metres):
 
 
 def metres(centimetres):
-    """Divided by 100 in one rounded operation, as Python's quotient of two whole numbers is."""
+    """The centimetres divided by 100 in one rounded operation: so Python divides two whole numbers."""
     refuse(3, abs(centimetres) > SIZE)
     return centimetres / 100
 
@@ -120,13 +120,13 @@ class Record(NamedTuple):
 
 
 def raw_record(s):
-    """What stands where in 32 bytes, with three numbers in metres."""
+    """The fields of 32 bytes, not yet tested, with three numbers in metres."""
     kind, chain, line, *numbers = struct.unpack("<BBxxI3d", s)
     return Record(kind, chain, line, tuple(numbers))
 
 
 def zero_bytes(s):
-    """The bytes that must be zero: the chain but for kind 1, bytes 2 and 3, and every number that the kind does not use."""
+    """The bytes that must be zero: the chain unless the kind is 1, bytes 2 and 3, and every number that the kind does not use."""
     return s[2 if s[0] == 1 else 1 : 4] + s[8 + 8 * USED[s[0]] :]
 
 
@@ -141,7 +141,7 @@ def log_record(s):
 
 
 def record_bytes(record, length=32):
-    """What the writer leaves in a buffer of that length, of numbers in centimetres. What the kind does not use is ignored."""
+    """What the writer leaves in a buffer of `length` bytes, from numbers in centimetres. What the kind does not use is ignored."""
     refuse(1, length != 32)
     refuse(2, record.kind not in USED)
     numbers = record.numbers[: USED[record.kind]]
@@ -159,7 +159,7 @@ def pieces(s, size):
 
 
 def chain_of(numbers):
-    """The chain of eastings and northings in turn, those of the master first."""
+    """The chain with these numbers: easting and northing of the master, then of each slave."""
     master, *slaves = zip(numbers[0::2], numbers[1::2])
     return Chain(master, tuple(slaves))
 
@@ -175,7 +175,7 @@ def chains_in(table):
 
 
 def chain_in(table, number):
-    """The chain of a number, which is counted from 1."""
+    """The chain with this number; the first chain has number 1."""
     chains = chains_in(table)
     refuse(5, not 1 <= number <= len(chains))
     refuse(5, not is_sound(chains[number - 1]))
@@ -195,7 +195,7 @@ class Job(NamedTuple):
 
 
 def raw_job(s):
-    """What stands where in 32 bytes."""
+    """The fields of 32 bytes, not yet tested."""
     easting, northing, *others = struct.unpack("<IIB3xIQ8x", s)
     return Job((easting, northing), *others)
 
@@ -205,7 +205,7 @@ def job_bytes(job):
 
 
 def is_window(corner, k):
-    """Every cell of 2^k by 2^k is in range."""
+    """k is at most 24, and every cell of the window of 2^k by 2^k is in range."""
     return k <= 24 and in_range(corner) and in_range(moved(corner, 2**k - 1, 2**k - 1))
 
 
@@ -230,8 +230,8 @@ def job_in(s):
 
 
 def walk(chain, wanted, job):
-    """The squares in the order of their visits, each by its south-west cell and its side. What is put last is taken first, so
-    each quarter is finished before the next."""
+    """The squares in the order of their visits, each given by its south-west cell and its side. The square that was added last is
+    taken first, so each quarter is finished before the next."""
     squares = [(job.corner, 2**job.k)]
     while squares:
         corner, side = squares.pop()
@@ -267,7 +267,7 @@ def check_search(chain, wanted, job):
 
 
 def chart_number(corner, cell):
-    """The bits of a cell's offsets interleaved, the northing's above the easting's; chart order is by these."""
+    """The bits of a cell's offsets interleaved, the northing's above the easting's. Chart order is the order of these numbers."""
     east, north = cell[0] - corner[0], cell[1] - corner[1]
     return sum((east >> i & 1) << 2 * i | (north >> i & 1) << 2 * i + 1 for i in range(24))
 
@@ -276,7 +276,7 @@ def chart_number(corner, cell):
 
 
 def expected(table, number, place):
-    """4 precedes 5; a table that is none comes before both."""
+    """4 precedes 5; the length of the table (1) is tested before both."""
     chains_in(table)
     refuse(4, not in_range(place))
     return readings(chain_in(table, number), place)
@@ -296,8 +296,8 @@ def refused(number, visits=0):
 
 
 def answer(job, table, held, s, find):
-    """A record's word, the count of its places or the number of its refusal, the visits and the places. `held` has the place
-    that a hold repeats, or nothing."""
+    """A record's word, the count of its places or the number of its refusal, the visits and the places. `held` is a list of the
+    place that a hold repeats, or an empty list."""
     refusal, record = tried(log_record, s)
     if refusal:
         return refused(refusal)
@@ -313,7 +313,7 @@ def answer(job, table, held, s, find):
 
 
 def lines(job, table, log, held, find):
-    """A line a record, and with it the place that a hold behind it repeats, or nothing."""
+    """One line for each record, and with it a list of the place that a hold after it repeats, or an empty list."""
     for s in pieces(log, 32):
         *words, places = answer(job, table, held, s, find)
         held = places if len(places) == 1 else []
@@ -322,8 +322,8 @@ def lines(job, table, log, held, find):
 
 
 def listing(job, table, log, held=(), find=search):
-    """The lines for the bytes of three files. A log may be a part of one, with the place that the part before it leaves; and
-    `find` another search that answers the same."""
+    """The lines for the bytes of the three files. `log` may be a part of a log; then `held` has the place that the part before it
+    leaves. `find` may be another search that answers the same."""
     refusal, asked = tried(job_in, job)
     if refusal:
         return [(f"JOB REFUSED {refusal}", [])]

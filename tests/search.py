@@ -1,20 +1,20 @@
 #!/usr/bin/env python3
-"""Requests for searches in the words of lay.c, and their answers by rule.py.
+"""Makes requests for searches in the words of lay.c, and answers them by rule.py.
 
-    search.py named        the requests that have a reason, one to a line
-    search.py random SEED  1,500 others at random
-    search.py answers      the answers to the requests on standard input
+    search.py named        prints the chosen requests, one to a line
+    search.py random SEED  prints 1,500 others at random
+    search.py answers      answers the requests on standard input
 
-The rule's places are those that its walk by quarters meets. To check it they are found apart from the walk as well: by the
-least and the greatest range of the cells of a box, in a small window also cell by cell, and put in order by their interleaved
-numbers. Where the ways differ there is no answer.
+The rule finds its places by its walk through quarters. To check them, they are also found without the walk: by halving boxes, with
+the least and the greatest distance of the cells of a box from each station, and in a small window cell by cell too. They are put
+in order by their interleaved numbers. If the ways differ, the program stops without an answer.
 """
 import random
 import struct
 import sys
 from typing import NamedTuple
 
-# The rule beside this would else leave compiled files in the tree.
+# Without this the modules beside this one would leave compiled files in the tree.
 sys.dont_write_bytecode = True
 import rule
 from rule import EAST, NORTH, moved
@@ -54,12 +54,12 @@ def line_of(r):
 
 
 def bytes_of(word, made):
-    """The bytes that a word has, or those made of its numbers."""
+    """The bytes that a word has in hexadecimal, or those that `made` makes of its numbers with commas between."""
     return made(list(map(int, word.split(",")))) if "," in word else bytes.fromhex(word.strip("-"))
 
 
 def told(line):
-    """The bytes are tested first: 1 for the lengths, and 2 for what must be zero in a job."""
+    """The answer to a request. The bytes are tested first: 1 for the lengths, and 2 for what must be zero in a job."""
     _, entries, held, chain, job, *wanted = line.split()
     chain = bytes_of(chain, lambda n: rule.chain_bytes(rule.chain_of(n)))
     job = bytes_of(job, lambda n: rule.job_bytes(rule.Job((n[0], n[1]), *n[2:])))
@@ -80,11 +80,11 @@ def readings(r, p):
     return rule.readings(r.chain, p)
 
 
-# The places apart from the walk
+# The places, found without the walk
 
 
 def span(chain, station, box):
-    """The least and the greatest range of a station in a box of cells: of the cell next to it, and of the farthest corner."""
+    """The least and the greatest distance from a station to the cells of a box: to the nearest cell, and to the farthest corner."""
     west, south, east, north = box
     e, n = station
     nearest = min(max(e, west), east), min(max(n, south), north)
@@ -102,7 +102,8 @@ def can_match(chain, wanted, tolerance, box):
 
 
 def by_boxes(chain, wanted, job):
-    """The matching cells: boxes that may hold one are halved, and in a box of one cell least and greatest are the same."""
+    """The matching cells. Boxes that may hold one are halved, down to single cells, for which the test is exact: their least and
+    greatest distances are the same."""
     boxes = [(*job.corner, *moved(job.corner, 2**job.k - 1, 2**job.k - 1))]
     while boxes:
         west, south, east, north = box = boxes.pop()
@@ -124,7 +125,7 @@ def cell_by_cell(chain, wanted, job):
 
 
 def checked(chain, wanted, job, room):
-    """What rule.search answers, if its places are those that are found apart from its walk, where nothing stopped it."""
+    """What rule.search answers. If nothing stopped its walk, its places must be those that are found without it."""
     refusal, visits, places = rule.search(chain, wanted, job, room)
     if refusal not in (0, 8):
         return refusal, visits, places
@@ -146,7 +147,7 @@ P4 = Request((0, 0), (30000, 0), (0, 40000), (-10000, -20000), (30000, 40000), 1
 PAPER = P4._replace(
     master=(50_000_000, 500_000_000), a=(40_000_000, 490_000_000), b=(60_000_000, 500_000_000), allowance=AMPLE
 )
-# Stations as far apart as readings at every place of the chart allow.
+# Stations as far apart as they may be if the readings at every place of the chart are to be within the limit.
 WIDE = P4._replace(master=(0, 0), a=(0, NORTH - 1), b=(EAST, 0))
 
 
@@ -155,7 +156,7 @@ def p4(**changes):
 
 
 def own(r, p, **changes):
-    """A request for the readings of a place, its window that cell alone unless the changes say more."""
+    """A request for the readings of the place `p`; its window is that cell alone unless the changes say otherwise."""
     return r._replace(wanted=readings(r, p), **{"corner": p, "k": 0, **changes})
 
 
@@ -170,7 +171,7 @@ def examples():
 
 
 def limits():
-    # a window of 2^24 whose middle is far off: one visit
+    # readings far from those at the middle of a window of 2^24: one visit
     for k in 24, 25, 31, 32, 33, 255:
         yield p4(k=k, wanted=(1_000_000_000, 1_000_000_000))
     for tolerance in 100_000, 100_001, 2**32 - 1:
@@ -184,7 +185,7 @@ def limits():
 
 
 def edges():
-    """Windows in the corners of the chart, by chains far and near; then one cell too far, and sums beyond 32 bits."""
+    """Windows in the corners of the chart, with wide and close chains; then windows one cell too far, and sums beyond 32 bits."""
     near = WIDE._replace(master=(EAST - 40, NORTH - 9), a=(EAST, NORTH - 30), b=(EAST - 25, NORTH))
     for k in range(4):
         for east, north in CORNERS:
@@ -222,7 +223,7 @@ def refusals():
 
 
 def chains():
-    """Each station out of range, each two of them equal; then sound ones that stand close, at both ends of the chart."""
+    """Each station out of range, each two of them equal; then sound chains with close stations, at both ends of the chart."""
     for station in "master", "a", "b":
         for p in (EAST + 1, 0), (0, NORTH + 1), (2**32 - 1, 2**32 - 1):
             yield p4(**{station: p})
@@ -234,8 +235,8 @@ def chains():
     yield own(p4(master=(EAST, NORTH), a=(EAST - 1, NORTH), b=(EAST, NORTH - 1)), (EAST - 3, NORTH - 2), k=1)
 
 
-# Readings, corner, k, count and visits, worked out apart from any of this: hyperbolas that cross twice, in the chain of
-# source document 002 and in one whose stations lie in a line; then that document's four points.
+# Chain, readings, corner, k, count and visits, worked out independently: hyperbolas that cross twice, in the chain of source
+# document 002 and in one whose stations lie in a line; then that document's four points.
 LINE = PAPER._replace(a=(49_000_000, 500_000_000), b=(51_000_000, 500_000_000))
 CROSSINGS = (
     (PAPER, (12205441, 9172617), (47499999, 497945629), 24, 3, 2753),
@@ -282,7 +283,7 @@ def lists():
         yield p4(entries=entries, tolerance=1)
     yield p4(entries=0, wanted=(0, 0))
     yield p4(entries=1, wanted=(0, 0))
-    # as many places as the listing has room for, one room less, half a place more; the longest list, and too many for it
+    # 256 places in lists with room for 255, for 256, for half a place more and for many more; then too many places for the last
     for entries in 511, 512, 513, 1100:
         yield p4(k=4, tolerance=60, entries=entries, allowance=AMPLE)
     yield p4(k=5, tolerance=90, entries=1100, allowance=AMPLE)
@@ -298,16 +299,16 @@ def allowances():
         most = (4 ** (k + 1) - 1) // 3
         for allowance in most - 1, most:
             yield p4(k=k, tolerance=100_000, allowance=allowance, entries=2 * 4**k)
-    # all that matches is met at the second visit, and still the others count
+    # all that matches is met at the second visit, but the visits after it count too
     for allowance in 1, 2, 4, 5:
         yield own(P4, (0, 0), k=1, allowance=allowance)
-    # a window that would take all its cells is stopped; another as large is gone through
+    # a search that would take all cells of its window is stopped; another in a window as large is finished
     yield p4(a=(1, 0), b=(0, 1), wanted=(1, 1), corner=(0, 0), k=24, allowance=2000)
     yield own(PAPER, (62_345_678, 487_654_321), corner=(50_000_000, 480_000_000), k=24)
 
 
 def orders():
-    """Chart order goes by the offsets from a corner wherever it lies."""
+    """Chart order depends on the offsets from the window's corner, wherever that lies."""
     for corner in (30000, 40000), (30001, 40003), (30007, 40014):
         for k in 2, 3:
             yield p4(corner=corner, k=k, tolerance=60, entries=2 * 4**k)
@@ -316,14 +317,14 @@ def orders():
 
 
 def about(r, slack):
-    """Each reading off by so much and by one more, either way."""
+    """Each reading off by `slack` and by one more, either way."""
     for by in slack, -slack, slack + 1, -slack - 1:
         yield r._replace(wanted=(r.wanted[0] + by, r.wanted[1]))
         yield r._replace(wanted=(r.wanted[0], r.wanted[1] + by))
 
 
 def differences():
-    """At a cell by the tolerance, at the middle of a square by what drops it, and on a slave, whose range is 0."""
+    """Readings at their limit and one beyond it: at a cell, at the middle of a square, and at a slave, whose distance is 0."""
     place = 30001, 40001
     yield from about(own(P4, place), 0)
     yield from about(own(p4(tolerance=100_000), place), 100_000)
@@ -334,13 +335,13 @@ def differences():
 
 
 def close_errors():
-    """What 01 warns of: the readings that a wrong rule would give are asked for as well."""
+    """The errors that 01 warns of: the readings that a wrong rule would give are asked for as well."""
     yield own(P4, (30001, 40000))
     yield p4(corner=(30001, 40000), k=0, wanted=(-10001, -19999))
     yield own(P4, (1, 1))
     yield p4(corner=(1, 1), k=0, wanted=(29997, 39998))
     yield p4(wanted=(10000, 20000))
-    # a distance whose square is one less than (2jj + 1) squared, which a float takes for its root: the master's, a slave's
+    # the squared distance is one less than the square of 2jj + 1, which is its root in floating point: the master's, a slave's
     j = 22360
     p = 2 * j, 2 * j * j
     for chain in p4(a=moved(p, 0, -1), b=moved(p, 1, 0)), p4(master=moved(p, 0, -1), a=(0, 0), b=moved(p, 1, 0)):
@@ -354,7 +355,7 @@ def close_errors():
         for p in corner, moved(corner, 2**k - 1, 2**k - 1):
             for master, a in ((0, 0), (1_000_000, 1_000_000)), ((1_000_000, 1_000_000), (0, 0)):
                 yield own(p4(master=master, a=a, b=(0, 1_000_000)), p, corner=corner, k=k, allowance=AMPLE, entries=20)
-    # a reading of 1,000,050,000 is not cut to what may be asked for
+    # a reading of 1,000,050,000 at a cell is compared as it is, not cut to the limit of what may be asked for
     for tolerance in 49_999, 50_000, 50_001:
         yield p4(a=(10_000_125, NORTH), b=(1, 0), wanted=(NORTH, 1), corner=(0, 0), k=0, tolerance=tolerance)
 
@@ -371,7 +372,7 @@ NAMED = examples, limits, edges, refusals, chains, crossings, lists, allowances,
 
 
 def by_their_bytes():
-    """Chains, jobs and readings of other lengths, and a job's byte that is not zero, each beside what is refused later."""
+    """Chains, jobs and readings of wrong lengths, and bytes of a job that must be zero, also with faults that are tested later."""
     chain, unsound = rule.chain_bytes(P4.chain), bytes(24)
     job, bad = rule.job_bytes(P4.job), rule.job_bytes(P4.job._replace(k=25, tolerance=100_001))
     spoilt = [bad[:at] + b"\1" + bad[at + 1 :] for at in (9, 10, 11, 24, 31)] + [job[:31] + b"\x80"]
@@ -385,7 +386,7 @@ def by_their_bytes():
 
 
 def beside(draw, p, reach):
-    """A place of the chart at most so far from another either way."""
+    """A place of the chart, at most `reach` from `p` in easting and in northing."""
     east = draw.randint(max(0, p[0] - reach), min(EAST, p[0] + reach))
     return east, draw.randint(max(0, p[1] - reach), min(NORTH, p[1] + reach))
 
@@ -398,7 +399,7 @@ def around(draw, p, k):
 
 
 def with_fault(draw, r):
-    """The request with one thing wrong in it, or just not."""
+    """The request with one thing wrong in it, or just within its limit."""
     return draw.choice(
         (
             r._replace(wanted=(r.wanted[0], draw.choice((-1, 1)) * draw.randint(999_999_999, 1_000_000_002))),
@@ -415,7 +416,7 @@ def with_fault(draw, r):
 
 
 def drawn(draw):
-    """A request at random, small windows mostly; a large one has a large chain, or it would seldom end."""
+    """A request at random, mostly with a small window; a large window has a large chain, or its search would seldom end."""
     if draw.random() < 0.15:
         k, reach = draw.randint(7, 24), draw.choice((10**6, 10**7, 10**7, NORTH))
         tolerance = draw.choice((0, 0, 0, 1, 3))
@@ -431,7 +432,7 @@ def drawn(draw):
 
 
 def at_random(seed):
-    """Allowance and room lie about what each search takes, which is 5,000 visits at the most."""
+    """Requests whose allowance and room are about what each search takes, which is cut at 5,000 visits."""
     draw = random.Random(seed)
     for _ in range(1500):
         r = drawn(draw)

@@ -1,10 +1,10 @@
 #!/usr/bin/env bash
-# What the library answers to searches, against document 01's examples, against crossings worked out apart from this, and
-# against the rule in whole numbers (search.py, rule.py). A seed other than the gate's may be given.
+# Tests of lay_search: compared with document 01's examples, with crossings that were worked out independently, and with the rule
+# in whole numbers (search.py, rule.py). A seed other than the gate's may be given.
 cd "$(dirname "$0")/.." && . tests/common.bash && . tests/library.bash
 seed=${1:-20261115}
 
-# The requests that have a reason, then 1,500 at random.
+# The chosen requests, then 1,500 at random.
 python3 tests/search.py named >"$requests"
 python3 tests/search.py random "$seed" >>"$requests"
 ask python3 tests/search.py answers
@@ -12,8 +12,8 @@ refuses search 0 1 2 3 5 6 7 8 9 10
 
 # 01's examples: P4 to P9, P7 also with room 1, P2, and the place (1, 1); then its limits, of k, of the easting, of the
 # tolerance and of a reading; then no room and no allowance, and a list that is full at the last visit allowed. After them
-# what was worked out apart from any of this: two crossings each in the chain of source document 002 and in one whose
-# stations lie in a line, and that document's four points. Every list held 7 before.
+# what was worked out independently: hyperbolas that cross twice, in the chain of source document 002 and in one whose stations
+# lie in a line, and that document's four points. Every list held 7 before.
 
 # search LENGTH DIRT ME MN AE AN BE BN RA RB E N K T ALLOWANCE: the request
 search() { echo "search $1 $2 $3,$4,$5,$6,$7,$8 ${11},${12},${13},${14},${15} $9 ${10}"; }
@@ -49,12 +49,12 @@ done <<'END'
 4 7 50000000 500000000 40000000 490000000 60000000 500000000 5957406 -4242337 55905696 485905696 23 0 3689: 0 2 3689 60099999 490100001 60100000 490100000
 END
 
-# The visits of windows about P4's first place, of 2^5 and of 2^12.
+# The visits of two windows about P4's first place, with sides of 2^5 and 2^12 cells.
 told 'search 8 7 0,0,30000,0,0,40000 29984,39984,5,0,18446744073709551615 -10000 -20000' '0 [0-9]* 729 .*'
 told 'search 8 7 0,0,30000,0,0,40000 27952,37952,12,0,18446744073709551615 -10000 -20000' '0 [0-9]* 2009 .*'
 
-# By bytes: 01's P4; then a chain, readings and a job of other lengths, and a byte of the job that must be zero, which come before
-# a reading that is too large, a chain that is not sound and a bad window.
+# By bytes: 01's P4; then a chain, readings and a job of wrong lengths, some with a reading that is too large or a chain that is
+# not sound, which are tested later; a byte of the job that must be zero; a reading that is too large before an unsound chain.
 chain=0000000000000000307500000000000000000000409c0000 none=000000000000000000000000000000000000000000000000
 job=30750000409c0000010000000000000064000000000000000000000000000000
 told "search 8 7 $chain $job -10000 -20000" '0 2 5 30000 40000 30001 40001 0 0 0 0'

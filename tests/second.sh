@@ -1,5 +1,5 @@
 #!/usr/bin/env bash
-# The second program's own tests: the examples and limits of document 01, written out there.
+# Runs the second program's own tests, which have the examples and limits of document 01 written out.
 cd "$(dirname "$0")/.." && . tests/common.bash
 said=$(cargo test --quiet --release --offline --manifest-path second/Cargo.toml --target-dir target/second 2>&1) || {
     echo "$said"

@@ -1,14 +1,14 @@
 #!/usr/bin/env python3
-"""Runs of the desk's tools, and what must come of each: what text stands for and what is shown as docs/FORMATS.md says, and
-the rest by rule.py.
+"""Makes runs of the desk's tools (layjob, laychain, laywrite, layexpect, layshow), each with the outcome that it must have, and
+judges them. What a text means and what is shown follows docs/FORMATS.md, the rest rule.py.
 
-    tools.py cases FOLDER          writes the runs that have a reason, a folder each
+    tools.py cases FOLDER          writes the chosen runs, one folder for each
     tools.py random SEED FOLDER    writes 300 at random
-    tools.py judge FOLDER          compares what came of each run with what must, and prints how many things were compared
+    tools.py judge FOLDER          compares each run with the outcome that it must have, and prints how many things were compared
 
-A run has its folder `files`, in which it takes place, and its `tool`, `arguments` (a zero byte behind each) and `input`; it
-leaves `printed`, `said` and `status`. What must come of it stands in `wanted` (what is printed; no such file where help is),
-`refusals` (line and number, the line 0 where none is named) and the folder `after`.
+A run's folder has the folder `files`, in which the tool runs, and the files `tool`, `arguments` (a zero byte after each), `input`
+and `why`. The run leaves `printed`, `said` (standard error) and `status`. Its outcome must be what is in `wanted` (what is printed;
+there is no such file if help is printed), `refusals` (line and number; line 0 if none is named) and the folder `after`.
 """
 import random
 import re
@@ -18,19 +18,19 @@ from math import inf, nextafter
 from pathlib import Path
 from typing import NamedTuple
 
-# Those beside this would else leave compiled files in the tree.
+# Without this the modules beside this one would leave compiled files in the tree.
 sys.dont_write_bytecode = True
 import records
 import rule
 from records import INFINITY, MINUS, NAN, changed
 from rule import EAST, NORTH, SIZE, Refusal, refuse
 
-# a line with its newline
+# The bytes of the longest line that is accepted, with its newline.
 LONGEST = 65_535
 
 
 class Run(NamedTuple):
-    """A tool with what it is given; the files are those of the folder, by name. Why it is tried is told where it fails."""
+    """A tool with what it is given; the files are those of its folder, by name. `why` is what is tried, printed if it fails."""
 
     tool: str
     arguments: list = []
@@ -55,7 +55,7 @@ READING = re.compile(rb"-?[0-9]+")
 
 
 def value(word):
-    """What a word says. More than 40 digits are past every limit, and so is 10^40."""
+    """The number that a word stands for. For more than 40 digits it is 10^40, which is over every limit too."""
     digits = word.lstrip(b"-").lstrip(b"0")
     size = 10**40 if len(digits) > 40 else int(digits or b"0")
     return -size if word.startswith(b"-") else size
@@ -69,7 +69,7 @@ def values(line, shapes):
 
 
 def lines_in(text):
-    """The lines without their newlines; None, and no more, for one that is too long or has no newline."""
+    """The lines without their newlines, up to one that is too long or has no newline: for that one None, and then no more."""
     while text:
         line, newline, text = text.partition(b"\n")
         if not newline or len(line + newline) > LONGEST:
@@ -87,7 +87,7 @@ def line_of(arguments):
 
 
 def taken(lines, bytes_of):
-    """The bytes of the lines that are accepted, in one, and the refusals of the others."""
+    """The bytes of the accepted lines, joined, and the refusals of the others."""
     accepted, refusals = [], []
     for at, line in enumerate(lines, 1):
         try:
@@ -169,7 +169,7 @@ def layshow(run):
 
 
 def shown(words, refusal, s):
-    """The words of a record; behind them, where it is refused, the number and the bytes, if there are any."""
+    """The words of a record; after them, if it is refused, `REFUSED`, the number, and the bytes if there are any."""
     behind = ["REFUSED", refusal, s.hex()] if refusal else []
     return " ".join(str(word) for word in words + behind if word != "")
 
@@ -194,7 +194,7 @@ def chain_line(number, chain, s):
 
 
 def log_line(s):
-    """Of a record by itself: whether its chain is in the table, and what it holds, is not told."""
+    """The line of a record by itself: it does not say whether its chain is in the table, nor which place a hold repeats."""
     refusal, _ = rule.tried(rule.log_record, s)
     if refusal == 1:
         return shown(["LOG"], 1, s)
@@ -226,7 +226,7 @@ def outcome(run):
         return Outcome(run.files, refusals=[(0, refusal.number)])
 
 
-# Runs that have a reason. First 01's example as text and as bytes, and what may stand in a folder before.
+# The chosen runs. First 01's example as text and as bytes, and files that may be in a folder before a run.
 
 JOB = [30000, 40000, 1, 0, 100]
 CHAIN = [0, 0, 30000, 0, 0, 40000]
@@ -255,7 +255,7 @@ OLD = {
     "notes": b"a file that is none of the desk's\n",
 }
 
-# Words that are no number, and that are no reading either. The bytes next to the digits are among them.
+# Words that are neither a number nor a reading. The bytes next to the digits are among them.
 NO_WORDS = [
     *(b"+1", b"--1", b"-", b"1-", b"1.5", b"1.", b".5", b"1e3", b"0x10", b"1,000", b"1_000", b"a", b"1a", b"a1", b"NaN"),
     *(b"1\x0b", b"\x0c1", b"/", b":", b"1/", b":1", b'"1"', b"\x7f1", b"\xb2", b"1\xff", b"\x80", b"\xb1"),
@@ -282,7 +282,7 @@ def instead(values, at, other):
 
 
 def larger(number, least=31):
-    """Numbers that pass for a number where only so many of their bits, or more, are kept; and some of 30 and of 300 digits."""
+    """Numbers that pass for `number` if only their lowest bits are kept, `least` or more; and some of 30 and of 300 digits."""
     kept = [number + 2**bits for bits in (8, 16, 31, 32, 63, 64, 128) if bits >= least]
     return [*kept, 10**29 + 1, 10**30 - 1, 10**299 + 1, 10**300 - 1]
 
@@ -301,24 +301,24 @@ def to_table(text, why, files=OLD):
 
 
 def to_log(text, why, log=THREE["lay.dat"]):
-    """A log of None is missing."""
+    """If the log is None, there is no file at all."""
     return Run("laywrite", text=text, files=OLD | {"lay.dat": log} if log is not None else {}, why=why)
 
 
 def accepted(run):
-    """A run that would show nothing if it were refused."""
+    """The run, once it is checked that nothing of it is refused: it would then test nothing."""
     assert not outcome(run).refusals, run
     return run
 
 
 def refused(run):
-    """One that would show less if a line of it were accepted."""
+    """The run, once it is checked that every line of it is refused: with an accepted line it would test less."""
     assert len(outcome(run).refusals) == run.text.count(b"\n"), run
     return run
 
 
 def examples():
-    """01's example from nothing."""
+    """01's example, made in an empty folder and over other files; its expected readings; and what is shown of it."""
     for files in {}, THREE, OLD:
         yield accepted(to_job(JOB, "01's job", files))
         yield accepted(to_table(line(CHAIN), "01's chain", files))
@@ -336,7 +336,7 @@ def examples():
 
 
 def arguments():
-    """For every tool what is no argument of any; standard input has what the tool would take."""
+    """For every tool, arguments that no tool takes, and help; standard input has what the tool would accept."""
     spoilt = [b""], [b" "], [b"\t"], [b"\r"], [b"\n"], [b"--"], [b"-"], [b"-h"], [b"--version"], [b"help"], [b"\xff"]
     near = [b"--help "], [b" --help"], [b"--hel"], [b"--helps"], [b"-help"], [b"--HELP"], [b"", b"--help"], [b"x", b"--help"]
     helps = [b"--help"], [b"--help", b"--help"], [b"--help", b""], [b"--help", b"1", b"30000", b"40000"], [b"--help", b"\xff "]
@@ -348,7 +348,7 @@ def arguments():
 
 
 def counts():
-    """Too few and too many arguments, and some that are none among those that would be right."""
+    """Too few and too many arguments, and wrong ones among right ones."""
     for tool, right in ("layjob", words(JOB)), ("layexpect", [b"1", b"30000", b"40000"]):
         for n in range(len(right) + 3):
             yield Run(tool, (right * 2)[:n], files=THREE, why="how many arguments")
@@ -368,7 +368,7 @@ def counts():
 
 
 def spread(right, length):
-    """Spare zeros in front of every word, so that the line, with its newline, has this length."""
+    """Spare zeros before every word, so that the line, with its newline, has this length."""
     share = (length - len(b" ".join(right) + b"\n")) // len(right)
     longer = [b"0" * share + word for word in right]
     longer[0] = b"0" * (length - len(b" ".join(longer) + b"\n")) + longer[0]
@@ -401,7 +401,7 @@ def jobs():
 
 
 def bad_jobs():
-    """Words of another form, each in one of the fields, then two things wrong at once: 12 is first, 6 before 7."""
+    """Words that are no numbers, each in one of the fields; then several faults at once: 12 comes first, 6 before 7."""
     for at, word in enumerate([word for word in NO_WORDS + NO_NUMBERS + NO_READINGS if b"\0" not in word]):
         yield to_job(instead(JOB, at % 5, word), "a word that is no number")
     for at in range(5):
@@ -424,7 +424,7 @@ def tables():
         yield to_table(lines(many[:n]), f"{n} chains")
         yield to_table(lines(many[:n]), f"{n} chains", {})
     yield to_table(lines(many[:16]), "a table in place of nothing", {"chain.dat": b""})
-    # the seventeenth line is the last that is told, whatever comes behind it; its form and then the table's length decide
+    # the seventeenth line is the last that is reported, whatever follows it: with 12 if it is not of the form, else with 1
     for last in lines(many[:1]), b"\n", b"x\n", b"1 2 3 4 5 6", line([0] * 6), b"1" * 70_000:
         yield to_table(lines(many[:16]) + last, "a seventeenth line")
         yield to_table(lines(many[:16]) + last + b"x\nx\n", "a seventeenth line, with others behind it")
@@ -468,7 +468,7 @@ def numbers_of_records():
         yield [2, 0, 2, *place]
     yield [1, 1, 1, b"-0", b"-00"]
     yield [b"01", b"0016", b"00004294967295", b"-0001", b"00000000000001000000000"]
-    # what a kind does not use may say anything
+    # what a kind does not use may be any number
     for chain in 0, 1, 17, 256, 10**30, 10**300:
         yield [2, chain, 2, 30001, 40000]
         yield [3, chain, 3, 30001, 40000]
@@ -478,7 +478,7 @@ def numbers_of_records():
 
 
 def refused_records():
-    """A number for each field past its limit, then several at once: by the number of the refusal, 12 first."""
+    """Numbers over the limit of each field, then several faults at once: 12 comes first, then the lowest refusal."""
     for kind in 0, 4, 5, 255, *larger(1, 8), *larger(2, 8), *larger(3, 8):
         yield [kind, 1, 1, 5, 6]
     for chain in 0, 17, 18, 255, *larger(1, 8), *larger(16, 8):
@@ -552,7 +552,7 @@ def blanks():
 
 
 def stretched(right, length, how):
-    """The line with its newline, of so many bytes by blanks or spare zeros."""
+    """A line of `length` bytes with its newline, made longer by blanks, spare zeros or digits as `how` says."""
     first = line(right)
     more = length - len(first)
     return {
@@ -587,13 +587,13 @@ def long_lines():
 
 
 def filled(length, right):
-    """Lines of that many bytes in all."""
+    """Lines of `length` bytes in all."""
     text = line(right) * ((length - 100) // len(line(right)))
     return text + stretched(right, length - len(text), "front")
 
 
 def edges():
-    """A record's line cut at each of its places by the end of what is read at a time; texts that end about there."""
+    """Lines that lie across the end of what is read at a time, cut at each of their bytes; texts that end near there."""
     tail = lines([[1, 16, 77, -10000, -20000], [2, 0, 78, 30001, 40000]])
     for edge, step in (65_536, 1), (131_072, 5):
         for before in range(0, 24, step):
@@ -631,7 +631,7 @@ def expected():
     near = of_chains([1000, 1000, 1000, 1005, 1007, 1000])
     for place in [1000, 1000], [1000, 1005], [1007, 1000], [1000, 1002], [1000, 1003], [1003, 1000], [1003, 1003], [1004, 1000]:
         yield expecting([1, *place], "readings of a few centimetres", near)
-    # the greatest reading that can be written, the next, and the same below nought
+    # the greatest reading that can be written, the next, and the same below zero
     for east in 0, 1, 44_721, 44_722, 44_723, EAST:
         yield expecting([1, 0, 0], "readings about 1,000,000,000", of_chains([0, 0, east, NORTH, 1, 0]))
         yield expecting([1, 0, 0], "readings about 1,000,000,000", of_chains([0, 0, 1, 0, east, NORTH]))
@@ -648,7 +648,7 @@ def expected():
 
 
 def asked_tables():
-    """The chain that is asked for, and none beside it; then tables of other lengths, and what comes first."""
+    """Only the chain that is asked for must be sound; then tables of other lengths, and which refusal comes first."""
     unsound = [0, 0, 0, 0, 0, 40000]
     pair = of_chains(unsound, CHAIN)
     for chain in 0, 1, 2, 3:
@@ -672,7 +672,7 @@ def asked_tables():
 
 
 def showing(why, **files):
-    """By the stem of each file's name; those that are not given are 01's, and those of None are missing."""
+    """A run of layshow; files are given by the stem of their names. A file not given is 01's; one given as None is missing."""
     named = THREE | {f"{name}.dat": s for name, s in files.items()}
     return Run("layshow", files={name: s for name, s in named.items() if s is not None}, why=why)
 
@@ -709,7 +709,7 @@ def shown_tables():
 
 
 def as_record(kind, first, second, chain=0, number=7, **others):
-    """Numbers are floats, or whole numbers where their patterns are meant."""
+    """A log record; its numbers are floats, or whole numbers that are bit patterns."""
     return records.log(kind, chain, number, first, second, **others)
 
 
@@ -780,7 +780,7 @@ LIMITS += [2**64 - 1, 2**64, 10**30, 10**300]
 
 
 def drawn(draw, most, wild=0.0):
-    """A number up to a most, of any length; with the chance `wild`, one about some limit."""
+    """A number up to `most`, of any length; with the chance `wild`, one near some limit."""
     if draw.random() < wild:
         return max(0, draw.choice(LIMITS) + draw.choice((-1, 0, 0, 1)))
     return draw.randint(0, min(most, 10 ** draw.randint(1, 20)))
@@ -813,7 +813,7 @@ def drawn_record(draw, wild):
 
 
 def drawn_words(draw, values, wild):
-    """The words of these numbers, with spare zeros in front of some; wildly, one is of another form, missing or too many."""
+    """The words of these numbers, some with spare zeros; with the chance `wild`, one is no number, missing or too many."""
     given = words(values)
     for at in range(len(given)):
         if draw.random() < 0.1:
@@ -837,7 +837,7 @@ def is_accepted(bytes_of, text):
 
 
 def drawn_text(draw, values_of, bytes_of, most):
-    """Lines at random, half of the texts of accepted ones alone; a text may be cut at its end."""
+    """Lines at random; half of the texts have only accepted lines, and a few texts are cut at the end."""
     wild = draw.choice((0.0, 0.02, 0.2))
     many = [drawn_line(draw, values_of(draw, wild), wild) for _ in range(draw.randint(1, most))]
     if draw.random() < 0.5:
@@ -898,7 +898,7 @@ def at_random(seed):
             yield drawn_run(draw, tool)._replace(why=f"at random, seed {seed}")
 
 
-# Runs and what came of them, in folders
+# Runs and their outcomes, in folders
 
 
 def put(folder, files):
@@ -921,12 +921,12 @@ def write(folder, runs):
 
 
 def content(folder):
-    """The files of a folder by name, of whatever sort they are."""
+    """The bytes of a folder's files by name; None for what is not a file."""
     return {path.name: path.read_bytes() if path.is_file() else None for path in folder.iterdir()}
 
 
 def compared(what, came, wanted):
-    """A pair for each line that must be there, and for each that must not: what it is, and whether it is so."""
+    """A pair for each line that is compared, and one if there are too many or too few: what is compared, whether it is right."""
     came, wanted = came.split(b"\n"), wanted.split(b"\n")
     if len(came) != len(wanted):
         yield f"{what}: {len(came) - 1} lines, not {len(wanted) - 1}", False
@@ -941,7 +941,7 @@ def helped(tool, printed):
 
 
 def refusals_said(tool, said):
-    """The lines of standard error as `refusals` has them; one of another form stands as it is."""
+    """The lines of standard error as `refusals` has them; a line of another form is left as it is."""
     told = re.compile(rb"%s: (?:line ([1-9][0-9]*) )?REFUSED ([1-9][0-9]*): [!-~][ -~]*" % tool.encode())
     for one in said.split(b"\n"):
         match = told.fullmatch(one)
@@ -949,7 +949,7 @@ def refusals_said(tool, said):
 
 
 def checks(folder):
-    """What is compared of a run: pairs of words and whether it is so."""
+    """What is compared for a run: pairs of words that describe it and whether it is right."""
     run = content(folder)
     tool = run["tool"].decode()
     yield f"status {run['status'].decode().strip()}", run["status"] == b"0\n"
@@ -962,7 +962,7 @@ def checks(folder):
 
 
 def judge(folder):
-    """How many things were compared; or for the first runs that are not as they must be, what is not."""
+    """Prints how many things were compared; or stops with what is wrong in the first runs that are not as they must be."""
     passed, failed = 0, []
     for run in sorted(folder.iterdir()):
         results = list(checks(run))

@@ -1,16 +1,18 @@
-/* The library for C: metres and centimetres, expected readings, the search, records read and written, and the listing.
+/* The library's interface for C. It converts metres to centimetres and back, gives the readings expected at a place, searches for
+ * the places that readings allow, reads and writes records (docs/FORMATS.md), and makes the listing of a log.
  *
- * Each function answers with the number of the refusal, or LAY_OK for none, and sets every result that is lent to it, whatever it
- * held: after a refusal to 0, unless its comment says otherwise. Each is proved to end, for every number and every content and
- * length of a buffer. Places, readings and tolerances are whole centimetres; a place is its easting, 0 to LAY_MOST_EASTING, and
- * its northing, 0 to LAY_MOST_NORTHING. Chains, jobs and log records go in and out as the bytes of their records.
+ * Every function but lay_version returns the number of a refusal, or LAY_OK if nothing is refused. It sets every result that the
+ * caller lends it by pointer, whatever it held before: after a refusal to 0, unless the comment of the function says otherwise.
+ * Every function is proved to end, for all numbers and for every content and length of a buffer. Places, readings and tolerances
+ * are whole centimetres. A place is its easting, 0 to LAY_MOST_EASTING, and its northing, 0 to LAY_MOST_NORTHING. Chains, jobs and
+ * log records are passed in and out as the bytes of their records.
  *
- * What the caller owes, as for any C function: a result's pointer points to one variable of its type; a buffer's or list's pointer
- * points to as many elements as the length behind it says, and is not NULL even where that is 0; and no two of the results,
- * buffers and lists that a call writes overlap each other or what it reads.
+ * What the caller must ensure, as for any C function: the pointer to a result points to one variable of its type; the pointer to a
+ * buffer or list points to as many elements as the length argument after it says, and is not NULL even if that length is 0; and
+ * nothing that a call writes overlaps anything else that it writes or reads.
  *
- * Threads: no function keeps anything from one call to the next, opens a file, takes memory from a heap or waits. Any number of
- * threads may call at once, as long as nothing that one call writes is lent to another at the same time.
+ * Threads: no function keeps anything from one call to the next, opens a file, allocates memory on a heap or blocks. Any number of
+ * threads may call at once, as long as nothing that one call writes is lent to another call at the same time.
  */
 #ifndef LAY_H
 #define LAY_H
@@ -22,42 +24,42 @@
 extern "C" {
 #endif
 
-/* The number of what this header declares. It becomes another one where a caller must be compiled anew; the one that the library
- * was made with is lay_version(). */
+/* The version of this header. It changes whenever callers must be compiled anew; lay_version() returns the version that the library
+ * was built with. */
 #define LAY_VERSION 1
 
-/* The numbers of refusal. */
+/* The numbers of refusal. The comments below name them by number. */
 enum {
     LAY_OK = 0,
     LAY_REFUSED_LENGTH = 1,      /* a length that does not fit */
-    LAY_REFUSED_KIND = 2,        /* unknown kind, or a byte that must be zero */
+    LAY_REFUSED_KIND = 2,        /* unknown kind, or a byte that must be zero is not */
     LAY_REFUSED_NUMBER = 3,      /* a number that is NaN, infinite or too large */
     LAY_REFUSED_PLACE = 4,       /* a place out of range */
     LAY_REFUSED_CHAIN = 5,       /* no such chain, or a chain that is not sound */
     LAY_REFUSED_WINDOW = 6,      /* an exponent over LAY_MOST_EXPONENT, or a window out of range */
     LAY_REFUSED_TOLERANCE = 7,   /* a tolerance over LAY_MOST_TOLERANCE */
     LAY_REFUSED_NO_MATCH = 8,    /* no matching cell */
-    LAY_REFUSED_ROOM = 9,        /* no room */
+    LAY_REFUSED_ROOM = 9,        /* no room in the list or the buffer */
     LAY_REFUSED_ALLOWANCE = 10,  /* the allowance is used up */
-    LAY_REFUSED_HOLD = 11        /* a hold with nothing to hold: in the text of a listing alone */
+    LAY_REFUSED_HOLD = 11        /* a hold with nothing to hold: only in the text of a listing, never returned */
 };
 
-/* Sizes in bytes, and how many numbers a chain has. */
+/* Sizes in bytes, and how many numbers and readings a chain has. */
 enum {
     LAY_RECORD_BYTES = 32,
     LAY_CHAIN_BYTES = 24,
     LAY_JOB_BYTES = 32,
     LAY_TABLE_BYTES = 384,   /* the longest table */
-    LAY_LINE_BYTES = 5760,   /* the room that a line of a listing is given */
+    LAY_LINE_BYTES = 5760,   /* the room that lay_list needs for a line */
     LAY_CHAIN_NUMBERS = 6,   /* easting and northing of master, A and B */
     LAY_CHAIN_READINGS = 2   /* A and B */
 };
 
-/* Limits, each of them allowed. */
+/* The largest values that are allowed. */
 enum {
     LAY_MOST_EASTING = 100000000,
     LAY_MOST_NORTHING = 1000000000,
-    LAY_MOST_READING = 1000000000,   /* in size */
+    LAY_MOST_READING = 1000000000,   /* in size: from minus this to plus this */
     LAY_MOST_EXPONENT = 24,
     LAY_MOST_TOLERANCE = 100000,
     LAY_MOST_CHAINS = 16
@@ -69,7 +71,7 @@ struct lay_found {
     uint64_t visits;
 };
 
-/* A part of a listing: how long its text is, and the place that a hold behind it repeats, where `held` is 1. */
+/* A part of a listing: the length of its text in bytes and, if `held` is 1, the place that a hold right after it repeats. */
 struct lay_part {
     uint64_t length;
     uint32_t held;
@@ -77,74 +79,80 @@ struct lay_part {
     uint32_t northing;
 };
 
-/* LAY_VERSION of the header that the library was made with. */
+/* Returns the LAY_VERSION of the header that the library was built with. */
 uint32_t lay_version(void);
 
-/* Metres to whole centimetres: the number nearest to exactly 100 times the metres, a tie to the even one. 3 for NaN, for an
- * infinity and for anything beyond 10,000,000 in size. */
+/* Converts metres to whole centimetres: the whole number nearest to exactly 100 times the metres; a tie goes to the even one.
+ * Returns 3 for NaN, for an infinity and for anything over 10,000,000 in size. */
 uint32_t lay_centimetres(double metres, int64_t *centimetres);
 
-/* Whole centimetres to metres: one division, rounded once; read again it gives the same centimetres. 3 beyond
- * 1,000,000,000 in size, with plus zero. */
+/* Converts whole centimetres to metres: one division by 100, rounded once. lay_centimetres turns the result back into the same
+ * centimetres. Returns 3 for anything over 1,000,000,000 in size, and then sets plus zero. */
 uint32_t lay_metres(int64_t centimetres, double *metres);
 
-/* The readings expected at a place, by the bytes of a chain: each slave's distance less the master's, in a list of
- * LAY_CHAIN_READINGS. 1 for another length of list or chain, then 4 for a place out of range, then 5 for a chain that is not
- * sound. */
+/* Gives the readings expected at a place, from the bytes of a chain, in a list of LAY_CHAIN_READINGS: the distance to slave A minus
+ * that to the master, then the same for B. Returns 1 for another length of list or chain, then 4 for a place out of range, then 5
+ * for a chain that is not sound. */
 uint32_t lay_expected(int64_t *readings, size_t readings_length, const uint8_t *chain, size_t chain_length, uint32_t easting,
                       uint32_t northing);
 
-/* Every cell of a job's window that matches the readings, LAY_CHAIN_READINGS of them, in chart order: easting and northing in turn
- * at the start of the list, zeros behind them. The list's room is half its entries, cut to a whole number of places. 1 for a chain,
- * readings or a job of another length, 2 for a byte of the job that must be zero, then 3, 5, 6, 7, then 8, 9 or 10 as the search
- * meets them; after a refusal the whole list is zero, the count 0, and after 8, 9 and 10 alone the visits are those made. */
+/* Finds every cell of a job's window that matches the readings, LAY_CHAIN_READINGS of them. On success the list begins with the
+ * easting and northing of each of these cells, and its other entries are zero. The cells are in chart order: the quarters of the
+ * window south-west, south-east, north-west, north-east, and the quarters of each quarter likewise. Two entries of the list are
+ * room for one place; an entry left over is no room.
+ *
+ * Returns 1 for a chain, readings or a job of another length, 2 if a byte of the job that must be zero is not, then 3, 5, 6, 7 in
+ * this order, then 8, 9 or 10 as the search meets them. After a refusal the whole list is zero and the count is 0. After 8, 9 and
+ * 10 the visits are those that were made; after any other refusal they are 0. */
 uint32_t lay_search(uint32_t *list, size_t entries, const uint8_t *chain, size_t chain_length, const int64_t *readings,
                     size_t readings_length, const uint8_t *job, size_t job_length, struct lay_found *found);
 
-/* A log record in whole centimetres: its kind, 1 hyperbolic, 2 grid, 3 hold; its chain number, 0 but for kind 1; its line
- * number; and readings A and B, or easting and northing, or two zeros for a hold. 1 for other than LAY_RECORD_BYTES, then 2, 3, 4.
- * The line number is set after 2, 3 and 4 too, since any is allowed. */
+/* Reads a log record of LAY_RECORD_BYTES: its kind (1 hyperbolic, 2 grid, 3 hold); its chain number, which is 0 for kinds 2 and 3;
+ * its line number; and, as x and y in whole centimetres, readings A and B, or easting and northing, or two zeros for a hold.
+ * Returns 1 for another length, then 2, 3, 4 in this order. The line number is set after 2, 3 and 4 too, since any is allowed. */
 uint32_t lay_read_record(const uint8_t *bytes, size_t length, uint32_t *kind, uint32_t *chain, uint32_t *line, int64_t *x,
                          int64_t *y);
 
-/* Writes a log record into a buffer of LAY_RECORD_BYTES. What the kind does not use is ignored. 1 to 5, in this order. A refused
- * write, this and those below, leaves the whole buffer zero, whatever its length. */
+/* Writes a log record into a buffer of LAY_RECORD_BYTES, from the same numbers. What the kind does not use is ignored. Refuses with
+ * 1 to 5, tested in this order. When this or a writing function below refuses, the whole buffer is zero, whatever its length. */
 uint32_t lay_write_record(uint8_t *buffer, size_t length, uint32_t kind, uint32_t chain, uint32_t line, int64_t x, int64_t y);
 
-/* The job in LAY_JOB_BYTES: the south-west cell of the window of 2^k by 2^k cells, the exponent k, the tolerance and the
- * allowance. 1, 2, 6, 7 in this order. */
+/* Reads a job of LAY_JOB_BYTES: the place of the south-west cell of the window, the exponent k (the window has 2^k by 2^k cells),
+ * the tolerance and the allowance (how many visits a search may make). Refuses with 1, 2, 6 or 7, tested in this order. */
 uint32_t lay_read_job(const uint8_t *bytes, size_t length, uint32_t *easting, uint32_t *northing, uint32_t *k,
                       uint32_t *tolerance, uint64_t *allowance);
 
-/* Writes a job into a buffer of LAY_JOB_BYTES. 1, 6, 7 in this order. */
+/* Writes a job into a buffer of LAY_JOB_BYTES, from the same numbers. Refuses with 1, 6 or 7, tested in this order. */
 uint32_t lay_write_job(uint8_t *buffer, size_t length, uint32_t easting, uint32_t northing, uint32_t k, uint32_t tolerance,
                        uint64_t allowance);
 
-/* How many chains a table has, 1 to LAY_MOST_CHAINS. 1 for any other length than that of so many chains. */
+/* Counts the chains of a table, 1 to LAY_MOST_CHAINS. Returns 1 if the length is not that of 1 to LAY_MOST_CHAINS chains. */
 uint32_t lay_count_chains(const uint8_t *table, size_t length, size_t *count);
 
-/* The bytes of the chain of a number in a table, counted from 1, in a buffer of LAY_CHAIN_BYTES. 1 for no table, then 5 for a number
- * that is not in it or a chain that is not sound, then 1 for another length of buffer. */
+/* Puts the bytes of the chain with this number in a table, counted from 1, into a buffer of LAY_CHAIN_BYTES. Returns 1 for a table
+ * of a wrong length, then 5 if the number is not in it or the chain is not sound, then 1 for another length of buffer. */
 uint32_t lay_chain(uint8_t *buffer, size_t length, const uint8_t *table, size_t table_length, uint32_t number);
 
-/* The stations of a chain from its bytes, easting and northing in turn, the master's first, in a list of LAY_CHAIN_NUMBERS. 1 for
- * another length of chain or list, then 5 for a chain that is not sound. */
+/* Reads the stations of a chain from its bytes into a list of LAY_CHAIN_NUMBERS: easting and northing of master, A and B. Returns 1
+ * for another length of chain or list, then 5 for a chain that is not sound. */
 uint32_t lay_read_chain(const uint8_t *chain, size_t chain_length, uint32_t *stations, size_t stations_length);
 
-/* Writes a chain into a buffer of LAY_CHAIN_BYTES, from such a list. 1 for another length of list or buffer, then 5 for a chain that
- * is not sound. */
+/* Writes a chain into a buffer of LAY_CHAIN_BYTES, from such a list. Returns 1 for another length of list or buffer, then 5 for a
+ * chain that is not sound. */
 uint32_t lay_write_chain(uint8_t *buffer, size_t length, const uint32_t *stations, size_t stations_length);
 
-/* What the listing program prints of a log, or of a further part of one, as text at the start of a buffer: with a log of
- * LAY_RECORD_BYTES, the line of one record. `part` is all zeros before the first part of a log, and is handed as it is left from
- * each part to the next: it says what place a hold repeats (any `held` but 0 is taken as 1), and then how long the text is and
- * what place is held behind it; an empty log hands on the place that it was given.
+/* Puts the text that the listing program prints for a log, or for a further part of a log, at the start of a buffer. If the log has
+ * LAY_RECORD_BYTES, that is the line of one record.
  *
- * A job or a table that is refused is no refusal of this call: it answers LAY_OK, the text is the one line that the program
- * would print, `JOB REFUSED 6` and a newline, say, whatever the log, and no place is held.
+ * Set `part` to all zeros before the first part of a log, then pass it on unchanged from each part to the next. On entry it says
+ * what place a hold at the start of this part repeats (any `held` other than 0 is taken as 1). On return it says how long the
+ * text is and what place is held after it; an empty log passes on the place that it was given.
  *
- * A line is given LAY_LINE_BYTES of room; 9 where the buffer has not that many for each whole record and for one more, and then
- * it is left as it was. Behind the text it is left as it was too. */
+ * If the job or the table is refused, this call itself is not: it returns LAY_OK, and the text is the one line that the program
+ * would print, whatever the log, for example `JOB REFUSED 6` and a newline. No place is held then.
+ *
+ * The buffer must have LAY_LINE_BYTES for each whole record of the log and for one more; if not, this returns 9 and leaves the
+ * buffer as it was. What is in the buffer after the text is left as it was too. */
 uint32_t lay_list(uint8_t *text, size_t length, const uint8_t *job, size_t job_length, const uint8_t *table,
                   size_t table_length, const uint8_t *log, size_t log_length, struct lay_part *part);
 

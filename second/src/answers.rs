@@ -1,5 +1,5 @@
-//! Requests on standard input, one answer a line: what the library for C promises, worked out from 01 here. What a request
-//! may be stands at the head of tests/lay.c.
+//! Answers requests: each answer is what the library for C promises, worked out here from 01. The head of tests/lay.c says
+//! what a request may be.
 
 use std::fmt::Display;
 use std::str::FromStr;
@@ -12,17 +12,17 @@ use crate::refusals;
 use crate::search::{self, Found, Job};
 use crate::words::{hex, unhex};
 
-/// The number of what the library's header declares.
+/// The version of the library's header.
 const VERSION: u32 = 1;
 
-/// The bytes that the library wants for each record of a listing, and for one more.
+/// The bytes that the library's buffer must have for each record of a listing, and for one more.
 pub const LINE_BYTES: usize = 5760;
 
-/// How many readings a chain has, and how many numbers its stations.
+/// How many readings a chain has, and how many numbers its stations have.
 pub const CHAIN_READINGS: usize = 2;
 pub const CHAIN_NUMBERS: usize = 6;
 
-/// The words of a request behind its verb, taken one by one.
+/// The words of a request after its verb, taken one by one.
 struct Request<'a> {
     words: std::str::Split<'a, char>,
 }
@@ -58,7 +58,7 @@ impl<'a> Request<'a> {
         unhex(self.word()?)
     }
 
-    /// The bytes of a chain, which may stand as its numbers with commas between.
+    /// The bytes of a chain, which may be given as its numbers with commas between.
     fn chain(&mut self) -> Result<Vec<u8>, String> {
         let word = self.word()?;
         if !word.contains(',') {
@@ -69,15 +69,14 @@ impl<'a> Request<'a> {
         Ok(records::chain_bytes(&chart::chain(numbers)).to_vec())
     }
 
-    /// The bytes of a job, which may stand as its numbers with commas between, k in one byte.
+    /// The bytes of a job, which may be given as its numbers with commas between; k must fit into one byte.
     fn job(&mut self) -> Result<Vec<u8>, String> {
         let word = self.word()?;
         if !word.contains(',') {
             return unhex(word);
         }
-        let [easting, northing, k, tolerance, allowance] = word.split(',').collect::<Vec<_>>()[..] else {
-            return Err(format!("no job: {word}"));
-        };
+        let numbers = word.split(',').collect::<Vec<_>>().try_into();
+        let [easting, northing, k, tolerance, allowance]: [&str; 5] = numbers.map_err(|_| format!("no job: {word}"))?;
         let job = Job {
             corner: chart::place(number(easting)?, number(northing)?),
             k: number::<u8>(k)?.into(),
@@ -96,7 +95,7 @@ impl<'a> Request<'a> {
     }
 }
 
-/// The numbers at the head of an answer, and behind them every entry of a lent list.
+/// The numbers at the head of an answer, and after them every entry of a lent list.
 fn with_entries<T: Display>(head: impl Display, list: &[T]) -> String {
     list.iter().fold(head.to_string(), |answer, entry| format!("{answer} {entry}"))
 }
@@ -173,7 +172,7 @@ fn expected(mut request: Request) -> Result<String, String> {
     Ok(with_entries(refusal, &list))
 }
 
-/// Of a list with so many entries and the bytes of a chain: 1 for either length, then 4, 5.
+/// The readings for a list of `entries` entries. Refusals: 1 for that number and for the length of the chain, then 4, 5.
 fn expected_readings(entries: usize, chain: &[u8], place: Place) -> Result<[i64; CHAIN_READINGS], u32> {
     records::fits(entries, CHAIN_READINGS)?;
     let Readings { a, b } = chart::expected(&records::raw_chain(chain)?, place)?;
@@ -191,12 +190,10 @@ fn search(mut request: Request) -> Result<String, String> {
     Ok(with_entries(head, &list))
 }
 
-/// 1 for all three lengths, then 2 for the job's bytes, then what a search refuses.
+/// A search by bytes. Refusals: 1 for all three lengths, then 2 for the job's bytes, then those of a search.
 fn search_by_bytes(chain: &[u8], readings: &[i64], job: &[u8], room: usize) -> Result<Found, u32> {
     let chain = records::raw_chain(chain)?;
-    let &[a, b] = readings else {
-        return Err(refusals::LENGTH);
-    };
+    let [a, b] = <[i64; 2]>::try_from(readings).map_err(|_| refusals::LENGTH)?;
     let job = records::raw_job(job)?;
     Ok(search::search(&chain, Readings { a, b }, &job, room))
 }
@@ -268,7 +265,7 @@ fn chain(mut request: Request) -> Result<String, String> {
     Ok(written(buffer, record))
 }
 
-/// The bytes of the chain of a number: 1 for no table, 5, then 1 for the buffer's length.
+/// The bytes of a table's chain by its number. Refusals: 1 for the table's length, 5, then 1 for the buffer's length.
 fn chain_record(length: usize, table: &[u8], number: u32) -> Result<[u8; records::CHAIN_RECORD], u32> {
     let chain = records::chain(table, number)?;
     records::fits(length, records::CHAIN_RECORD)?;
@@ -284,7 +281,7 @@ fn read_chain(mut request: Request) -> Result<String, String> {
     Ok(with_entries(refusal, &list))
 }
 
-/// Of a list with so many entries and the bytes of a chain: 1 for either length, then 5.
+/// A chain's numbers for a list of `entries` entries. Refusals: 1 for that number and for the length of the chain, then 5.
 fn stations(entries: usize, chain: &[u8]) -> Result<[u32; CHAIN_NUMBERS], u32> {
     records::fits(entries, CHAIN_NUMBERS)?;
     let chain = records::raw_chain(chain)?;

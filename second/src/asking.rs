@@ -1,4 +1,4 @@
-//! Requests for the answers, made from a seed: every verb, with edges, dirty buffers and odd lengths.
+//! Makes requests from a seed: every verb, with numbers at their limits, dirty buffers and wrong lengths.
 
 use crate::answers::{CHAIN_NUMBERS, CHAIN_READINGS, LINE_BYTES};
 use crate::chart::{self, Chain, Place, Readings, MOST_EASTING, MOST_NORTHING};
@@ -9,17 +9,17 @@ use crate::records::{self, CHAIN_RECORD, RECORD};
 use crate::search::{self, Job, MOST_EXPONENT, MOST_TOLERANCE};
 use crate::words::hex;
 
-/// The visits that most searches may cost, and that one in many may.
+/// The visits that most searches may cost, and those that a few may cost.
 const FEW_VISITS: u64 = 2000;
 const MANY_VISITS: u64 = 50_000;
 
-/// One request in so many asks for the version, which never changes.
+/// One request in this many asks for the version, which never changes.
 const VERSION_EVERY: u64 = 1000;
 
-/// The request of an index; a seed decides it whatever the count.
+/// The request with an index. It depends on the seed and the index alone, not on how many are made.
 pub fn request(seed: u64, index: u64) -> String {
     let random = &mut Random::for_item(seed, index);
-    if index.is_multiple_of(VERSION_EVERY) {
+    if index % VERSION_EVERY == 0 {
         return "version".into();
     }
     match index % 20 {
@@ -44,7 +44,7 @@ fn pattern(random: &mut Random) -> u64 {
     match random.below(4) {
         0 => pieces::edge_pattern(random),
         1 => pieces::tie_pattern(random),
-        2 => pieces::edge_pattern(random).wrapping_add_signed(random.between(-3, 3)),
+        2 => pieces::edge_pattern(random).wrapping_add(random.between(-3, 3) as u64),
         _ => pieces::any_pattern(random),
     }
 }
@@ -62,7 +62,7 @@ fn centimetres(random: &mut Random) -> i64 {
     }
 }
 
-/// A chain that is sound mostly; near a place mostly.
+/// A chain that is mostly sound and mostly near the place.
 fn chain(random: &mut Random, place: Place) -> Chain {
     if random.once_in(12) {
         return pieces::unsound_chain(random);
@@ -86,7 +86,7 @@ fn joined(numbers: &[u32], between: &str) -> String {
     numbers.iter().map(u32::to_string).collect::<Vec<_>>().join(between)
 }
 
-/// A chain by its numbers or by its bytes.
+/// The word for a chain: its numbers or its bytes.
 fn chain_word(random: &mut Random, chain: &Chain) -> String {
     if random.once_in(2) {
         return joined(&chart::chain_numbers(chain), ",");
@@ -94,7 +94,7 @@ fn chain_word(random: &mut Random, chain: &Chain) -> String {
     hex(&records::chain_bytes(chain))
 }
 
-/// A chain by its numbers or by its bytes, which are too few or too many once in eight.
+/// The word for a chain: its numbers or its bytes; once in eight, bytes that are mostly too few or too many.
 fn doubtful_chain_word(random: &mut Random, chain: &Chain) -> String {
     if !random.once_in(8) {
         return chain_word(random, chain);
@@ -104,7 +104,7 @@ fn doubtful_chain_word(random: &mut Random, chain: &Chain) -> String {
     hex(&bytes)
 }
 
-/// A job by its numbers or by its bytes.
+/// The word for a job: its numbers or its bytes.
 fn job_word(random: &mut Random, job: &Job) -> String {
     if random.once_in(2) {
         let Job { corner, k, tolerance, allowance } = job;
@@ -113,13 +113,13 @@ fn job_word(random: &mut Random, job: &Job) -> String {
     hex(&records::job_bytes(job))
 }
 
-/// A length that does not fit, mostly: beside the one that does, twice that, none or any.
+/// A length that mostly does not fit: one beside `fitting`, twice `fitting`, 0 or any.
 fn misfit_length(random: &mut Random, fitting: usize) -> usize {
     let any = random.below(2 * fitting as u64 + 1) as usize;
     random.pick(&[fitting - 1, fitting + 1, 2 * fitting, 0, any, any, any])
 }
 
-/// The length that fits mostly.
+/// Mostly the length that fits.
 fn length(random: &mut Random, fitting: usize) -> usize {
     if random.once_in(4) {
         return misfit_length(random, fitting);
@@ -127,14 +127,14 @@ fn length(random: &mut Random, fitting: usize) -> usize {
     fitting
 }
 
-/// Cuts bytes off, or puts more behind.
+/// Cuts bytes off, or adds some at the end.
 fn misfit(random: &mut Random, bytes: &mut Vec<u8>) {
     let length = misfit_length(random, bytes.len());
     let any = random.byte();
     bytes.resize(length, random.pick(&[0, any]));
 }
 
-/// What the bytes of a lent buffer hold, and the entries of a lent list.
+/// What the bytes of a lent buffer hold before the call; `list_dirt` is the same for the entries of a lent list.
 fn byte_dirt(random: &mut Random) -> u8 {
     random.pick(&[0, 1, 0x55, 0xff])
 }
@@ -153,7 +153,7 @@ fn expected(random: &mut Random) -> String {
     format!("expected {entries} {dirt} {} {}", doubtful_chain_word(random, &chain), place_words(place))
 }
 
-/// What a search is asked for, before its allowance is settled.
+/// What a search is asked for, before its allowance is chosen.
 struct Asked {
     chain: Chain,
     wanted: Readings,
@@ -242,7 +242,7 @@ fn faulty_searching(random: &mut Random) -> String {
     format!("search {entries} {dirt} {chain} {job}{readings}")
 }
 
-/// Readings, each with a space before it: two mostly, and within the limit mostly.
+/// Readings, each with a space before it: mostly two, and mostly within the limit.
 fn faulty_readings(random: &mut Random, chain: &Chain, place: Place) -> String {
     let exact = chart::expected(chain, place).unwrap_or(Readings { a: 1, b: 2 });
     let count = if random.once_in(6) { random.pick(&[0, 1, 3, 4]) } else { CHAIN_READINGS };
@@ -285,7 +285,7 @@ fn doubtful_job(random: &mut Random, place: Place) -> Job {
     job
 }
 
-/// An allowance at an edge, or ample where the search is cheap.
+/// An allowance at an edge, or an ample one if the search is cheap.
 fn allowance(random: &mut Random, asked: &Asked) -> u64 {
     let most = if random.once_in(200) { MANY_VISITS } else { FEW_VISITS };
     let needed = asked.visits(most);
@@ -302,7 +302,7 @@ fn allowance(random: &mut Random, asked: &Asked) -> u64 {
     }
 }
 
-/// A log record that is sound or nearly so, or any bytes at all, of 32 bytes mostly.
+/// A log record that is sound or nearly so, or any bytes at all; mostly of 32 bytes.
 fn record(random: &mut Random) -> Vec<u8> {
     let line = pieces::line(random);
     let chain = random.pick(&[0, 1, 2, 16, 17, 255]);
@@ -333,7 +333,7 @@ fn with_wrong_byte(random: &mut Random, line: u32) -> Vec<u8> {
     bytes
 }
 
-/// Leaves most bytes as they are; else changes some, or makes them one too few or too many.
+/// Mostly leaves the bytes as they are; else changes some, cuts some off or adds one.
 fn spoil(random: &mut Random, bytes: &mut Vec<u8>) {
     match random.below(20) {
         0 => pieces::damage(random, bytes),
@@ -361,7 +361,7 @@ fn record_writing(random: &mut Random) -> String {
     format!("write_record {length} {dirt} {kind} {chain} {} {x} {y}", pieces::line(random))
 }
 
-/// A job with any allowance; once in three its window and tolerance are doubtful.
+/// A job with any allowance; once in three its window and tolerance are likely to be wrong.
 fn any_job(random: &mut Random) -> Job {
     let place = pieces::anywhere(random);
     let job = if random.once_in(3) { doubtful_job(random, place) } else { search_job(random, place) };
@@ -369,7 +369,7 @@ fn any_job(random: &mut Random) -> Job {
     Job { allowance: random.pick(&[0, 1, u64::MAX, 1 << 32, 1 << 63, any]), ..job }
 }
 
-/// Once in twelve with an exponent beyond a byte, whose lowest byte would often be allowed.
+/// Once in twelve the exponent is larger than a byte; its lowest byte alone would often be allowed.
 fn job_writing(random: &mut Random) -> String {
     let (length, dirt) = (length(random, RECORD), byte_dirt(random));
     let Job { corner, k, tolerance, allowance } = any_job(random);
@@ -475,7 +475,7 @@ fn spoilt_job(random: &mut Random, place: Place, chain: &Chain) -> Vec<u8> {
 
 /// The job with an allowance that a request can afford.
 fn cheap(mut bytes: Vec<u8>) -> Vec<u8> {
-    if records::job(&bytes).is_ok_and(|job| job.allowance > FEW_VISITS) {
+    if records::job(&bytes).map_or(false, |job| job.allowance > FEW_VISITS) {
         bytes[16..24].copy_from_slice(&FEW_VISITS.to_le_bytes());
     }
     bytes

@@ -18,7 +18,7 @@ pub struct Chain {
     pub b: Place,
 }
 
-/// What the two slaves read, in centimetres.
+/// The readings of the two slaves, in centimetres.
 #[derive(Clone, Copy, PartialEq, Eq, Debug)]
 pub struct Readings {
     pub a: i64,
@@ -29,7 +29,7 @@ pub fn place(easting: u32, northing: u32) -> Place {
     Place { easting, northing }
 }
 
-/// A chain of its six numbers: easting and northing of master, A and B.
+/// The chain with these six numbers: easting and northing of master, A and B.
 pub fn chain(numbers: [u32; 6]) -> Chain {
     let [master_easting, master_northing, a_easting, a_northing, b_easting, b_northing] = numbers;
     Chain {
@@ -54,7 +54,7 @@ pub fn is_sound(chain: &Chain) -> bool {
     distinct && [chain.master, chain.a, chain.b].into_iter().all(in_range)
 }
 
-/// The refusal of a chain: 5.
+/// Refuses a chain that is not sound, with 5.
 pub fn admit_chain(chain: &Chain) -> Result<(), u32> {
     if !is_sound(chain) {
         return Err(refusals::CHAIN);
@@ -62,7 +62,7 @@ pub fn admit_chain(chain: &Chain) -> Result<(), u32> {
     Ok(())
 }
 
-/// Sixteen times the root of a leading byte and a half, to begin the root with.
+/// Sixteen times the root of a number's leading byte plus one half: with it `root` begins.
 const FIRST_ROOTS: [u8; 256] = first_roots();
 
 const fn first_roots() -> [u8; 256] {
@@ -79,8 +79,8 @@ const fn first_roots() -> [u8; 256] {
     roots
 }
 
-/// The whole part of the square root of a number below 2^62: Heron's rule twice upon a guess that is good to a hundredth
-/// part, and then single steps until the squares on both sides fit.
+/// The whole part of the square root of a number below 2^62: two steps of Heron's rule from a guess that is good to a
+/// hundredth part, and then steps of one until the squares on both sides fit.
 pub fn root(number: u64) -> u64 {
     if number == 0 {
         return 0;
@@ -117,7 +117,7 @@ fn squared_distance(one: Place, other: Place) -> u64 {
     east * east + north * north
 }
 
-/// The readings at a place, with whichever root the caller trusts. Chain and place must be in range.
+/// The readings at a place, by the root function that the caller gives. Chain and place must be in range.
 pub fn readings_with(root: fn(u64) -> u64, chain: &Chain, place: Place) -> Readings {
     let range = |station| root(squared_distance(place, station)) as i64;
     let master = range(chain.master);

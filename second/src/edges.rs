@@ -1,4 +1,4 @@
-//! Logs at the edges: refusals, limits, holds, lengths, missing files, unsound chains and line numbers.
+//! Makes logs at the edges of the rules: refusals, limits, holds, lengths, missing files, unsound chains and line numbers.
 
 use crate::chart::{self, Chain, Place, Readings, MOST_EASTING, MOST_NORTHING};
 use crate::folder::Folder;
@@ -85,7 +85,7 @@ fn mixed(random: &mut Random, count: i64) -> Vec<Record> {
     (1..=count as u32).map(&mut one).collect()
 }
 
-/// One of the eleven refusals each turn, with the others that a record can meet among them.
+/// A log made for one of the eleven refusals, the next one each turn; its records may meet others too.
 pub fn refusals(random: &mut Random, turn: u64) -> Folder {
     let number = 1 + turn % 11;
     let job = match number {
@@ -113,11 +113,12 @@ fn wrong_length(random: &mut Random, folder: &mut Folder) {
         1 => &mut folder.table,
         _ => &mut folder.log,
     };
-    let Some(bytes) = bytes else { return };
-    match random.below(3) {
-        0 => bytes.push(0),
-        1 => bytes.truncate(bytes.len() - 1),
-        _ => bytes.extend_from_within(..),
+    if let Some(bytes) = bytes {
+        match random.below(3) {
+            0 => bytes.push(0),
+            1 => bytes.truncate(bytes.len() - 1),
+            _ => bytes.extend_from_within(..),
+        }
     }
 }
 
@@ -185,7 +186,7 @@ pub fn jobs(random: &mut Random, turn: u64) -> Folder {
     folder
 }
 
-/// Tables of every allowed count and of lengths beside them, with records that name chains in and out of the table.
+/// Tables of 0 to 17 chains, some of wrong lengths, with records that name chains in and out of the table.
 pub fn tables(random: &mut Random, turn: u64) -> Folder {
     let count = [1, 2, 15, 16, 16, 17, 0, 3][turn as usize % 8];
     let chains: Vec<Chain> =
@@ -210,7 +211,7 @@ pub fn tables(random: &mut Random, turn: u64) -> Folder {
     let mut folder = Folder::new(&JOB, &chains, &log);
     if turn % 5 == 4 {
         let length = count * 24 + random.between(-13, 13).unsigned_abs() as usize;
-        folder.table.get_or_insert_default().resize(length, 0);
+        folder.table.get_or_insert_with(Vec::new).resize(length, 0);
     }
     folder
 }
@@ -236,7 +237,7 @@ pub fn tails(random: &mut Random, turn: u64) -> Folder {
     let log = mixed(random, count);
     let mut folder = Folder::new(&JOB, &[CHAIN], &log);
     let tail = if random.once_in(2) { sound(random, 77).to_vec() } else { random.bytes(RECORD) };
-    folder.log.get_or_insert_default().extend_from_slice(&tail[..1 + turn as usize % 31]);
+    folder.log.get_or_insert_with(Vec::new).extend_from_slice(&tail[..1 + turn as usize % 31]);
     folder
 }
 
@@ -263,7 +264,7 @@ pub fn unsound(random: &mut Random, turn: u64) -> Folder {
     let mut log = Vec::new();
     for step in 1..=random.between(1, 20) as u32 {
         let any = random.below(count as u64) as usize;
-        let number = if turn.is_multiple_of(2) || any % 2 == first { any + 1 } else { first + 1 };
+        let number = if turn % 2 == 0 || any % 2 == first { any + 1 } else { first + 1 };
         let wanted = random.pick(&[ONE_PLACE, ONE_PLACE, TWO_PLACES, NO_PLACE]);
         log.push(pieces::fix(number as u8, step, wanted));
         log.push(pieces::hold(step));

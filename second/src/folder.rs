@@ -1,4 +1,4 @@
-//! A folder with a log, its job and its table: its files, and the listing expected of it.
+//! A folder with a log, its job and its table: makes and writes its files, and the listing that is expected for it.
 
 use std::fs;
 use std::io;
@@ -48,7 +48,7 @@ impl Folder {
     }
 }
 
-/// A file left by an earlier run must not stand where one is to be missing.
+/// Removes a file that an earlier run may have left where one is to be missing.
 fn remove(path: &Path) -> io::Result<()> {
     match fs::remove_file(path) {
         Err(error) if error.kind() != io::ErrorKind::NotFound => Err(error),

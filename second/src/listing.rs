@@ -20,7 +20,7 @@ struct Answer {
 /// A refusal and the visits made before it.
 type Refused = (u32, u64);
 
-/// Prints the listing, and hands on the place that a hold after it would repeat.
+/// Prints the listing, and returns the place that a hold after it would repeat.
 pub fn list(job: &[u8], table: &[u8], log: &[u8], held: Option<Place>, out: &mut impl Write) -> io::Result<Option<Place>> {
     let job = match records::job(job) {
         Ok(job) => job,

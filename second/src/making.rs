@@ -1,4 +1,4 @@
-//! Folders of made logs, of all kinds in turn.
+//! Makes folders with logs, taking the kinds of logs in turn.
 
 use std::io;
 use std::path::Path;
@@ -33,16 +33,18 @@ const KINDS: [Kind; 17] = [
     edges::lines,
 ];
 
-/// One folder in so many holds a long log.
+/// One folder in this many holds a long log.
 const LONG_EVERY: u64 = 400;
 
-/// Whether all searches together cost no more visits than many logs can afford.
+/// Whether all searches of a folder together cost few enough visits that many such folders can be listed.
 fn is_cheap(folder: &Folder) -> bool {
-    let (Some(job), Some(table), Some(log)) = (&folder.job, &folder.table, &folder.log) else {
-        return true;
+    let (job, table, log) = match (&folder.job, &folder.table, &folder.log) {
+        (Some(job), Some(table), Some(log)) => (records::job(job), table, log),
+        _ => return true,
     };
-    let Ok(job) = records::job(job) else {
-        return true;
+    let job = match job {
+        Ok(job) => job,
+        Err(_) => return true,
     };
     let mut purse = Purse(40_000 + 2 * log.len() as u64);
     log.chunks(RECORD).all(|record| match named(table, record) {
@@ -51,7 +53,7 @@ fn is_cheap(folder: &Folder) -> bool {
     })
 }
 
-/// The search that a record asks for, if it comes to one.
+/// The chain and the readings of a record's search, if it has one that is not refused before it begins.
 fn named(table: &[u8], record: &[u8]) -> Option<(Chain, Readings)> {
     match records::entry(record).ok()? {
         Entry::Hyperbolic { chain, wanted } => Some((records::chain(table, chain.into()).ok()?, wanted)),
@@ -71,7 +73,7 @@ fn made(seed: u64, index: u64) -> Folder {
     folder
 }
 
-/// Makes so many folders below a root, named 00000 and on.
+/// Makes `count` folders below `root`, named 00000, 00001 and so on.
 pub fn make(seed: u64, count: u64, root: &Path) -> io::Result<()> {
     (0..count).try_for_each(|index| made(seed, index).write(&root.join(format!("{index:05}"))))
 }

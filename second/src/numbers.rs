@@ -1,4 +1,4 @@
-//! Metres and centimetres by exact whole numbers: no floating operation is used.
+//! Turns metres into centimetres and back by exact whole numbers: no floating-point operation is used.
 
 use crate::refusals;
 
@@ -29,7 +29,7 @@ pub fn centimetres(pattern: u64) -> Result<i64, u32> {
     if halvings <= 0 {
         return Err(refusals::NUMBER);
     }
-    // A hundred mantissas are less than 2^60, so this many halvings leave less than a half.
+    // 100 times the mantissa is less than 2^60, so this many halvings leave less than a half.
     if halvings > 61 {
         return Ok(0);
     }
@@ -50,7 +50,7 @@ pub fn metres(centimetres: i64) -> Result<u64, u32> {
 }
 
 /// The pattern of the binary64 number nearest to number / parts, a tie going to the even one. The quotient must be less
-/// than 2^53 and no smaller in size than the parts allow a normal number.
+/// than 2^53 in size; with `parts` of 64 bits it is never too small for a normal number.
 pub fn pattern_of(number: i64, parts: u64) -> u64 {
     if number == 0 {
         return 0;

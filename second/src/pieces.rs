@@ -1,4 +1,4 @@
-//! Chains, places, numbers and bytes out of which logs and requests are made.
+//! Makes the chains, places, numbers and bytes of which logs and requests are made.
 
 use crate::chart::{self, Chain, Place, Readings, MOST_EASTING, MOST_NORTHING};
 use crate::numbers::{self, MOST_CENTIMETRES};
@@ -32,7 +32,7 @@ pub fn anywhere(random: &mut Random) -> Place {
     chart::place(random.between(0, MOST_EASTING.into()) as u32, random.between(0, MOST_NORTHING.into()) as u32)
 }
 
-/// A place in range, at most so far from another on each axis.
+/// A place in range, at most `reach` from another in easting and in northing.
 pub fn about(random: &mut Random, place: Place, reach: u32) -> Place {
     let mut near = |from: u32, most: u32| {
         let shift = random.between(-i64::from(reach), reach.into());
@@ -76,7 +76,7 @@ fn below_a_square(random: &mut Random, place: Place) -> Place {
     chart::place(easting, northing)
 }
 
-/// A sound chain at distances from the place that are squares, or just below squares, or any.
+/// A sound chain whose squared distances from the place are squares, or one less than squares, or any numbers.
 pub fn square_chain(random: &mut Random, place: Place) -> Chain {
     loop {
         let mut station = || match random.below(6) {
@@ -111,7 +111,7 @@ pub fn unsound_chain(random: &mut Random) -> Chain {
     }
 }
 
-/// A corner from which the window of an exponent holds a place and stays in range.
+/// A corner whose window of exponent `k` holds the place and is in range.
 pub fn corner_for(random: &mut Random, place: Place, k: u32) -> Place {
     let side = 1i64 << k;
     let mut corner = |at: u32, most: u32| {
@@ -135,7 +135,7 @@ pub fn tie_pattern(random: &mut Random) -> u64 {
         return numbers::pattern_of(odd, 8);
     }
     let half_centimetre = numbers::pattern_of(odd, 200);
-    half_centimetre.wrapping_add_signed(random.between(-2, 2))
+    half_centimetre.wrapping_add(random.between(-2, 2) as u64)
 }
 
 /// A pattern of any exponent.
@@ -148,12 +148,12 @@ pub fn any_pattern(random: &mut Random) -> u64 {
     }
 }
 
-/// Centimetres in metres; what is beyond the limit is brought to it.
+/// The pattern of centimetres in metres; a number over the limit is cut to the limit.
 pub fn pattern(centimetres: i64) -> u64 {
     numbers::pattern_of(centimetres.clamp(-MOST_CENTIMETRES, MOST_CENTIMETRES), 100)
 }
 
-/// A number of metres that rounds to the centimetres without being their nearest one.
+/// A number of metres that rounds to these centimetres but is mostly not the nearest to them.
 pub fn inexact_pattern(random: &mut Random, centimetres: i64) -> u64 {
     let inside = centimetres.clamp(1 - MOST_CENTIMETRES, MOST_CENTIMETRES - 1);
     numbers::pattern_of(1000 * inside + random.between(-499, 499), 100_000)
@@ -190,7 +190,7 @@ pub fn job(job: &Job) -> Vec<u8> {
     records::job_bytes(job).to_vec()
 }
 
-/// Line numbers with the ends of their range among them.
+/// A line number, sometimes one at an end of the range.
 pub fn line(random: &mut Random) -> u32 {
     match random.below(6) {
         0 => random.pick(&[0, 1, u32::MAX, u32::MAX - 1, 9, 10, 99, 100]),

@@ -1,4 +1,4 @@
-//! Chosen numbers that a seed decides: splitmix64.
+//! Random numbers that depend on a seed alone: the generator splitmix64.
 
 pub struct Random {
     state: u64,
@@ -9,7 +9,7 @@ impl Random {
         Random { state: seed }
     }
 
-    /// A stream of its own for the item of an index, so that an item does not depend on how many there are.
+    /// A stream of its own for the item with an index, so that an item does not depend on how many there are.
     pub fn for_item(seed: u64, index: u64) -> Random {
         let mut first = Random::new(seed);
         Random::new(first.next() ^ Random::new(index).next())
@@ -33,7 +33,7 @@ impl Random {
         lowest + self.below((highest - lowest) as u64 + 1) as i64
     }
 
-    /// True once in so many.
+    /// True once in `times`, on average.
     pub fn once_in(&mut self, times: u64) -> bool {
         self.below(times) == 0
     }

@@ -1,4 +1,4 @@
-//! The records read and written (01, The records). Which bytes must be zero stands in masks, a bit a byte.
+//! Reads and writes the records (01, The records). Masks have one bit for each byte, set if the byte must be zero.
 
 use crate::chart::{self, Chain, Place, Readings};
 use crate::numbers;
@@ -14,7 +14,7 @@ const GRID_ZEROS: u32 = 0xff00_000e;
 const HOLD_ZEROS: u32 = 0xffff_ff0e;
 const JOB_ZEROS: u32 = 0xff00_0e00;
 
-/// A log record in whole centimetres. The chain number is as it stands; the table decides whether it is one.
+/// A log record in whole centimetres. The chain number is not tested here; that needs the table.
 #[derive(Clone, Copy, PartialEq, Eq, Debug)]
 pub enum Entry {
     Hyperbolic { chain: u8, wanted: Readings },
@@ -38,7 +38,7 @@ fn zero_under(mask: u32, bytes: &[u8]) -> bool {
     bytes.iter().enumerate().all(|(index, &byte)| mask >> index & 1 == 0 || byte == 0)
 }
 
-/// The refusal of a length: 1 for another one than is wanted.
+/// Refuses a length other than the wanted one, with 1.
 pub fn fits(length: usize, wanted: usize) -> Result<(), u32> {
     if length != wanted {
         return Err(refusals::LENGTH);
@@ -50,7 +50,7 @@ pub fn line_number(record: &[u8]) -> u32 {
     word(record, 4)
 }
 
-/// A log record by itself: 1, 2, 3, 4.
+/// A log record read by itself. Refusals: 1, 2, 3, 4.
 pub fn entry(record: &[u8]) -> Result<Entry, u32> {
     fits(record.len(), RECORD)?;
     let zeros = match record[0] {
@@ -75,17 +75,15 @@ pub fn entry(record: &[u8]) -> Result<Entry, u32> {
 
 /// The place of two numbers of centimetres, if it is in range.
 fn grid_place(easting: i64, northing: i64) -> Result<Place, u32> {
-    let (Ok(easting), Ok(northing)) = (u32::try_from(easting), u32::try_from(northing)) else {
-        return Err(refusals::RANGE);
-    };
-    let place = chart::place(easting, northing);
+    let number = |centimetres| u32::try_from(centimetres).map_err(|_| refusals::RANGE);
+    let place = chart::place(number(easting)?, number(northing)?);
     if !chart::in_range(place) {
         return Err(refusals::RANGE);
     }
     Ok(place)
 }
 
-/// The job as its bytes have it, whatever its window and its tolerance: 1, 2.
+/// The job as its bytes have it, whatever its window and its tolerance. Refusals: 1, 2.
 pub fn raw_job(bytes: &[u8]) -> Result<Job, u32> {
     fits(bytes.len(), RECORD)?;
     if !zero_under(JOB_ZEROS, bytes) {
@@ -94,14 +92,14 @@ pub fn raw_job(bytes: &[u8]) -> Result<Job, u32> {
     Ok(Job { corner: place_at(bytes, 0), k: u32::from(bytes[8]), tolerance: word(bytes, 12), allowance: long(bytes, 16) })
 }
 
-/// A job: 1, 2, 6, 7.
+/// A job read from its bytes. Refusals: 1, 2, 6, 7.
 pub fn job(bytes: &[u8]) -> Result<Job, u32> {
     let job = raw_job(bytes)?;
     search::admit_job(&job)?;
     Ok(job)
 }
 
-/// The bytes of a job; of k they have the lowest byte alone.
+/// The bytes of a job; they have only the lowest byte of k.
 pub fn job_bytes(job: &Job) -> [u8; RECORD] {
     let mut bytes = [0; RECORD];
     bytes[..4].copy_from_slice(&job.corner.easting.to_le_bytes());
@@ -112,7 +110,7 @@ pub fn job_bytes(job: &Job) -> [u8; RECORD] {
     bytes
 }
 
-/// The job written into a buffer of a length: 1, 6, 7.
+/// The bytes of a job for a buffer of `length` bytes. Refusals: 1, 6, 7.
 pub fn write_job(length: usize, job: &Job) -> Result<[u8; RECORD], u32> {
     fits(length, RECORD)?;
     search::admit_job(job)?;
@@ -123,7 +121,7 @@ pub fn chain_count(table: &[u8]) -> Result<usize, u32> {
     (1..=MOST_CHAINS).find(|count| count * CHAIN_RECORD == table.len()).ok_or(refusals::LENGTH)
 }
 
-/// The chain as its bytes have it, sound or not: 1.
+/// The chain as its bytes have it, sound or not. Refusal: 1.
 pub fn raw_chain(record: &[u8]) -> Result<Chain, u32> {
     fits(record.len(), CHAIN_RECORD)?;
     Ok(Chain { master: place_at(record, 0), a: place_at(record, 8), b: place_at(record, 16) })
@@ -137,7 +135,7 @@ pub fn chain_bytes(chain: &Chain) -> [u8; CHAIN_RECORD] {
     bytes
 }
 
-/// The chain of some numbers written into a buffer of a length: 1 for either length, then 5.
+/// The bytes of the chain with these numbers, for a buffer of `length` bytes. Refusals: 1 for either length, then 5.
 pub fn write_chain(length: usize, numbers: &[u32]) -> Result<[u8; CHAIN_RECORD], u32> {
     let chain = chart::chain(numbers.try_into().map_err(|_| refusals::LENGTH)?);
     fits(length, CHAIN_RECORD)?;
@@ -145,7 +143,7 @@ pub fn write_chain(length: usize, numbers: &[u32]) -> Result<[u8; CHAIN_RECORD],
     Ok(chain_bytes(&chain))
 }
 
-/// The chain of a number: 1 for the table, then 5.
+/// The chain of a table by its number. Refusals: 1 for the table's length, then 5.
 pub fn chain(table: &[u8], number: u32) -> Result<Chain, u32> {
     let count = chain_count(table)? as u32;
     if number == 0 || number > count {
@@ -156,7 +154,7 @@ pub fn chain(table: &[u8], number: u32) -> Result<Chain, u32> {
     Ok(chain)
 }
 
-/// What the writer takes; a buffer's length is the caller's.
+/// What the writer takes, except the buffer.
 #[derive(Clone, Copy, Debug)]
 pub struct Draft {
     pub kind: u32,
@@ -166,7 +164,7 @@ pub struct Draft {
     pub y: i64,
 }
 
-/// The record written into a buffer of a length: 1 to 5 in this order.
+/// The bytes of a record for a buffer of `length` bytes. Refusals: 1 to 5 in this order.
 pub fn write(length: usize, draft: &Draft) -> Result<[u8; RECORD], u32> {
     fits(length, RECORD)?;
     if !(1..=3).contains(&draft.kind) {

@@ -1,4 +1,4 @@
-//! The search and its count (01, The search and its count): a stack of squares, and a sweep over small windows beside it.
+//! The search and its count (01, The search and its count) by a stack of squares; a sweep of small windows checks it.
 
 use crate::chart::{self, Chain, Place, Readings, MOST_EASTING, MOST_NORTHING};
 use crate::numbers::MOST_CENTIMETRES;
@@ -43,7 +43,7 @@ impl Found {
 }
 
 impl Square {
-    /// The cell half a side east and north of the corner; a cell's own self.
+    /// The cell half a side east and north of the corner; of a square of one cell, that cell.
     fn middle(self) -> Place {
         self.offset(self.side / 2, self.side / 2)
     }
@@ -52,7 +52,7 @@ impl Square {
         chart::place(self.corner.easting + east, self.corner.northing + north)
     }
 
-    /// The quarters in the order in which a stack must take them: the first to visit comes last.
+    /// The quarters in the order in which they go onto the stack: the first to visit comes last.
     fn quarters_reversed(self) -> [Square; 4] {
         let half = self.side / 2;
         [(half, half), (0, half), (half, 0), (0, 0)]
@@ -60,7 +60,7 @@ impl Square {
     }
 }
 
-/// Refusals of a window and a tolerance: 6, then 7.
+/// Refuses a wrong window with 6, then a wrong tolerance with 7.
 pub fn admit_job(job: &Job) -> Result<(), u32> {
     if job.k > MOST_EXPONENT {
         return Err(refusals::WINDOW);
@@ -86,7 +86,7 @@ fn admit(chain: &Chain, wanted: Readings, job: &Job) -> Result<(), u32> {
     admit_job(job)
 }
 
-/// The matching cells of the job's window in chart order, as many as there is room for.
+/// Searches the job's window for matching cells, in chart order; more of them than `room` are refused.
 pub fn search(chain: &Chain, wanted: Readings, job: &Job, room: usize) -> Found {
     if let Err(refusal) = admit(chain, wanted, job) {
         return Found::unvisited(refusal);
@@ -128,7 +128,7 @@ fn walk(chain: &Chain, wanted: Readings, job: &Job, room: usize) -> Found {
     Found { refusal: 0, places, visits }
 }
 
-/// Every cell of the window tested, and those that match put in order by their chart numbers.
+/// Tests every cell of the window, and puts those that match in the order of their chart numbers.
 fn sweep(chain: &Chain, wanted: Readings, job: &Job) -> Vec<Place> {
     let side = 1u32 << job.k;
     let window = Square { corner: job.corner, side };

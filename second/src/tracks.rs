@@ -1,4 +1,4 @@
-//! Logs that search: tracks, double crossings, crowded windows and allowances at their edge.
+//! Makes logs with searches: tracks, double crossings, crowded windows and allowances at their edge.
 
 use crate::chart::{self, Chain, Place, Readings};
 use crate::folder::Folder;
@@ -7,7 +7,7 @@ use crate::pieces;
 use crate::random::Random;
 use crate::search::{self, Job};
 
-/// The visits that the searches of one log may cost, so that many logs stay cheap.
+/// The visits that the searches of one log may still cost: many logs are made, so each must be cheap.
 pub struct Purse(pub u64);
 
 impl Purse {
@@ -104,7 +104,7 @@ pub fn squares(random: &mut Random, _turn: u64) -> Folder {
     Folder::new(&job, &chains, &log)
 }
 
-/// A track, or a log of all sorts, with some of its bytes changed.
+/// A track, or a log with many holds, with some bytes of one of its files changed, or the file's length.
 pub fn damaged(random: &mut Random, turn: u64) -> Folder {
     let mut folder = if random.once_in(2) { track(random, turn) } else { crate::edges::holds(random, turn) };
     let file = match turn % 5 {
@@ -118,7 +118,7 @@ pub fn damaged(random: &mut Random, turn: u64) -> Folder {
     folder
 }
 
-/// The offsets of a place from a straight chain, along it and across it. Across is mirrored exactly in all three cases.
+/// The place at offsets along and across a straight chain. In all three bearings, -across gives its exact mirror image.
 fn beside(middle: Place, bearing: u64, along: i64, across: i64) -> Place {
     let (east, north) = match bearing {
         0 => (along, across),
@@ -128,7 +128,7 @@ fn beside(middle: Place, bearing: u64, along: i64, across: i64) -> Place {
     chart::place((i64::from(middle.easting) + east) as u32, (i64::from(middle.northing) + north) as u32)
 }
 
-/// Stations in one straight line: every place has a twin on the other side, in the same window.
+/// Stations in one straight line: every place has a mirror image on the other side, in the same window.
 pub fn double_crossings(random: &mut Random, turn: u64) -> Folder {
     if turn % 8 == 7 {
         return published_crossing(random);
@@ -204,7 +204,7 @@ pub fn crowded(random: &mut Random, turn: u64) -> Folder {
     Folder::new(&job, &[chain], &log)
 }
 
-/// Readings and a tolerance that so many cells of the job's window match, exactly; none where chance does not find any.
+/// Readings and a tolerance that exactly `count` cells of the job's window match; `None` if chance does not find any.
 fn counted(random: &mut Random, chain: &Chain, job: &Job, count: usize) -> Option<(Readings, Job)> {
     let side = 1u32 << job.k;
     let cell = |index: u32| chart::place(job.corner.easting + index % side, job.corner.northing + index / side);
@@ -226,7 +226,7 @@ pub fn allowances(random: &mut Random, turn: u64) -> Folder {
     let place = pieces::anywhere(random);
     let chain = any_chain(random, place);
     let wanted = chart::readings(&chain, place);
-    let crowd = turn.is_multiple_of(3);
+    let crowd = turn % 3 == 0;
     let k = random.below(if crowd { 6 } else { 20 }) as u32;
     let tolerance = if crowd { 50_000 } else { random.below(4) as u32 };
     let capped = Job { corner: pieces::corner_for(random, place, k), k, tolerance, allowance: 6000 };

@@ -1,4 +1,4 @@
-//! Bytes as hexadecimal words, `-` for none.
+//! Turns bytes into hexadecimal words and back; `-` is the word for no bytes.
 
 pub fn hex(bytes: &[u8]) -> String {
     if bytes.is_empty() {

@@ -1,5 +1,5 @@
--- What a range is: all that rests on its being the distance cites this law. But for examples that are computed nothing else looks
--- into `rangeOf`.
+-- What a range is: the distance. Every proof that relies on this cites the law here; apart from examples that are computed,
+-- nothing else looks into `rangeOf`.
 use mathlib.Core.Path.{_≡_, refl, ap₂}
 use mathlib.Core.List.{List, [], _∷_, map}
 use lib.IntN.{ℤ, subℕ}

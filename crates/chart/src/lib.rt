@@ -57,7 +57,7 @@ pub fn sound(c: Chain) -> bool
     no_two_equal(c)
 }
 
-// The readings expected at a place: what a log would say there.
+// The readings expected at a place: what a log would hold there.
 pub fn readings(c: Chain, p: Place) -> Expected
     ensures { λ r. ⌜ saidBy r ≡ expectedAt c p ⌝ }
 {
@@ -75,7 +75,7 @@ pub fn readings(c: Chain, p: Place) -> Expected
     Expected::Readings { a, b }
 }
 
-// An answer as figures.
+// An answer of `readings` as figures.
 pub fn as_figures(e: Expected) -> Figures
     ensures { λ r. ⌜ r ≡ figuresOf (saidBy e) ⌝ }
 {
@@ -124,7 +124,7 @@ fn same(p: Place, q: Place) -> bool
     p.northing == q.northing
 }
 
-// How far a station of a chain counts as being from a place. Both squares fit, since both places are in range.
+// The range from a place to a station of a chain. Both squares fit, since both places are in range.
 fn range(c: Chain, p: Place, station: Place) -> u64
     requires { ⌜ (inRange p ≡ true) × (inRange station ≡ true) ⌝ }
     ensures { λ r. ⌜ (r ≡ rangeOf c p station) × (r < 2 ^ 30) ⌝ }
@@ -144,7 +144,7 @@ pub fn gap(a: u32, b: u32) -> u64
     (a - b) as u64
 }
 
-// The difference of two ranges, below 0 where the first is the smaller.
+// The difference of two ranges, below 0 if the first is the smaller.
 fn less(a: u64, b: u64) -> i64
     requires { ⌜ (a < 2 ^ 31) × (b < 2 ^ 31) ⌝ }
     ensures { λ r. ⌜ r ≡ subℕ a b ⌝ }

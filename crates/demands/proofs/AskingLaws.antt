@@ -1,4 +1,5 @@
--- What a search with readings asks, and that the readings of a place pass its tests and find the place.
+-- A search for given readings: when it passes the tests, what matching means, and that the readings of a place find the
+-- place.
 use Prim.Native.Nat.{ℕ, _≤_}
 use mathlib.Core.Path.{_≡_, refl, sym, subst}
 use mathlib.Core.Logic.{_↔_}
@@ -24,7 +25,7 @@ use Rattle.listing.specs.Answers.{searched, placesOf}
 use Rattle.demands.specs.Finding.{EachSmall, EachWithin}
 use Rattle.demands.proofs.NumberLaws.{refused-lists}
 
--- A place that has readings has these, by a sound chain.
+-- If readings are expected at a place, they are the place's own, and the chain is sound.
 pub own-readings : (c : Chain) (p : Place) (readings : List ℤ) → expectedAt c p ≡ Expects readings →
     (readingsOf c p ≡ readings) × (isSound c ≡ true)
 unfolding expectedAt
@@ -37,7 +38,7 @@ own-readings c p readings e = go (inRange p) (isSound c) refl e
     go true false sound e = (cc, cc)
     go false t sound e = (cc, cc)
 
--- A search with them finds the place.
+-- A search for these readings finds the place.
 pub found-by : (c : Chain) (p : Place) (readings : List ℤ) (w : Window) (tolerance allowance entries : ℕ) →
     let q = questionOf c readings tolerance allowance entries in
     expectedAt c p ≡ Expects readings → IsCellIn w p → Accepted (q .rule) w → AmpleRoom q w → AmpleAllowance q w → IsListed p (searchOf q w .places)
@@ -47,14 +48,14 @@ found-by c p readings w tolerance allowance entries e inside =
     (own-readings c p readings e .0)
     (λ accepted room enough. own-readings-found c p w tolerance allowance entries accepted room enough inside)
 
--- Readings none of which is too large pass the test of a search.
+-- Readings that are not too large pass the test of a search.
 small-pass : (slaves : List Place) (readings : List ℤ) → EachSmall readings → noneTooLarge (wantedFor slaves readings) ≡ true
 unfolding noneTooLarge EachSmall
 small-pass [] readings h = refl
 small-pass (slave ∷ slaves) [] h = refl
 small-pass (slave ∷ slaves) (r ∷ rs) h = and-both (le-leb (natAbs r) 1_000_000_000 (h .0)) (small-pass slaves rs (h .1))
 
--- With a sound chain, a window and a tolerance they pass them all.
+-- With a sound chain, and a window and a tolerance within their limits, they pass all tests of a search.
 pub tests-pass : (c : Chain) (readings : List ℤ) (w : Window) (tolerance : ℕ) →
     EachSmall readings → isSound c ≡ true → isWindow w ≡ true → tolerance ≤ 100_000 →
     Accepted (ruleOf c readings tolerance) w
@@ -73,7 +74,7 @@ each-differs t c (w ∷ ws) o =
       (λ h. and-both (le-leb _ _ (h .0)) (rest .1 (h .1))),
     )
 
--- What a record answers lists what its search lists.
+-- The answer to a record lists the places that its search lists.
 pub fix-places : (q : Question) (w : Window) → placesOf (searched (searchOf q w)) ≡ searchOf q w .places
 unfolding searched placesOf
 fix-places q w = go (eqb (searchFigures (searchOf q w .answer) .refusal) 0) refl

@@ -1,4 +1,4 @@
--- The ten P cases: the checker computes what the definitions answer to each, and it is what 01 says.
+-- The ten P cases: the proof checker computes what the definitions answer to each case, and this is what 01 says.
 use mathlib.Core.Path.{_≡_, refl}
 use lib.Ieee.{ofInt, div}
 use Rattle.squares.specs.Root.{root}

@@ -1,8 +1,8 @@
--- Demand 1. A log, a station table or a job of any content gets an answer or a numbered refusal, and the work ends. After a
--- refusal the list of places holds zeros and the count of places is nought.
--- Every public function takes any content and is proved to return: so the work ends. What it answers follows from definitions,
--- but for what comes from the outside, and here stands what these answer: `NoneOr numbers` says no refusal, which is 0, or one
--- of these numbers, and no other.
+-- Demand 1 of the request: A log, station table or job of any content gets an answer or a numbered refusal, and the work
+-- ends. The program checks for itself. After a refusal the list of places holds zeros and the count of places is nought.
+-- The work ends because every public function accepts any content and is proved to return. Definitions fix its answer, except
+-- where the answer depends on the operating system; the theorems here say what the definitions answer. `NoneOr numbers n`
+-- says that n is 0, which means no refusal, or one of `numbers`.
 use Prim.Native.Nat.{ℕ, _-_, _*_, _≤_}
 use mathlib.Core.Path.{_≡_, refl, ap, _∙_, subst}
 use mathlib.Core.Bool.{true}
@@ -53,47 +53,49 @@ use Rattle.demands.proofs.NumberLaws.{some-number, whole-number, length
 use Rattle.demands.proofs.LibraryLaws.{record-told, count-told, chain-told, stations-counted, bytes-counted, stations-told, expected-told, job-told, listing-told, search-told}
 use Rattle.demands.proofs.NeverLaws.{raw-never, log-never, entry-never, count-never, chain-never, job-never, answer-never}
 
--- A number of metres gets its centimetres, or 3 and then 0 centimetres.
+-- A number of metres gives its whole centimetres; or it is refused with 3 and gives 0 centimetres.
 pub metres-read : (x : Float) →
     let f = wholeFigures (centimetresOf x) in
     NoneOr (3 ∷ []) (f .refusal) × (Refuses (f .refusal) → f .centimetres ≡ pos 0)
 metres-read x = whole-number (centimetresOf x)
 
--- A number of centimetres gets its metres, or 3 and then plus zero.
+-- A number of centimetres gives its metres; or it is refused with 3 and gives plus zero.
 pub metres-written : (z : ℤ) →
     let f = lengthFigures (metresOf z) in
     NoneOr (3 ∷ []) (f .refusal) × (Refuses (f .refusal) → f .metres ≡ plusZero)
 metres-written z = length-number (metresOf z)
 
--- A place gets the readings expected there, or 4 or 5 and then 0 for each.
+-- A place gives the readings expected there; or it is refused with 4 or 5 and gives 0 for each reading.
 pub readings-told : (c : Chain) (p : Place) →
     let f = figuresOf (expectedAt c p) in
     NoneOr (4 ∷ 5 ∷ []) (f .refusal) × (Refuses (f .refusal) → f ≡ noFigures (f .refusal))
 readings-told c p = readings-number c p
 
--- A log record of any bytes gets its fields, or 1; its kind and metres, or 1 or 2; its centimetres, or 1 to 4.
+-- Any bytes, read as a log record, give its fields, or refusal 1; its kind and its numbers in metres, or refusal 1 or 2; its
+-- numbers in centimetres, or refusal 1 to 4.
 pub log-record-read : (s : List ℕ) →
     NoneOr (1 ∷ []) (rawRefusal (rawRecordOf s))
     × NoneOr (1 ∷ 2 ∷ []) (logRefusal (logRecordOf s))
     × NoneOr (1 ∷ 2 ∷ 3 ∷ 4 ∷ []) (entryRefusal (logEntryOf s))
 log-record-read s = (raw-refusals s, log-refusals s, entry-refusals s)
 
--- A station table of any bytes gets the count of its chains, or 1; and any number a sound chain of it, or 1 or 5.
+-- Any bytes, read as a station table, give the count of its chains, or refusal 1. Any chain number gives a sound chain of the
+-- table, or refusal 1 or 5.
 pub table-read : (s : List ℕ) (number : ℕ) →
     NoneOr (1 ∷ []) (countRefusal (chainCountOf s)) × NoneOr (1 ∷ 5 ∷ []) (chainRefusal (chainOf s number))
 table-read s number = (count-refusals s, chain-refusals s number)
 
--- A job of any bytes is accepted, or gets 1, 2, 6 or 7.
+-- Any bytes, read as a job, are accepted, or refused with 1, 2, 6 or 7.
 pub job-read : (s : List ℕ) → NoneOr (1 ∷ 2 ∷ 6 ∷ 7 ∷ []) (jobRefusal (jobOf s))
 job-read s = job-refusals s
 
--- A draft of a record is written, or gets 1 to 5 and leaves the whole buffer zero, whatever its length.
+-- A draft of a log record is written, or refused with 1 to 5. A refusal leaves the whole buffer zero, whatever its length.
 pub record-written : (bytes : ℕ) (d : Draft) →
     NoneOr (1 ∷ 2 ∷ 3 ∷ 4 ∷ 5 ∷ []) (refusalOf bytes d)
     × (Refuses (refusalOf bytes d) → bufferOf bytes d ≡ replicate bytes 0)
 record-written bytes d = (write-refusals bytes d, refused-write-zeros bytes d)
 
--- A chain is written, or gets 1 or 5; a job is written, or gets 1, 6 or 7. Each, if it is refused, leaves the whole buffer
+-- A chain is written, or refused with 1 or 5; a job is written, or refused with 1, 6 or 7. A refusal leaves the whole buffer
 -- zero, whatever its length.
 pub chain-written : (bytes : ℕ) (c : Chain) →
     NoneOr (1 ∷ 5 ∷ []) (chainRefusalOf bytes c)
@@ -105,9 +107,9 @@ pub job-written : (bytes : ℕ) (j : Job) →
     × (Refuses (jobRefusalOf bytes j) → jobBufferOf bytes j ≡ replicate bytes 0)
 job-written bytes j = (job-write-refusals bytes j, refused-job-zeros bytes j)
 
--- Any search, whatever it is asked, gets places, or 3, 5, 6, 7, 8, 9 or 10. After a refusal its list of any length, an odd
--- one too, is all zeros and its count nought; 3, 5, 6 and 7 tell of no visit, 10 of exactly the allowance, and no answer of
--- more.
+-- Any search, whatever the question, answers with places, or with refusal 3, 5, 6, 7, 8, 9 or 10. After a refusal the list is
+-- all zeros, whatever its length, even an odd one, and the count is 0. Refusals 3, 5, 6 and 7 report no visits, 10 reports
+-- exactly the allowance, and no answer reports more visits than the allowance.
 pub search-answered : (q : Question) (w : Window) (entries : ℕ) → Leaves q w entries
 unfolding listOf entriesOf
 search-answered q w entries =
@@ -121,8 +123,8 @@ search-answered q w entries =
       used-up = visits-in-allowance q w .1;
     }
 
--- A search that is not refused has a place or more. They are the first entries of the list, easting and northing in turn;
--- all others, a left-over half place too, are zero; and the list is as long as it was.
+-- A search that is not refused gives at least one place. The places are the first entries of the list, easting and northing
+-- in turn. All other entries, including a left-over half place, are zero. The list keeps its length.
 pub places-listed : (c : Chain) (readings : List ℤ) (w : Window) (tolerance allowance entries : ℕ) →
     let q = questionOf c readings tolerance allowance entries in
     let places = searchOf q w .places in
@@ -140,8 +142,8 @@ places-listed c readings w tolerance allowance entries e =
       list-length entries (searchOf q w .places) (omega (arith, room-kept q w)),
     )
 
--- A record of a log, of any bytes, by an accepted job, any table and whatever is carried to it, gets its places, or 1, 2, 3,
--- 4, 5, 8, 9, 10 or 11. It never gets 6 or 7, since the job was accepted.
+-- Any bytes as a record of a log, with an accepted job, any table, and any place or none carried from the record before, give
+-- places, or refusal 1, 2, 3, 4, 5, 8, 9, 10 or 11. Refusals 6 and 7 never come, since the job was accepted.
 pub record-answered : (job table s : List ℕ) (j : Job) (before : Carried) → jobOf job ≡ answer.Job j →
     NoneOr (1 ∷ 2 ∷ 3 ∷ 4 ∷ 5 ∷ 8 ∷ 9 ∷ 10 ∷ 11 ∷ []) (recordRefusal (answerOf j table before s))
 unfolding answerOf
@@ -149,7 +151,7 @@ record-answered job table s j before accepted =
     let good = job-good job j accepted in
     answer-number j (good .0) (good .1) (chainOf table (byteAt s 1)) before (logEntryOf s) (chain-refusals table (byteAt s 1)) (entry-refusals s)
 
--- No refusal has the number 0, which says that there is none: so whatever refuses has one of the numbers above.
+-- No refusal has the number 0, since 0 means that nothing is refused. So every refusal has one of the numbers above.
 pub no-refusal-is-0 : (s table : List ℕ) (number visits : ℕ) (j : Job) (before : Carried) →
     (rawRecordOf s ≡ raw.Refused 0 → ⊥)
     × (logRecordOf s ≡ log.Refused 0 → ⊥)
@@ -169,8 +171,8 @@ no-refusal-is-0 s table number visits j before = (
   answer-never visits j (chainOf table (byteAt s 1)) before (logEntryOf s) (chain-never table (byteAt s 1)) (entry-never s),
 )
 
--- A refused job prints `JOB REFUSED` and its number, 1, 2, 6 or 7, and nothing else; then a refused table prints
--- `CHAIN REFUSED` and 1.
+-- For a refused job the program prints only `JOB REFUSED` and the number, which is 1, 2, 6 or 7. For an accepted job and a
+-- refused table it prints only `CHAIN REFUSED` and the number, which is 1.
 pub job-refused : (job table log : List ℕ) (number : ℕ) → jobOf job ≡ answer.Refused number →
     (isAmong number (1 ∷ 2 ∷ 6 ∷ 7 ∷ []) ≡ true)
     × (listingOf job table log ≡ bytesIn "JOB REFUSED" ++ (spaced number ++ bytesIn "\n"))
@@ -191,22 +193,23 @@ table-refused job table log j number good e = (
   then-chain job table log j number good e,
 )
 
--- A listing is put into a buffer, or gets 9 where the buffer has too little room and then stays as it was.
+-- A listing is put into a buffer; or it is refused with 9, if the buffer has too little room, and the buffer stays as it was.
 pub listing-answered : (out log : List ℕ) (p : Part) →
     let answer = listedIn (length out) log p in
     NoneOr (9 ∷ []) (listedRefusal answer) × (Refuses (listedRefusal answer) → bufferWith out log p ≡ out)
 unfolding listedIn bufferWith
 listing-answered out log p = listed-number (hasListingRoom (length out) log) p out (p .text ++ drop (length (p .text)) out)
 
--- The library for C tells the same numbers in its figures. A log record: after 1 to 4 kind, chain number and both numbers
--- are 0.
+-- The library for C returns the same refusal numbers in its figures. A log record: after 1 to 4 the kind, the chain number
+-- and both numbers are 0.
 pub record-figures-told : (s : List ℕ) →
     let f = recordFigures s in
     NoneOr (1 ∷ 2 ∷ 3 ∷ 4 ∷ []) (f .refusal)
     × (Refuses (f .refusal) → (f .kind ≡ 0) × (f .chain ≡ 0) × (f .x ≡ pos 0) × (f .y ≡ pos 0))
 record-figures-told s = record-told (rawRecordOf s) (logEntryOf s) (raw-refusals s) (entry-refusals s)
 
--- A table: after 1 the count is 0; and after 1 or 5 all bytes of a chain are, as when it is written by its stations.
+-- A table: after 1 the count is 0. A chain read from a table, and a chain written from its stations: after 1 or 5 all its
+-- bytes are 0.
 pub table-figures-told : (s stations : List ℕ) (number bytes : ℕ) →
     let f = countFigures (chainCountOf s) in
     let g = chainTold bytes s number in
@@ -220,7 +223,8 @@ table-figures-told s stations number bytes = (
   chain-told bytes (chainBy stations) (stations-counted stations),
 )
 
--- A chain of any bytes: after 1 or 5 the numbers of its stations are all 0, and after 1, 4 or 5 the readings expected at a place.
+-- A chain of any bytes: after 1 or 5 the numbers of its stations are all 0; after 1, 4 or 5 the readings expected at a place
+-- are all 0.
 pub chain-figures-told : (chain : List ℕ) (entries e n : ℕ) →
     let s = stationsTold entries chain in
     let x = expectedTold entries chain e n in
@@ -231,7 +235,8 @@ chain-figures-told chain entries e n = (
   expected-told entries (rawChainOf chain) (placeOf e n) (bytes-counted chain),
 )
 
--- A search by the bytes of a chain and of a job: 1 or 2 for the bytes, or what the search gets; after a refusal zeros and nought.
+-- A search by the bytes of a chain and of a job: refusal 1 or 2 if the bytes or the count of readings are wrong, else what
+-- the search answers. After a refusal the list is zeros and the count is 0.
 pub search-figures-told : (chain : List ℕ) (readings : List ℤ) (job : List ℕ) (entries : ℕ) →
     SearchIsTold entries (searchTold chain readings job entries)
 search-figures-told chain readings job entries = search-told chain readings job entries (λ q w. search-answered q w entries)

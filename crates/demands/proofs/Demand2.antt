@@ -1,6 +1,6 @@
--- Demand 2. A place gives the readings that the rule for range differences gives, in whole centimetres, and readings give back
--- the places that the rule allows. Metres in the log are read by IEEE 754 and rounded as 01 says; centimetres written out read
--- back the same.
+-- Demand 2 of the request: A place gives the readings that the published rule for range differences gives, in whole
+-- centimetres, and readings give back the places that the rule allows. Metres in the log are read by IEEE 754 and rounded as
+-- the requirements say; centimetres written out read back the same.
 use Prim.Native.Nat.{ℕ, _+_, _-_, _*_, _/_, _^_, _≤_, _<_}
 use mathlib.Core.Path.{_≡_, ap, _∙_, subst⁻¹}
 use mathlib.Core.Logic.{_↔_}
@@ -67,8 +67,8 @@ use Rattle.demands.proofs.TextLaws.{job-line-shown, job-typed-again, ch
 use Rattle.demands.proofs.QuestionLaws.{expected-as-typed}
 use Rattle.demands.proofs.AskingLaws.{own-readings, found-by, tests-pass, fix-places}
 
--- The distance of two places is the whole part of the root of easting difference squared plus northing difference squared:
--- its square is at most that sum, the next square is more, and no other number is so.
+-- The distance of two places is the whole part of the square root of (easting difference squared plus northing difference
+-- squared): its square is at most that sum, the square of the next number is more, and no other number has both properties.
 pub distance-is-root : (p q : Place) →
     (distanceOf p q * distanceOf p q ≤ squaredDistance p q)
     × (squaredDistance p q < (distanceOf p q + 1) * (distanceOf p q + 1))
@@ -80,9 +80,9 @@ distance-is-root p q = (
   λ d low high. root-unique (squaredDistance p q) d (record { low = low; high = high }),
 )
 
--- The readings of a place in range, by a sound chain, are its distance to the slave minus its distance to the master, for
--- each slave, each distance cut to a whole number first. A place out of range gets 4, whatever the chain; then an unsound
--- chain gets 5.
+-- For a place in range and a sound chain, the reading of each slave is the distance to the slave minus the distance to the
+-- master, each distance cut to a whole number first. A place out of range is refused with 4, whatever the chain; then an
+-- unsound chain is refused with 5.
 pub readings-are-differences : (c : Chain) (p : Place) →
     (inRange p ≡ true → isSound c ≡ true →
     expectedAt c p ≡ Expects (map (λ slave. subℕ (distanceOf p slave) (distanceOf p (c .master))) (slavesOf c)))
@@ -94,14 +94,14 @@ readings-are-differences c p = (
   expected-unsound c p,
 )
 
--- A number of metres is answered by the whole number of centimetres nearest to exactly 100 times the number, a tie going to
--- the even one, and is refused where it is NaN, infinite or larger than 10,000,000 in size; and by nothing else. `MayAnswer`
--- says this without a way to find the number.
+-- A number of metres gives the whole number of centimetres nearest to exactly 100 times the number, a tie going to the even
+-- one. It is refused if it is NaN, infinite or larger than 10,000,000 in size. No other answer is right. `MayAnswer` states
+-- this rule without a method for finding the number.
 pub metres-are-rounded : (x : Float) (answer : Whole) → (answer ≡ centimetresOf x) ↔ MayAnswer x answer
 metres-are-rounded x answer = ((λ e. subst⁻¹ (MayAnswer x) e (answers x)), answers-only x answer)
 
--- All 2,000,000,001 numbers of centimetres from -1,000,000,000 to 1,000,000,000 are written as one rounded quotient by 100, and
--- each is read back from it.
+-- Each of the 2,000,000,001 numbers of centimetres from -1,000,000,000 to 1,000,000,000 is written as its quotient by 100,
+-- rounded once; and this quotient is read back as the same number.
 pub centimetres-there-and-back : (z : ℤ) → natAbs z ≤ 1_000_000_000 →
     let x = div binary64 (ofInt binary64 z) (ofInt binary64 (pos 100)) in
     (metresOf z ≡ metres.Metres x) × (centimetresOf x ≡ whole.Centimetres z)
@@ -112,7 +112,7 @@ centimetres-there-and-back z h = (written z h, hundredth-back z h)
 pub centimetres-beyond : (z : ℤ) → 1_000_000_000 < natAbs z → metresOf z ≡ metres.Refused
 centimetres-beyond z h = not-written z h
 
--- A binary64 number comes back from the pattern of its eight bytes.
+-- A binary64 number, stored as the pattern of its eight bytes, is read back as the same number.
 pub number-there-and-back : (x : Float) → T (fits binary64 x) → numberOf (patternOf x) ≡ x
 number-there-and-back x held = number-back x held
 
@@ -122,8 +122,8 @@ pub record-there-and-back : (d : Draft) → d .line < 2 ^ 32 → refusalOf 32 d 
     (rawRecordOf (bufferOf 32 d) ≡ raw.Record (rawFor (usedOf d))) × (logEntryOf (bufferOf 32 d) ≡ entryFor (usedOf d))
 record-there-and-back d line accepted = (reads-back d line accepted .raw, reads-back d line accepted .entry)
 
--- Every sound chain is written; and 1 to 16 of them, written one behind the other, are a table of as many, from which each is
--- read back by its number. `other` is what would stand past the last, where no number goes.
+-- Every sound chain is written. 1 to 16 of them, written one after the other, are a table of that many chains, and each is
+-- read back by its number. `other` is what `getD` gives past the end of the list, which no number here reaches.
 pub chains-there-and-back : (cs : List Chain) (number : ℕ) (other : Chain) →
     let c = getD cs (number - 1) other in
     allSound cs ≡ true → length cs ≤ 16 → 1 ≤ number → number ≤ length cs →
@@ -136,43 +136,43 @@ chains-there-and-back cs number other sound few first last = (
   chains-read-back cs number other sound few first last,
 )
 
--- Every window, with a tolerance up to 100,000 and any allowance, is written as a job; and whatever job is accepted is read
--- back as the same job.
+-- A job with any allowed window, a tolerance up to 100,000 and any allowance of 64 bits is written; and every job that the
+-- writer accepts is read back as the same job.
 pub job-there-and-back : (j : Job) → j .allowance < 2 ^ 64 →
     (isWindow (j .window) ≡ true → j .tolerance ≤ 100_000 → jobRefusalOf 32 j ≡ 0)
     × (jobRefusalOf 32 j ≡ 0 → jobOf (jobBufferOf 32 j) ≡ answer.Job j)
 job-there-and-back j small = (window-written j, job-reads-back j small)
 
--- Whatever the writer accepts is shown as a line of `LOG`, its fields and a newline, with no refusal; and the fields, typed, are
--- the same draft again, with 0 for what its kind does not use.
+-- Every record that the writer accepts is shown as one line: `LOG`, its fields and a newline, with no refusal. The fields,
+-- typed in, give the same draft again, with 0 for what its kind does not use.
 pub record-shown-and-typed : (d : Draft) → d .line < 2 ^ 32 → refusalOf 32 d ≡ 0 →
     let fields = recordText (bufferOf 32 d) in
     (recordLine (bufferOf 32 d) ≡ bytesIn "LOG" ++ (fields ++ bytesIn "\n")) × (parsedDraft fields ≡ parsed-draft.Draft (usedOf d))
 record-shown-and-typed d small accepted = (record-line-shown d small accepted, record-typed-again d small accepted)
 
--- Every sound chain that is written is shown as a line of `CHAIN`, its number in the table, its fields and a newline, with no
--- refusal; and the fields, typed, are the same chain again.
+-- Every sound chain that is written is shown as one line: `CHAIN`, its number in the table, its fields and a newline, with no
+-- refusal. The fields, typed in, give the same chain again.
 pub chain-shown-and-typed : (c : Chain) (number : ℕ) → isSound c ≡ true →
     let fields = figuresText (stationFigures c) in
     (chainLine number (chainBufferOf 24 c) ≡ bytesIn "CHAIN" ++ (spaced number ++ (fields ++ bytesIn "\n")))
     × (parsedChain fields ≡ parsed-chain.Chain c)
 chain-shown-and-typed c number sound = (chain-line-shown c sound number, chain-typed-again c sound)
 
--- Whatever job is accepted is shown as a line of `JOB`, its fields and a newline, with no refusal; and the fields, typed, are
--- the same job again.
+-- Every job that the writer accepts is shown as one line: `JOB`, its fields and a newline, with no refusal. The fields, typed
+-- in, give the same job again.
 pub job-shown-and-typed : (j : Job) → j .allowance < 2 ^ 64 → jobRefusalOf 32 j ≡ 0 →
     let fields = jobText (jobBufferOf 32 j) in
     (jobLine (jobBufferOf 32 j) ≡ bytesIn "JOB" ++ (fields ++ bytesIn "\n")) × (parsedJob fields ≡ parsed-job.Job j)
 job-shown-and-typed j small accepted = (job-line-shown j small accepted, job-typed-again j small accepted)
 
--- The readings shown for a question that was typed are those of the chain's number and the place as they were typed, whatever
--- their size.
+-- The readings shown for a typed question are those for the chain number and the place exactly as they were typed, however
+-- large these numbers are.
 pub question-as-typed : (table s : List ℕ) (number : ℕ) (p : Place) → parsedQuestion s ≡ parsed-question.Question number p →
     expectedIn table number p ≡ expectedIn table (valueAt s 0) (record { easting = valueAt s 1; northing = valueAt s 2 })
 question-as-typed table s number p e = expected-as-typed table s number p e
 
 -- The writer accepts any two readings up to 1,000,000,000 in size for a chain from 1 to 16, any place in range, and any hold;
--- and these are read back.
+-- and each of these is read back the same.
 pub readings-there-and-back : (chain line : ℕ) (x y : ℤ) →
     1 ≤ chain → chain ≤ 16 → line < 2 ^ 32 → natAbs x ≤ 1_000_000_000 → natAbs y ≤ 1_000_000_000 →
     let d : Draft = record { kind = 1; chain = chain; line = line; x = x; y = y } in
@@ -198,8 +198,8 @@ hold-there-and-back chain line x y small =
     let accepted = hold-accepted chain line x y in
     (accepted, reads-back _ small accepted .entry)
 
--- The readings of a place give back the place: a search with them, in any window about the place, at any tolerance, with room
--- and allowance ample, lists it.
+-- The readings of a place, if they are at most 1,000,000,000 in size, give back the place: a search for them lists it, in any
+-- allowed window that contains the place, at any allowed tolerance, with ample room and allowance.
 pub readings-give-place : (c : Chain) (p : Place) (readings : List ℤ) (w : Window) (tolerance allowance entries : ℕ) →
     let q = questionOf c readings tolerance allowance entries in
     expectedAt c p ≡ Expects readings → EachSmall readings →
@@ -210,9 +210,10 @@ readings-give-place c p readings w tolerance allowance entries e small window in
     (tests-pass c readings w tolerance small (own-readings c p readings e .1) window few)
     room enough
 
--- The whole way, from a place to a record and from the record to the place. The readings expected at a place are written as a
--- record of a chain of the table; the record is read back; and what it answers, by an accepted job whose window has the
--- place, whose allowance is the greatest that may be needed and whose matching cells are at most 256, lists the place.
+-- The whole way, from a place to a record and from the record back to the place. The readings expected at the place, if they
+-- are at most 1,000,000,000 in size, are written as a record that names a chain of the table, and the record is read back the
+-- same. The answer to this record lists the place, if the job is accepted, its window contains the place, its allowance is at
+-- least the greatest that may be needed, and at most 256 cells of the window match.
 pub place-to-place : (c : Chain) (p : Place) (x y : ℤ) (chain line : ℕ) (job table : List ℕ) (j : Job) (before : Carried) →
     let s = bufferOf 32 (record { kind = 1; chain = chain; line = line; x = x; y = y }) in
     expectedAt c p ≡ Expects (x ∷ y ∷ []) → natAbs x ≤ 1_000_000_000 → natAbs y ≤ 1_000_000_000 →

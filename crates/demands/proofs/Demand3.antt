@@ -1,7 +1,7 @@
--- Demand 3. Take a sound chain, two readings, a square of chart and a tolerance, all within their limits, and enough room and
--- allowance. The list holds every centimetre cell of the square whose two differences are within the tolerance, each once, in
--- chart order, and no other cell. "No fix" comes exactly when there is no such cell. The squares searched are counted by the
--- written rule, and the stated greatest allowance always suffices.
+-- Demand 3 of the request: Take a sound chain, two readings, a square of chart and a tolerance, all within their limits, and
+-- enough room and search allowance. The list holds every centimetre cell of the square whose two differences are within the
+-- tolerance, each once, in the stated order, and no other cell. "No fix" comes exactly when there is no such cell. The
+-- squares searched are counted by the written rule, and the stated greatest allowance always suffices.
 use Prim.Native.Nat.{ℕ, suc, _+_, _-_, _/_, _^_, _≤_, _<_}
 use mathlib.Core.Path.{_≡_, refl, ap}
 use mathlib.Core.Logic.{_↔_}
@@ -41,12 +41,13 @@ exactly-the-matching-cells q w e =
       in-order = numbers-rise q w;
     }
 
--- That a cell matches readings says that each of its differences is within the tolerance.
+-- A cell matches exactly if each of its readings differs from the wanted one by at most the tolerance.
 pub matching-means : (c : Chain) (readings : List ℤ) (tolerance : ℕ) (o : Place) →
     (matches (ruleOf c readings tolerance) o ≡ true) ↔ EachWithin tolerance c (wantedOf c readings) o
 matching-means c readings tolerance o = each-differs tolerance c (wantedOf c readings) o
 
--- Where a cell of the window matches, the answer is places, as many as match, and no refusal.
+-- If some cell of the window matches, nothing is refused: the answer is the count of all matching cells and the visits that
+-- the rule counts.
 pub answered-with-places : (q : Question) (w : Window) → Enough q w → (o : Place) → IsCellIn w o → matches (q .rule) o ≡ true →
     (figuresIn q w .refusal ≡ 0) × (searchOf q w .answer ≡ Places (length (matchingIn (q .rule) w)) (visitsIn (q .rule) w))
 unfolding searchFigures
@@ -54,12 +55,12 @@ answered-with-places q w e o inside m =
     let places = found-answered q w e o inside m in
     (ap (λ (a : Answer). searchFigures a .refusal) places, places)
 
--- Any list of which this may be said is the list of the search.
+-- Any list that holds every matching cell and no other, each once, in chart order, is the list of the search.
 pub no-other-list : (q : Question) (w : Window) → Enough q w → (l : List Place) → IsTheList q w l → l ≡ searchOf q w .places
 no-other-list q w e l is =
     only-list q w (e .accepted) (e .room) (e .allowance) l (is .no-other) (λ o h. is .every o (h .0) (h .1)) (is .in-order)
 
--- The count is that of the matching cells, and the visits are those that the rule counts.
+-- The count in the answer is the number of matching cells, and the visits in the answer are those that the rule counts.
 pub counts-are-right : (q : Question) (w : Window) → Enough q w →
     (figuresIn q w .count ≡ length (matchingIn (q .rule) w)) × (figuresIn q w .visits ≡ visitsIn (q .rule) w)
 counts-are-right q w e = (
@@ -67,8 +68,8 @@ counts-are-right q w e = (
   visits-are-counted q w (e .accepted) (e .room) (e .allowance),
 )
 
--- The rule: a cell takes one visit; a larger square that is dropped takes one; any other takes one and those of its quarters.
--- A square that is dropped has no matching cell.
+-- The rule of the count: a cell costs one visit; a larger square that is dropped costs one; any other square costs one and
+-- the visits of its four quarters. A square that is dropped has no matching cell.
 pub visits-by-the-rule : (rule : Rule) (k : ℕ) (p : Place) →
     (visitsOf rule 0 p ≡ 1)
     × (isKept rule k p ≡ false → (visitsOf rule (suc k) p ≡ 1) × (matching rule (suc k) p ≡ []))
@@ -85,8 +86,8 @@ greatest-allowance q w h = always-enough q w h
 pub greatest-room : (q : Question) (w : Window) → 4 ^ w .k ≤ q .limits .room → length (matchingIn (q .rule) w) ≤ q .limits .room
 greatest-room q w h = le-trans (matching-few (q .rule) (w .k) (w .corner)) h
 
--- 3, 5, 6 and 7 come before the walk, and in this order: 3 exactly when a reading is too large; else 5 exactly when the chain is
--- not sound; else 6 exactly when the window is none; else 7 exactly when the tolerance is too large.
+-- Refusals 3, 5, 6 and 7 come before the walk, in this order: 3 exactly when a reading is too large; else 5 exactly when the
+-- chain is not sound; else 6 exactly when the window is not allowed; else 7 exactly when the tolerance is too large.
 pub refused-before-the-walk : (q : Question) (w : Window) →
     let number = figuresIn q w .refusal in
     let small = noneTooLarge (q .rule .wanted) in
@@ -106,31 +107,31 @@ refused-before-the-walk q w =
       ),
     )
 
--- 8, "no fix", is answered exactly when no cell of the window matches.
+-- If the tests before the walk pass and the allowance is ample, the answer is 8, "no fix", exactly when no cell of the window
+-- matches.
 pub no-fix : (q : Question) (w : Window) → Accepted (q .rule) w → AmpleAllowance q w →
     (figuresIn q w .refusal ≡ 8) ↔ ((o : Place) → IsCellIn w o → matches (q .rule) o ≡ false)
 no-fix q w a enough = (eight-only-then q w, eight-when-none q w a enough)
 
--- 9 is answered, where the allowance is ample, exactly when more cells match than there is room for.
+-- If they pass and the allowance is ample, the answer is 9 exactly when more cells match than there is room for.
 pub no-room : (q : Question) (w : Window) → Accepted (q .rule) w → AmpleAllowance q w →
     (figuresIn q w .refusal ≡ 9) ↔ (q .limits .room < length (matchingIn (q .rule) w))
 no-room q w a enough = (nine-only-then q w a enough, nine-when-short q w a enough)
 
--- 10 is answered, where the room is ample, exactly when the rule counts more visits than are allowed; and then the visits made
--- are exactly the allowance.
+-- If they pass and the room is ample, the answer is 10 exactly when the rule counts more visits than are allowed. The visits
+-- made are then exactly the allowance.
 pub allowance-used-up : (q : Question) (w : Window) → Accepted (q .rule) w → AmpleRoom q w →
     ((figuresIn q w .refusal ≡ 10) ↔ (q .limits .allowance < visitsIn (q .rule) w))
     × (figuresIn q w .refusal ≡ 10 → figuresIn q w .visits ≡ q .limits .allowance)
 allowance-used-up q w a room = ((ten-only-then q w a room, ten-when-short q w a room), visits-in-allowance q w .1)
 
--- Without any allowance the answer is 10, whatever the room.
+-- If they pass and the allowance is 0, the answer is 10, whatever the room.
 pub no-allowance : (q : Question) (w : Window) → Accepted (q .rule) w → q .limits .allowance ≡ 0 → figuresIn q w .refusal ≡ 10
 no-allowance q w a none = ten-at-once q w a none
 
--- The demand in the words of its arguments: with a sound chain, readings, a window and a tolerance within their limits, room
--- for the matching cells and the greatest allowance, a cell is listed exactly if it lies in the window and each of its
--- differences is within the tolerance; the listed cells stand each once, in chart order; and their count and the visits are
--- right.
+-- The demand as one theorem. Given a sound chain, and readings, a window and a tolerance within their limits, with room for
+-- the matching cells and the greatest allowance: a cell is listed exactly if it lies in the window and each of its
+-- differences is within the tolerance; each cell is listed once, in chart order; and the count and the visits are right.
 pub every-such-cell : (c : Chain) (readings : List ℤ) (w : Window) (tolerance allowance entries : ℕ) →
     let q = questionOf c readings tolerance allowance entries in
     let places = searchOf q w .places in

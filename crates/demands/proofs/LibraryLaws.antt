@@ -1,4 +1,4 @@
--- What the library for C tells of each answer: the same number, and zeros beside a refusal.
+-- What the library for C returns for each answer: the same refusal number, and zeros after a refusal.
 use Prim.Native.Nat.{ℕ}
 use mathlib.Core.Path.{_≡_, refl, sym, ap, _∙_}
 use mathlib.Core.Bool.{Bool, true, false, _&&_}
@@ -37,7 +37,7 @@ use Rattle.lay.specs.Figures.{jobBy, chainNumbers, chainWith, chainBy, refusedW
 use Rattle.demands.specs.Numbers.{listedRefusal, NoneOr, Refuses, Leaves, searchNumbers, SearchIsTold}
 use Rattle.demands.proofs.NumberLaws.{wider, readings-number}
 
--- Nothing but the line number stands beside a refusal.
+-- After a refusal every figure but the line number is 0.
 entry-told : (line chain : ℕ) (e : LogEntry) (numbers : List ℕ) → NoneOr numbers (entryRefusal e) →
     let f = entryFigures line chain e in
     NoneOr numbers (f .refusal) × (Refuses (f .refusal) → (f .kind ≡ 0) × (f .chain ≡ 0) × (f .x ≡ pos 0) × (f .y ≡ pos 0))
@@ -70,7 +70,7 @@ unfolding chainLent chainRefusal
 chain-told bytes (named.Chain c) h = (chain-write-refusals bytes c, refused-chain-zeros bytes c)
 chain-told bytes (named.Refused number) h = (h, λ r. refl)
 
--- A chain by its stations, and one by its bytes: only that there are not as many is refused.
+-- A chain given by its stations, and one given by its bytes: it is refused only if there are too few or too many of them.
 pub stations-counted : (s : List ℕ) → NoneOr (1 ∷ 5 ∷ []) (chainRefusal (chainBy s))
 unfolding chainBy chainRefusal isAmong
 stations-counted s = go (eqb (length s) chainNumbers)
@@ -137,7 +137,7 @@ unfolding listedFigures listedRefusal
 listing-told (listed.Text n c) numbers h = (h, λ r. absurd (r refl))
 listing-told (listed.Refused number) numbers h = (h, λ r. (refl, refl))
 
--- A search: what the bytes are refused for, then what the search is.
+-- A search: first what is refused for the bytes, then what the search itself answers.
 not-searched : (number entries : ℕ) → NoneOr (1 ∷ 2 ∷ []) number → SearchIsTold entries (unsearched number entries)
 unfolding isAmong
 not-searched number entries h = (wider number (0 ∷ 1 ∷ 2 ∷ []) (0 ∷ searchNumbers) refl h, λ r. (refl, refl))

@@ -1,4 +1,4 @@
--- No refusal has the number 0: the tests leave answers that refuse by another number, or do not refuse.
+-- No refusal has the number 0: every test leads to an answer that is not a refusal, or to a refusal with another number.
 use Prim.Native.Nat.{ℕ, _-_, _*_}
 use mathlib.Core.Path.{_≡_, refl, subst⁻¹}
 use mathlib.Core.Bool.{Bool, true, false, cond}
@@ -35,11 +35,11 @@ use Rattle.listing.specs.declared.Carried.{Carried}
 use Rattle.listing.specs.declared.Carried.the-variants as carried
 use Rattle.listing.specs.Answers.{Fix, Refused, searched, fixBy, holdOf, answerBy}
 
--- An answer is not this one.
+-- The answer a is not the one named `zero`.
 abbrev Not : {A : Type 0} → A → A → Type 0
 Not zero a = a ≡ zero → ⊥
 
--- Two ends that differ.
+-- 0 and 1 differ.
 absurd-equal : _≡_ {A = ℕ} 0 1 → ⊥
 absurd-equal e = omega (arith, e)
 

@@ -1,4 +1,5 @@
--- Which numbers an answer may have, and what a refused search leaves: by the answers that the tests and the walk can end in.
+-- Which refusal numbers an answer may have, and what a refused search leaves. The proofs go through the ways in which the
+-- tests and the walk can end.
 use Prim.Native.Nat.{ℕ, _-_, _*_, _≤_}
 use mathlib.Core.Path.{_≡_, refl, sym, _∙_, subst, subst⁻¹}
 use mathlib.Core.Bool.{Bool, true, false, cond, _&&_, _||_, false≢true}
@@ -48,7 +49,7 @@ use Rattle.listing.specs.Answers.{searched, fixBy, holdOf, answerBy, programRoo
 use Rattle.listing.specs.Listings.{Part}
 use Rattle.demands.specs.Numbers.{recordRefusal, listedRefusal, NoneOr, Refuses}
 
--- Every number of one list is in another: so what is one of the first is one of the second.
+-- If every number of one list is in another list, then a number of the first list is in the second.
 abbrev pub allAmong : List ℕ → List ℕ → Bool
 allAmong [] numbers = true
 allAmong (n ∷ ns) numbers = isAmong n numbers && allAmong ns numbers
@@ -64,12 +65,13 @@ wider n (m ∷ ms) many all h =
     go true e h is rest = subst⁻¹ (λ (x : ℕ). isAmong x many ≡ true) (eqb-true n m e) is
     go false e h is rest = rest h
 
--- A number that refuses is one of the others.
+-- A number that is not 0, and is 0 or one of `numbers`, is one of `numbers`.
 pub some-number : (n : ℕ) (numbers : List ℕ) → NoneOr numbers n → Refuses n → isAmong n numbers ≡ true
 unfolding isAmong
 some-number n numbers h r = subst (λ (b : Bool). (b || isAmong n numbers) ≡ true) (ne-eqb n 0 r) h
 
--- Both answers of metres, and the readings at a place: the number, and what stands beside a refusal.
+-- Metres to centimetres, centimetres to metres, and the readings at a place: the refusal number, and the value after a
+-- refusal.
 pub whole-number : (a : Whole) → NoneOr (3 ∷ []) (wholeFigures a .refusal) × (Refuses (wholeFigures a .refusal) → wholeFigures a .centimetres ≡ pos 0)
 unfolding wholeFigures isAmong
 whole-number (whole.Centimetres z) = (refl, λ r. absurd (r refl))
@@ -93,7 +95,7 @@ readings-number c p = go (inRange p) (isSound c)
     go true false = (refl, λ r. refl)
     go false t = (refl, λ r. refl)
 
--- A listing that has room, and one that has not.
+-- A listing that has room in its buffer (b is true), and one that has not.
 pub listed-number : (b : Bool) (p : Part) (held text : List ℕ) →
     let answer = cond b (listed.Text (length (p .text)) (p .carried)) (listed.Refused 9) in
     NoneOr (9 ∷ []) (listedRefusal answer) × (Refuses (listedRefusal answer) → cond b text held ≡ held)
@@ -101,7 +103,7 @@ unfolding listedRefusal isAmong
 listed-number true p held text = (refl, λ r. absurd (r refl))
 listed-number false p held text = (refl, λ r. refl)
 
--- What holds of both ways that a test leaves, or of the one that it takes, holds after it.
+-- If P holds of both results of a test, or of the one that the test selects, it holds after the test.
 module _ (P : Outcome → Type 0) where
   either-way : (b : Bool) (x y : Outcome) → P x → P y → P (cond b x y)
   either-way true x y h k = h
@@ -118,7 +120,7 @@ module _ (P : Outcome → Type 0) where
   unfolding ended
   at-end s h k l = either-way (eqb (s .stop) 10) _ _ h (either-way (eqb (s .stop) 9) _ _ k l)
 
-  -- Of every search, and of one that passes the tests of its window and its tolerance.
+  -- The same for every search, and for a search whose window and tolerance pass their tests.
   module _ (q : Question) (w : Window) where
     pub any-search : P (refused ReadingTooLarge) → P (refused Unsound) → P (refused BadWindow) → P (refused BadTolerance) →
         ((v : ℕ) → P (refused (AllowanceUsed v))) → ((v : ℕ) → P (refused (NoRoom v))) → P (gone (walk q w .places) (walk q w .visits)) →
@@ -141,7 +143,7 @@ module _ (P : Outcome → Type 0) where
         (passed (isWindow w) BadWindow _ window
         (passed (leb (q .rule .tolerance) mostTolerance) BadTolerance _ tolerance (at-end (walk q w) (ten _) (nine _) on))))
 
--- Every answer of a search has one of its numbers.
+-- Every answer of a search has the number 0 or one of these.
 pub search-number : (a : Answer) → NoneOr (3 ∷ 5 ∷ 6 ∷ 7 ∷ 8 ∷ 9 ∷ 10 ∷ []) (searchFigures a .refusal)
 unfolding searchFigures isAmong
 search-number (Places count visits) = refl
@@ -212,14 +214,14 @@ room-kept q w =
     go [] v h = h
     go (p ∷ ps) v h = h
 
--- A list keeps its length where it has room for the places.
+-- A list keeps its length if it has room for the places.
 pub list-length : (n : ℕ) (ps : List Place) → 2 * length ps ≤ n → length (listOf n ps) ≡ n
 unfolding listOf
 list-length n ps h =
     length-append (entriesOf ps) (replicate (n - 2 * length ps) 0)
     ∙ omega (arith, length-entries ps, length-replicate {A = ℕ} (n - 2 * length ps) 0)
 
--- The window and the tolerance of an accepted job are good.
+-- The window and the tolerance of an accepted job pass the tests of a search.
 pub job-good : (s : List ℕ) (j : Job) → jobOf s ≡ job.Job j → (isWindow (j .window) ≡ true) × (leb (j .tolerance) mostTolerance ≡ true)
 job-good s j e = go (eqb (length s) jobBytes) (zerosKept s) (isWindow (jobIn s .window)) (leb (jobIn s .tolerance) mostTolerance) refl refl (sym (job-by-tests s) ∙ e)
   where
@@ -234,7 +236,7 @@ job-good s j e = go (eqb (length s) jobBytes) (zerosKept s) (isWindow (jobIn s .
         let same : jobIn s ≡ j = cc in
         subst (λ (x : Job). (isWindow (x .window) ≡ true) × (leb (x .tolerance) mostTolerance ≡ true)) same (ec, ed)
 
--- The numbers that a record of a log may answer with.
+-- The refusal numbers that the answer to a record of a log may have.
 abbrev pub recordNumbers : List ℕ
 recordNumbers = 1 ∷ 2 ∷ 3 ∷ 4 ∷ 5 ∷ 8 ∷ 9 ∷ 10 ∷ 11 ∷ []
 

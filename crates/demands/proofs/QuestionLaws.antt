@@ -1,4 +1,4 @@
--- The readings expected for a question that was typed: by the table, the chain's number and the place as they were typed.
+-- The readings expected for a typed question are those for the chain number and the place exactly as they were typed.
 use Prim.Native.Nat.{ℕ}
 use mathlib.Core.Path.{_≡_, refl, ap, ap₂, _∙_}
 use mathlib.Core.Bool.{Bool}

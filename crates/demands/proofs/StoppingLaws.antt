@@ -1,5 +1,6 @@
--- Where a walk stops with 9 the matching cells are more than the room, whatever the allowance; so with ample room only the
--- allowance stops it. A list whose numbers rise has each place once, and no square has more matching cells than cells.
+-- If a walk stops with 9, more cells match than there is room for, whatever the allowance; so with ample room only the
+-- allowance can stop it. Also: a list whose numbers rise has each place once, and no square has more matching cells than
+-- cells.
 use Prim.Native.Nat.{ℕ, zero, suc, _+_, _^_, _≤_, _<_}
 use mathlib.Core.Path.{_≡_, refl, sym, ap, _∙_}
 use mathlib.Core.Logic.{_⊎_, inl, inr}
@@ -27,7 +28,7 @@ use Rattle.search.proofs.Outcomes.{walk, ample-complete}
 use Rattle.search.proofs.Telling.{gone-small}
 use Rattle.demands.specs.Finding.{EachOnce}
 
--- The numbers behind the first are larger: so it stands once.
+-- All numbers after the first are larger, so the first place is in the list only once.
 above : (number : Place → ℕ) (p : Place) (l : List Place) → Rises number (p ∷ l) → (o : Place) → IsListed o l → number p < number o
 unfolding Rises
 above number p [] r o m = absurd (List·Memᴰ·not-nil m)
@@ -51,7 +52,8 @@ rising-once number (p ∷ l) r = (
 )
 
 module _ (q : Question) where
-  -- A part of a walk, of f matching cells: a stop before it stays, and where it stops with 9 the cells are more than the room.
+  -- A part of a walk, with f matching cells. If the walk was stopped before this part, it stays so. If this part stops it
+  -- with 9, the places listed before and these f cells are more than the room.
   record Fills (part : Standing → Standing) (f : ℕ) : Type 0 where
     stays : (s : Standing) → (s .stop ≡ 0 → ⊥) → part s .stop ≡ s .stop
     over : (ps : List Place) (v : ℕ) → part (going ps v) .stop ≡ 9 → q .limits .room < length ps + f
@@ -72,7 +74,7 @@ module _ (q : Question) where
           let full = a .over ps v (sym (b .stays (visit q k o (going ps v)) n) ∙ e) in
           omega (arith, full)
 
-  -- The stop of a visit that the allowance does not cover is 10.
+  -- A visit that the allowance does not cover stops with 10, so it does not stop with 9.
   not-out : (k : ℕ) (p : Place) (ps : List Place) (v : ℕ) → visit q k p (going ps v) .stop ≡ 9 → q .limits .allowance ≤ v → ⊥
   not-out k p ps v e h = eqb-false 10 9 refl (sym (ap (λ (s : Standing). s .stop) (visit-out q k p (going ps v) refl h)) ∙ e)
 
@@ -112,7 +114,7 @@ module _ (q : Question) where
       let ih : (o : Place) → Fills (visit q k o) (length (matching (q .rule) k o)) = λ o. fills k o in
       record { stays = visit-stays (suc k) p; over = λ ps v e. square-over k p ih ps v (isKept (q .rule) k p) refl (decLe (q .limits .allowance) v) e }
 
--- How an accepted search is told, by the stop of its walk.
+-- What an accepted search answers, according to how its walk stopped.
 module _ (q : Question) (w : Window) (a : Accepted (q .rule) w) where
   stop-10 : walk q w .stop ≡ 10 → figuresIn q w .refusal ≡ 10
   unfolding searchFigures
@@ -137,11 +139,11 @@ module _ (q : Question) (w : Window) (a : Accepted (q .rule) w) where
           let done = ap (λ (o : Outcome). searchFigures (o .answer) .refusal) (ample-complete q w a enough room) in
           absurd (omega (arith, e, done, gone-small (matchingIn (q .rule) w) (visitsIn (q .rule) w)))
 
-  -- With no allowance at all it is answered before anything else.
+  -- With an allowance of 0 the answer is 10 at once.
   pub ten-at-once : q .limits .allowance ≡ 0 → figuresIn q w .refusal ≡ 10
   ten-at-once none = stop-10 (ap (λ (s : Standing). s .stop) (visit-out q (w .k) (w .corner) start refl (omega arith)))
 
--- A square of side 2 ^ k has 4 ^ k cells, and no more of them match.
+-- A square of side 2 ^ k has 4 ^ k cells, so at most 4 ^ k cells match.
 cells-counted : (k : ℕ) (p : Place) → length (cells k p) ≡ 4 ^ k
 unfolding cells
 cells-counted zero p = refl

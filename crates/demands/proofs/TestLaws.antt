@@ -1,4 +1,4 @@
--- Which test before the walk refuses a search, and that a matching cell is answered with places.
+-- Which test before the walk refuses a search, and that a search with a matching cell answers with places.
 use Prim.Native.Nat.{ℕ}
 use mathlib.Core.Path.{_≡_, refl, sym, ap, _∙_, subst}
 use mathlib.Core.Logic.{_↔_}
@@ -22,7 +22,7 @@ use Rattle.records.specs.Refusals.{isAmong}
 use Rattle.demands.specs.Finding.{Enough}
 use Rattle.demands.proofs.NumberLaws.{at-end}
 
--- The number of a search, by how the four tests come out. Behind them it is none of theirs.
+-- The refusal number of a search, from the results of the four tests. If all four pass, it is none of their numbers.
 abbrev NumberBy : Bool → Bool → Bool → Bool → ℕ → Type 0
 NumberBy false b c d n = n ≡ 3
 NumberBy true false c d n = n ≡ 5
@@ -50,14 +50,14 @@ number-by q w = go (noneTooLarge (q .rule .wanted)) (isSound (q .rule .chain)) (
         at-end (λ (o : Outcome). isAmong (searchFigures (o .answer) .refusal) (3 ∷ 5 ∷ 6 ∷ 7 ∷ []) ≡ false) (walk q w)
         refl refl (last (walk q w .places) (walk q w .visits))
 
--- What both hold, and what neither does.
+-- Two statements that both hold are equivalent, and so are two that both fail.
 hold : {P Q : Type 0} → P → Q → P ↔ Q
 hold p q = ((λ _. q), (λ _. p))
 
 fail : {P Q : Type 0} → (P → ⊥) → (Q → ⊥) → P ↔ Q
 fail f g = ((λ p. absurd (f p)), (λ q. absurd (g q)))
 
--- Each number comes exactly if its test fails and those before it pass.
+-- Each number comes exactly if its test fails and the tests before it pass.
 abbrev pub InOrder : Bool → Bool → Bool → Bool → ℕ → Type 0
 InOrder a b c d n =
     ((n ≡ 3) ↔ (a ≡ false))
@@ -101,7 +101,7 @@ first-failure true true true true n h =
     )
 
 module _ (q : Question) (w : Window) where
-  -- The same of a search.
+  -- The same for a search.
   pub tests-in-order : InOrder (noneTooLarge (q .rule .wanted)) (isSound (q .rule .chain)) (isWindow w) (leb (q .rule .tolerance) mostTolerance) (figuresIn q w .refusal)
   tests-in-order =
       first-failure (noneTooLarge (q .rule .wanted)) (isSound (q .rule .chain)) (isWindow w) (leb (q .rule .tolerance) mostTolerance)

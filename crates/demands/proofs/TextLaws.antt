@@ -1,4 +1,5 @@
--- What is shown of a record that was written: a line without a refusal, whose fields, typed, are what the record was written from.
+-- How a job, a chain or a log record that was written is shown: as a line without a refusal, whose fields, typed in, give
+-- back what was written.
 use Prim.Native.Nat.{ℕ, _^_, _≤_, _<_}
 use mathlib.Core.Path.{_≡_, refl, sym, ap, ap₂, _∙_}
 use mathlib.Core.Bool.{true, false≢true}
@@ -49,7 +50,7 @@ use Rattle.parsing.proofs.Fields.{jobTyped, chainTyped, draftTyped, job-taken, 
 use Rattle.shown.specs.Fields.{wholeOr, centimetresText, refusedText}
 use Rattle.shown.specs.Lines.{lineWith, jobFigures, jobFields, jobText, jobLine, stationFigures, chainFields, chainText, refusalIn, chainLine, rawText, rawFields, recordText, recordLine}
 
--- Where nothing is refused, nothing stands behind the fields.
+-- If nothing is refused, only the newline follows the fields.
 plain-line : (word fields : List ℕ) (number : ℕ) (s : List ℕ) → number ≡ 0 →
     lineWith word fields number s ≡ word ++ (fields ++ bytesIn "\n")
 unfolding refusedText

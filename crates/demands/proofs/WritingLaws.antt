@@ -1,4 +1,4 @@
--- What the writer accepts of each kind, and where the chain number then stands.
+-- What the writer accepts for each kind of record, and which byte then holds the chain number.
 use Prim.Native.Nat.{ℕ, _≤_}
 use mathlib.Core.Path.{_≡_, refl, ap}
 use mathlib.Core.Bool.{true}
@@ -33,7 +33,7 @@ pub hold-accepted : (chain line : ℕ) (x y : ℤ) → refusalOf 32 (record { ki
 unfolding refusalOf
 hold-accepted chain line x y = refl
 
--- The chain number of a hyperbolic record stands in byte 1.
+-- The chain number of a hyperbolic record is in byte 1.
 pub chain-byte : (chain line : ℕ) (a b : ℤ) →
     let d : Draft = record { kind = 1; chain = chain; line = line; x = a; y = b } in
     refusalOf 32 d ≡ 0 → byteAt (bufferOf 32 d) 1 ≡ chain

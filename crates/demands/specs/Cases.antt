@@ -1,4 +1,4 @@
--- The ten cases that 01 marks P as one table: what is asked, and what 01 says is answered (01, Examples to hold on to).
+-- The ten cases that 01 marks P, as one table: each question, and the answer that 01 gives (01, Examples to hold on to).
 use Prim.Native.Nat.{ℕ, _*_}
 use Prim.Native.String.{String}
 use mathlib.Core.List.{List, [], _∷_}
@@ -17,33 +17,33 @@ use Rattle.search.specs.declared.SearchFigures.{SearchFigures}
 use Rattle.search.specs.Questions.{Question, questionOf}
 use Rattle.search.specs.Answers.{searchOf, figuresIn}
 
--- What may be asked of the definitions.
+-- A question that a case puts to the definitions.
 pub data Asked : Type 0 where
   -- The readings expected at a place.
   readingsAt : Place → Asked
   -- A search: the window's corner and exponent, the tolerance, readings A and B, the room in places, the allowance.
   search : Place → ℕ → ℕ → ℤ → ℤ → ℕ → ℕ → Asked
-  -- A number of metres in whole centimetres.
+  -- How many whole centimetres a number of metres gives.
   centimetresIn : Float → Asked
 
--- What they answer: figures, with the places of a search.
+-- What the definitions answer: figures, and for a search also its places.
 pub data Answered : Type 0 where
   readings : Figures → Answered
   found : SearchFigures → List Place → Answered
   centimetres : WholeFigures → Answered
 
--- A case by its name in 01.
+-- A case: its name in 01, its question, and the answer that 01 gives.
 pub record Case : Type 0 where
   pub name : String
   pub asked : Asked
   pub answered : Answered
 
--- A number below zero.
+-- The number -n.
 abbrev pub minus : ℕ → ℤ
 minus n = negℤ (pos n)
 
--- What holds of all cases unless said otherwise: chain 1, readings of -100.0 m and -200.0 m, the window's corner, and room
--- and allowance ample.
+-- What all cases use unless they say otherwise: chain 1, readings of -100.0 m and -200.0 m, the window's corner, and 100 as
+-- ample room and ample allowance.
 abbrev pub chain1 : Chain
 chain1 = record { master = placeOf 0 0; a = placeOf 30_000 0; b = placeOf 0 40_000 }
 
@@ -59,26 +59,26 @@ corner = placeOf 30_000 40_000
 abbrev pub ample : ℕ
 ample = 100
 
--- A number of metres by its thousandths: one rounded division, which is exact for the four of P10.
+-- n thousandths of a metre: one rounded division, which is exact for the four numbers of P10.
 abbrev pub thousandths : ℤ → Float
 unfolding div ofInt
 thousandths n = div binary64 (ofInt binary64 n) (ofInt binary64 (pos 1000))
 
--- The question of a search by chain 1. Room for a place is two entries of a list.
+-- The question of a search with chain 1. A place takes two entries of the list.
 abbrev pub caseQuestion : ℕ → ℤ → ℤ → ℕ → ℕ → Question
 caseQuestion t a b room allowance = questionOf chain1 (a ∷ b ∷ []) t allowance (2 * room)
 
 abbrev pub windowAt : Place → ℕ → Window
 windowAt o k = record { corner = o; k = k }
 
--- What the definitions answer.
+-- What the definitions answer to a question.
 unfoldable pub answerTo : Asked → Answered
 answerTo (readingsAt p) = readings (figuresOf (expectedAt chain1 p))
 answerTo (search o k t a b room allowance) =
     found (figuresIn (caseQuestion t a b room allowance) (windowAt o k)) (searchOf (caseQuestion t a b room allowance) (windowAt o k) .places)
 answerTo (centimetresIn x) = centimetres (wholeFigures (centimetresOf x))
 
--- Answers as 01 says them: two readings; places and visits; a refusal and visits; centimetres.
+-- Answers in the form in which 01 gives them: two readings; places and visits; a refusal and visits; centimetres.
 abbrev pub theReadings : ℤ → ℤ → Answered
 theReadings a b = readings (record { refusal = 0; a = a; b = b })
 
@@ -113,7 +113,7 @@ pCases =
     ∷ case "P10, 0.625" (centimetresIn (thousandths (pos 625))) (theCentimetres (pos 62))
     ∷ []
 
--- What is answered to every case of a table, and what the table says.
+-- For every case of a table: what the definitions answer, and what the table says.
 unfoldable pub answersTo : List Case → List Answered
 answersTo [] = []
 answersTo (c ∷ cs) = answerTo (c .asked) ∷ answersTo cs

@@ -1,4 +1,4 @@
--- What the third demand takes for granted of a search, and what it asks of the list.
+-- What demand 3 assumes about a search, and what it requires of the list.
 use Prim.Native.Nat.{ℕ, _≤_}
 use mathlib.Core.Path.{_≡_}
 use mathlib.Core.Bool.{true}
@@ -30,7 +30,7 @@ unfoldable pub EachWithin : ℕ → Chain → List Wanted → Place → Type 0
 EachWithin t c [] o = Unit {0}
 EachWithin t c (w ∷ ws) o = (differ (readingOf c (w .slave) o) (w .reading) ≤ t) × EachWithin t c ws o
 
--- No place stands twice in a list.
+-- No place is in the list twice.
 unfoldable pub EachOnce : List Place → Type 0
 EachOnce [] = Unit {0}
 EachOnce (p ∷ ps) = (IsListed p ps → ⊥) × EachOnce ps

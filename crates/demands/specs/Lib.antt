@@ -1,4 +1,4 @@
--- What the theorems of this crate are stated with.
+-- The definitions that the theorems of this crate use.
 pub mod Cases
 pub mod Numbers
 pub mod Finding

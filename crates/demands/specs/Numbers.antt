@@ -1,4 +1,5 @@
--- What is said of the number in an answer, 0 for none (01, Numbers of refusal), and of all that a search leaves.
+-- Terms in which demand 1 is stated: the refusal number in an answer, 0 for none (01, Numbers of refusal), and all that a
+-- search leaves in its figures and its list.
 use Prim.Native.Nat.{ℕ, _≤_}
 use mathlib.Core.Path.{_≡_}
 use mathlib.Core.Bool.{true}
@@ -13,7 +14,7 @@ use Rattle.listing.specs.declared.Listed.the-variants as listed
 use Rattle.lay.specs.Figures.{SearchTold}
 use Rattle.listing.specs.Answers.{RecordAnswer, Fix, Grid, Hold, Refused}
 
--- The number in what a record of a log answers, and in what a listing does.
+-- The refusal number in the answer to a record of a log, and in the answer to a listing.
 unfoldable pub recordRefusal : RecordAnswer → ℕ
 recordRefusal (Fix visits places) = 0
 recordRefusal (Grid p) = 0
@@ -24,28 +25,29 @@ unfoldable pub listedRefusal : Listed → ℕ
 listedRefusal (listed.Text bytes carried) = 0
 listedRefusal (listed.Refused number) = number
 
--- A number is 0, which is none, or one of these.
+-- n is 0, which means no refusal, or one of `numbers`.
 abbrev pub NoneOr : List ℕ → ℕ → Type 0
 NoneOr numbers n = isAmong n (0 ∷ numbers) ≡ true
 
--- A number that refuses.
+-- n is the number of a refusal: it is not 0.
 abbrev pub Refuses : ℕ → Type 0
 Refuses n = n ≡ 0 → ⊥
 
--- What any search leaves in its figures and in a list of so many entries.
+-- What any search leaves in its figures and in a list of `entries` entries.
 pub record Leaves (q : Question) (w : Window) (entries : ℕ) : Type 0 where
-  -- An answer, or one of 01's numbers.
+  -- 0 for an answer, or one of these numbers of 01.
   pub number : NoneOr (3 ∷ 5 ∷ 6 ∷ 7 ∷ 8 ∷ 9 ∷ 10 ∷ []) (figuresIn q w .refusal)
-  -- After a refusal the whole list is zeros, a left-over half place too, and the count is nought.
+  -- After a refusal the whole list is zeros, including a left-over half place, and the count is 0.
   pub zeros : Refuses (figuresIn q w .refusal) → listOf entries (searchOf q w .places) ≡ replicate entries 0
   pub nought : Refuses (figuresIn q w .refusal) → figuresIn q w .count ≡ 0
-  -- A search refused before its walk makes no visit; none makes more than allowed, and 10 tells of exactly as many.
+  -- A search that is refused before its walk makes no visit. No search makes more visits than the allowance, and one that is
+  -- refused with 10 makes exactly as many.
   pub unvisited : isAmong (figuresIn q w .refusal) (3 ∷ 5 ∷ 6 ∷ 7 ∷ []) ≡ true → figuresIn q w .visits ≡ 0
   pub allowed : figuresIn q w .visits ≤ q .limits .allowance
   pub used-up : figuresIn q w .refusal ≡ 10 → figuresIn q w .visits ≡ q .limits .allowance
 
--- What the library for C tells of any search by bytes, in a list of so many entries: one of these numbers, and after a refusal
--- zeros and nought.
+-- What the library for C returns for any search by bytes, with a list of `entries` entries: 0 or one of `searchNumbers`;
+-- after a refusal the list is zeros and the count is 0.
 abbrev pub searchNumbers : List ℕ
 searchNumbers = 1 ∷ 2 ∷ 3 ∷ 5 ∷ 6 ∷ 7 ∷ 8 ∷ 9 ∷ 10 ∷ []
 

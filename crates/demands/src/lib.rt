@@ -1,1 +1,1 @@
-// The three demands of the request and the ten cases of document 01: theorems on the definitions, and no code.
+// The three demands of the request and the ten cases of document 01 as theorems about the definitions. There is no code here.

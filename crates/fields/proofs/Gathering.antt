@@ -1,5 +1,5 @@
--- A field read from its highest byte down: what is held after each byte.
--- The field from i on is the byte at i and 256 times the field from i + 1 on.
+-- A field read from its highest byte down: what n holds after each byte.
+-- The field from byte i on is byte i plus 256 times the field from byte i + 1 on.
 use Prim.Native.Nat.{ℕ, suc, _+_, _-_, _*_, _^_, _≤_, _<_}
 use mathlib.Core.Path.{_≡_, ap, ap₂, _∙_, subst}
 use mathlib.Core.List.{List}
@@ -9,7 +9,7 @@ use lib.ListN.{length, getD}
 use Rattle.fields.specs.Fields.{valueOf, fieldAt}
 use Rattle.fields.proofs.FieldLaws.{field-cons}
 
--- n is the number in the bytes from i up to the width.
+-- n is the number in the bytes of the field from byte i on.
 pub record Held (s : List ℕ) (at width i n : ℕ) : Type 0 where
   pub within : i ≤ width
   pub value : n ≡ fieldAt (width - i) s (at + i)
@@ -34,7 +34,7 @@ held-more s at width i n b fits pos h e small =
       small = rw more (omega (arith, pow-suc 256 (width - i), h .small));
     }
 
--- Before the last byte there is room for it.
+-- As long as a byte is left to read, n has room for it.
 pub held-room : (s : List ℕ) (at width i n : ℕ) → width ≤ 8 → 0 < i → Held s at width i n → n < 256 ^ 7
 held-room s at width i n w pos h = lt-of-lt-of-le (h .small) (pow-le-pow-right (omega arith) {j = 7} (omega (arith, h .within)))
 

@@ -1,5 +1,5 @@
 -- A field written from its lowest byte up: what the buffer holds after each byte.
--- What is written so far, followed by what is still to come, is the finished buffer from the start on.
+-- At every step, what is written so far, followed by what is still to come, is the finished buffer.
 use Prim.Native.Nat.{ℕ, suc, _+_, _-_, _/_, _%_, _≤_, _<_}
 use mathlib.Core.Path.{_≡_, refl, sym, ap, _∙_}
 use mathlib.Core.List.{List, _++_, append-assoc}
@@ -9,7 +9,7 @@ use lib.ListN.{length, take, drop, set, length-set, take-append-drop}
 use lib.Seq.{take-suc-set, drop-set-lt}
 use Rattle.fields.specs.Fields.{bytesOf, filled}
 
--- s₀ is being filled: s has i bytes of it, and rest is what is left of the number.
+-- s₀ is being filled: s has the first i bytes of the field, and `rest` is what is left of the number.
 pub record Filling (s₀ : List ℕ) (at width n : ℕ) (s : List ℕ) (rest i : ℕ) : Type 0 where
   pub within : i ≤ width
   pub same : length s ≡ length s₀

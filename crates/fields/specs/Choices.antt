@@ -1,7 +1,7 @@
--- A choice of which one side is worked out only where it is taken.
+-- A choice between two values, one of which is worked out only if it is taken.
 use mathlib.Core.Bool.{Bool, true, false}
 
--- Where so, what is then worked out; else the other.
+-- If the test holds, what `work` gives, worked out only then; otherwise `other`.
 abbrev pub whereSo : {A : Type 0} → Bool → A → (Unit {0} → A) → A
 whereSo true other work = work tt
 whereSo false other work = other

@@ -1,3 +1,3 @@
--- What the bytes of a field stand for; and a choice that crates above share.
+-- The number that the bytes of a field stand for, and a choice that the crates above share.
 pub mod Fields
 pub mod Choices

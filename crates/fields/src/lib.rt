@@ -4,13 +4,13 @@ ghost use Prim.Native.Nat.{_+_, _≤_, _<_, _^_};
 ghost use lib.ListN.{length};
 ghost use Rattle.fields.specs.Fields.{liesInside, inside, fieldAt, filled, fourAt, eightAt, putAt};
 
-// What stands in four bytes: a number, or nothing where they are not all inside the slice.
+// What is read from four bytes: a number, or `Outside` if they are not all inside the slice.
 pub enum Four {
     Value(u32),
     Outside,
 }
 
-// The same of eight bytes.
+// The same for eight bytes.
 pub enum Eight {
     Value(u64),
     Outside,
@@ -36,7 +36,7 @@ pub fn eight_at(s: &[u8], at: usize) -> Eight
     Eight::Value(gathered(s, at, 8))
 }
 
-// Puts n into the four bytes of s from `at` on and answers true, or changes nothing and answers false.
+// Puts n into the four bytes of s from `at` on and answers true; if they are not all inside s, changes nothing and answers false.
 pub fn put_four(s: &mut [u8], at: usize, n: u32) -> bool
     ensures answer { λ r. ⌜ r ≡ inside 4 (now (s .entry)) at ⌝ }
     ensures buffer { λ r. ⌜ now (s .exit) ≡ putAt 4 (now (s .entry)) at n ⌝ }
@@ -44,7 +44,7 @@ pub fn put_four(s: &mut [u8], at: usize, n: u32) -> bool
     put(s, at, 4, n as u64)
 }
 
-// Puts n into the eight bytes of s from `at` on and answers true, or changes nothing and answers false.
+// Puts n into the eight bytes of s from `at` on and answers true; if they are not all inside s, changes nothing and answers false.
 pub fn put_eight(s: &mut [u8], at: usize, n: u64) -> bool
     ensures answer { λ r. ⌜ r ≡ inside 8 (now (s .entry)) at ⌝ }
     ensures buffer { λ r. ⌜ now (s .exit) ≡ putAt 8 (now (s .entry)) at n ⌝ }
@@ -52,7 +52,7 @@ pub fn put_eight(s: &mut [u8], at: usize, n: u64) -> bool
     put(s, at, 8, n)
 }
 
-// Whether so many bytes from `at` on lie inside a slice of so many. The sum of at and width may be too large for a usize.
+// Whether `width` bytes from `at` on lie inside a slice of `bytes` bytes. The sum of at and width may be too large for a usize.
 pub fn lies_inside(bytes: usize, at: usize, width: usize) -> bool
     ensures { λ r. ⌜ r ≡ liesInside bytes at width ⌝ }
 {
@@ -62,7 +62,7 @@ pub fn lies_inside(bytes: usize, at: usize, width: usize) -> bool
     at <= bytes - width
 }
 
-// Puts n at any width.
+// Puts n into the `width` bytes of s from `at` on, and answers like `put_four`.
 fn put(s: &mut [u8], at: usize, width: usize, n: u64) -> bool
     ensures answer { λ r. ⌜ r ≡ inside width (now (s .entry)) at ⌝ }
     ensures buffer { λ r. ⌜ now (s .exit) ≡ putAt width (now (s .entry)) at n ⌝ }
@@ -74,7 +74,7 @@ fn put(s: &mut [u8], at: usize, width: usize, n: u64) -> bool
     true
 }
 
-// The number in a field that lies inside s, from its highest byte down.
+// The number in a field that lies inside s, read from its highest byte down.
 fn gathered(s: &[u8], at: usize, width: usize) -> u64
     requires { ⌜ (at + width ≤ length (now s)) × (width ≤ 8) ⌝ }
     ensures { λ r. ⌜ (r ≡ fieldAt width (now (s .entry)) at) × (r < 256 ^ width) ⌝ }

@@ -1,4 +1,4 @@
--- The laws on what opening a file comes to, on words that are put into a line, on bytes that are moved to the front of a buffer,
+-- The laws on the result of opening a file, on words that are put into a line, on bytes that are moved to the front of a buffer,
 -- and on the line that comes next.
 mod OpenLaws
 pub mod WordLaws

@@ -1,4 +1,4 @@
--- What comes next in a text, by whether it has bytes and a newline; and a line that comes next stands in the buffer.
+-- What comes next in a text, according to whether it has bytes and a newline; and that a line that comes next is in the buffer.
 use Prim.Native.Nat.{ℕ, _+_, _-_, _≤_, _<_, min}
 use mathlib.Core.Bool.{Bool, true, false, cond, _||_}
 use mathlib.Core.List.{List, [], _∷_, _++_}
@@ -20,7 +20,7 @@ use Rattle.files.proofs.Input.{the-type}
 pub text-size : (b : List ℕ) (from to : ℕ) → to ≤ length b → length (between from to b) ≡ to - from
 text-size b from to h = length-take (to - from) _ ∙ omega (arith, length-drop from b)
 
--- Where the first newline of a text stands.
+-- How many bytes come before the first newline of a text: all of them if it has none.
 abbrev pub newlineIn : List ℕ → ℕ → ℕ → ℕ
 newlineIn b from to = run isInLine (between from to b)
 
@@ -50,12 +50,12 @@ module _ (b : List ℕ) (from to : ℕ) (inside : to ≤ length b) where
       let e : ltb from to ≡ false = le-ltb from to none in
       ap (λ (t : Bool). cond t input.Cut input.End) (sym e) ∙ next-without (omega arith)
 
--- A line that stands there is there, and so is what stands in text that stops before the buffer does; and nothing else is.
+-- Nothing more needs to be read if the text has a whole line, or if it ends before the buffer does; and in no other case.
 or-true : (t : Bool) → t || true ≡ true
 or-true true = refl
 or-true false = refl
 
--- Text without a newline is no line.
+-- Text without a newline is not a line.
 never-without : (t : Bool) {start end stop : ℕ} → input.Line start end stop ≡ cond t input.Cut input.End → ⊥
 never-without true e = let z : _≡_ {A = ℕ} 0 1 = cc in omega arith
 never-without false e = let z : _≡_ {A = ℕ} 0 1 = cc in omega arith
@@ -79,7 +79,7 @@ not-there b from to h never = go (hasNewline (between from to b)) never
     go true none = absurd (none (from + newlineIn b from to) refl)
     go false none = le-ltb to (length b) h
 
--- So what comes next is what is there, or what is read.
+-- So what comes next is in the text that is there, or in what is read.
 pub next-there : (b : List ℕ) (from to stop : ℕ) {r : Input} → stop ≡ min to (length b) → isThere b from stop ≡ true → r ≡ nextIn b from stop → IsNext b from to b r
 next-there b from to stop {r} same there e =
     subst (λ (n : ℕ). NextBy (isThere b from n) b from n b r) same
@@ -90,7 +90,7 @@ next-read b from to stop {now} {r} same none e =
     subst (λ (n : ℕ). NextBy (isThere b from n) b from n now r) same
     (subst⁻¹ (λ (t : Bool). NextBy t b from stop now r) none e)
 
--- The text that was kept stands at the front, whatever is read behind it.
+-- The text that was kept is at the front, whatever is read after it.
 pub is-read : (b : List ℕ) (from to kept : ℕ) (moved rest : List ℕ) {r : Input} → kept ≡ length (between from to b) → moved ≡ between from to b ++ drop kept b →
     length (take kept moved ++ rest) ≡ length b → Comes kept (take kept moved ++ rest) r → IsRead b from to (take kept moved ++ rest) r
 is-read b from to kept moved rest {r} size now same comes =
@@ -102,7 +102,7 @@ is-read b from to kept moved rest {r} size now same comes =
       comes = subst (λ (n : ℕ). Comes n (take kept moved ++ rest) r) size comes;
     }
 
--- Where a line comes next or reading failed, the text does not end; and what holds of both things holds of the one.
+-- If a line comes next or reading failed, `atEnd` is `other`; and what holds for both `there` and `other` holds for `atEnd`.
 pub not-at-end : {A : Type 0} (i : Input) (there other : A) → OneOf (0 ∷ 3 ∷ []) (tagOf the-type i) → other ≡ atEnd i there other
 not-at-end (input.Line start end stop) there other key = refl
 not-at-end input.Cut there other key = refl
@@ -116,7 +116,7 @@ holds-at-end P input.Cut there other p q = q
 holds-at-end P input.End there other p q = p
 holds-at-end P input.Failed there other p q = q
 
--- A line lies before the place where its text stops, which is in the buffer.
+-- A line ends before its text does, and the text ends within the buffer.
 pub record IsLine (buffer : List ℕ) (start end stop : ℕ) : Type 0 where
   pub rises : start ≤ end
   pub inside : end < stop
@@ -139,7 +139,7 @@ line-read : {kept : ℕ} {now : List ℕ} {start end stop : ℕ} → Comes kept 
 line-read (failed e) = let z : _≡_ {A = ℕ} 0 1 = cc in absurd (omega arith)
 line-read {now = now} (read stop few fits e) = line-in now 0 stop fits e
 
--- So does a line that comes next, in the buffer as it then is.
+-- The same for a line that comes next, in the buffer as it then is.
 pub line-next : (before : List ℕ) (from to : ℕ) (now : List ℕ) {start end stop : ℕ} → IsNext before from to now (input.Line start end stop) → IsLine now start end stop
 line-next before from to now {start} {end} {stop} n = go (isThere before from (min to (length before))) n
   where

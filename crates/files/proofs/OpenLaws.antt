@@ -1,4 +1,4 @@
--- What opening a file comes to, by the tests of the code.
+-- The result of opening a file, from the tests that the code makes.
 use Prim.Native.Nat.{ℕ, _≤_}
 use mathlib.Core.Bool.{Bool, true, false, cond}
 use mathlib.Core.Path.{_≡_, refl, sym, ap, subst⁻¹}
@@ -29,7 +29,7 @@ other-error (pos n) never =
     ap (λ (t : Bool). cond t opened.Missing opened.Failed) (sym e)
 other-error (negsuc n) never = refl
 
--- A file has a descriptor that is not below 0, whatever opening answered.
+-- An opened file has a descriptor that is not below 0, whatever the system call returned.
 is-open-by : (t : Bool) → IsOpen (cond t opened.Missing opened.Failed)
 is-open-by true = tt
 is-open-by false = tt
@@ -39,14 +39,14 @@ is-open (pos n) error = tt
 is-open (negsuc n) (pos m) = is-open-by (eqb m 2)
 is-open (negsuc n) (negsuc m) = tt
 
--- The start of a file that is not there, and of one that could not be opened.
+-- The start of a missing file, and of one that could not be opened.
 pub missing-started : {file : Opened} (room : ℕ) → file ≡ opened.Missing → IsStarted file room noBytes
 missing-started room e = subst⁻¹ (λ (o : Opened). IsStarted o room noBytes) e refl
 
 pub failed-started : {file : Opened} (room : ℕ) → file ≡ opened.Failed → IsStarted file room filled.Failed
 failed-started room e = subst⁻¹ (λ (o : Opened). IsStarted o room filled.Failed) e refl
 
--- The start of a file has no more bytes than there is room for, however opening it went.
+-- The start of a file has no more bytes than there is room for, whether or not it could be opened.
 pub started-room : (file : Opened) {room : ℕ} (r : Filled) → IsStarted file room r → filledBytes r ≤ room
 started-room (opened.File descriptor) r h = h
 started-room opened.Missing r h = omega (arith, ap filledBytes h)

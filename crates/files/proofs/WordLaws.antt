@@ -1,4 +1,4 @@
--- A word put behind those that are there makes one more.
+-- A word put after the words of a line makes a line of one word more.
 use Prim.Native.Nat.{ℕ, suc, _+_, _-_, _≤_, _<_}
 use mathlib.Core.Bool.{Bool, true, false, _&&_}
 use mathlib.Core.List.{List, [], _∷_, _++_}
@@ -18,11 +18,11 @@ first-of : (a b : Bool) → a && b ≡ true → a ≡ true
 first-of true b h = refl
 first-of false b h = h
 
--- A word has a byte.
+-- A word has at least one byte.
 word-size : (w : List ℕ) → isOneWord w ≡ true → 1 ≤ length w
 word-size w h = leb-true 1 (length w) (first-of (leb 1 (length w)) (eqb (run isInWord w) (length w)) h)
 
--- No bytes are no words, and some bytes are some words.
+-- A line without bytes has no words, and a line with bytes has at least one.
 words-none : {n : ℕ} {s : List ℕ} → AreWords n s → length s ≡ 0 → n ≡ 0
 words-none none e = refl
 words-none (one w h) e = absurd (omega (arith, word-size w h))
@@ -40,7 +40,7 @@ one-more-word n s w ws some h =
     let count : suc (suc m) ≡ n + 1 = omega arith in
     subst (λ (k : ℕ). AreWords k (s ++ (32 ∷ w))) count (more m s w (subst (λ (k : ℕ). AreWords k s) e ws) h)
 
--- The first word of a line.
+-- The first word is put into a line.
 pub puts-first : (before now : List ℕ) (r : Words) (n end : ℕ) → end ≡ 0 → PutsWord before 0 now r → AreWords n (take end before) → IsLineOf (n + 1) now r
 puts-first before now (words.Line e) n end start puts ws =
     let same : e - 0 ≡ e = omega arith in
@@ -49,7 +49,7 @@ puts-first before now (words.Line e) n end start puts ws =
 puts-first before now words.Unfit n end start puts ws = tt
 puts-first before now words.Helped n end start puts ws = puts
 
--- One behind a space.
+-- A further word is put, after a space.
 pub puts-next : (before now : List ℕ) (r : Words) (n end : ℕ) → 0 < end → end < length before → PutsWord (set before end 32) (end + 1) now r → AreWords n (take end before) → IsLineOf (n + 1) now r
 puts-next before now (words.Line e) n end some room puts ws =
     let w = take (e - (end + 1)) (drop (end + 1) now) in
@@ -65,18 +65,18 @@ puts-next before now (words.Line e) n end some room puts ws =
 puts-next before now words.Unfit n end some room puts ws = tt
 puts-next before now words.Helped n end some room puts ws = puts
 
--- What holds of a line whether or not help is asked for.
+-- What holds for the arguments, whether or not help is asked for.
 pub given-line : (asked : Bool) (line : List ℕ) (r : Words) → IsGiven asked line r → IsArguments line r
 given-line true line r same = subst⁻¹ (IsArguments line) same tt
 given-line false line (words.Line n) given = (given .1 .0, (given .0, given .1 .1))
 given-line false line words.Unfit given = tt
 given-line false line words.Helped given = tt
 
--- The line of the arguments ends in its buffer.
+-- The line of the arguments ends within its buffer.
 pub line-inside : (line : List ℕ) (r : Words) {n : ℕ} → IsArguments line r → r ≡ words.Line n → n ≤ length line
 line-inside line r given is = subst (IsArguments line) is given .0
 
--- In a line of a byte it has a byte at most.
+-- In a buffer of one byte it has at most one byte.
 pub is-spare : (line : List ℕ) (r : Words) → length line ≡ 1 → IsArguments line r → IsSpare r
 is-spare line (words.Line n) size given = omega (arith, given .0, size)
 is-spare line words.Unfit size given = tt

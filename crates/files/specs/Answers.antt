@@ -1,4 +1,4 @@
--- What the answers hold: a file that can be read, how much of a buffer is filled, and the line of the arguments.
+-- What the functions promise about their answers: an opened file, how much of a buffer is filled, and the line of the arguments.
 use Prim.Native.Nat.{ℕ, suc, _-_, _≤_}
 use mathlib.Core.Bool.{Bool, true, false, cond}
 use mathlib.Core.List.{List, [], _∷_, _++_}
@@ -21,7 +21,8 @@ IsOpen (opened.File descriptor) = T (nonNeg descriptor)
 IsOpen opened.Missing = Unit {0}
 IsOpen opened.Failed = Unit {0}
 
--- What opening a file comes to, by what it answered, and by the error where that is below 0: 2, ENOENT, is that there is none.
+-- The result of opening a file, from what the system call returned and, if that is below 0, from the error: 2, which is ENOENT,
+-- means that there is no such file.
 abbrev pub notOpened : ℤ → Opened
 notOpened (pos error) = cond (eqb error 2) opened.Missing opened.Failed
 notOpened (negsuc n) = opened.Failed
@@ -38,48 +39,48 @@ filledBytes filled.Failed = 0
 abbrev pub noBytes : Filled
 noBytes = filled.Bytes 0
 
--- The start of a file, by how opening it went, in a buffer of so many bytes.
+-- The answer when the start of a file is read into a buffer of `room` bytes, according to how opening the file went.
 abbrev pub IsStarted : Opened → ℕ → Filled → Type 0
 IsStarted (opened.File descriptor) room r = filledBytes r ≤ room
 IsStarted opened.Missing room r = r ≡ noBytes
 IsStarted opened.Failed room r = r ≡ filled.Failed
 
--- So many words, with single spaces between them.
+-- A text is a given number of words, with single spaces between them.
 pub data AreWords : ℕ → List ℕ → Type 0 where
   none : AreWords 0 []
   one : (w : List ℕ) → isOneWord w ≡ true → AreWords 1 w
   more : (n : ℕ) (s w : List ℕ) → AreWords (suc n) s → isOneWord w ≡ true → AreWords (suc (suc n)) (s ++ (32 ∷ w))
 
--- The line of so many arguments at the start of a buffer, or that one of them is no word.
+-- The line of `count` arguments at the start of a buffer; or `Unfit`, about which nothing more is promised.
 abbrev pub IsLineOf : ℕ → List ℕ → Words → Type 0
 IsLineOf count line (words.Line n) = (n ≤ length line) × AreWords count (take n line)
 IsLineOf count line words.Unfit = Unit {0}
 IsLineOf count line words.Helped = ⊥
 
--- Where help is asked for there is no line; else there may be one, of however many words.
+-- If help is asked for there is no line; else there may be one, of any number of words.
 abbrev pub IsGiven : Bool → List ℕ → Words → Type 0
 IsGiven true line r = r ≡ words.Helped
 IsGiven false line r = (count : ℕ) × IsLineOf count line r
 
--- The same of the arguments, whether or not they ask for help.
+-- What holds in either case, whether or not help is asked for.
 abbrev pub IsArguments : List ℕ → Words → Type 0
 IsArguments line (words.Line n) = (n ≤ length line) × ((count : ℕ) × AreWords count (take n line))
 IsArguments line words.Unfit = Unit {0}
 IsArguments line words.Helped = Unit {0}
 
--- None was given, and no help asked for.
+-- No argument was given, and help was not asked for.
 abbrev pub noneGiven : Words → Bool
 noneGiven (words.Line n) = eqb n 0
 noneGiven words.Unfit = false
 noneGiven words.Helped = false
 
--- The arguments of a program that takes none: a line of a byte at most.
+-- The arguments of a program that takes none: a line of at most one byte.
 abbrev pub IsSpare : Words → Type 0
 IsSpare (words.Line n) = n ≤ 1
 IsSpare words.Unfit = Unit {0}
 IsSpare words.Helped = Unit {0}
 
--- A word was put into a line behind what stood before a place, up to where it ends.
+-- A word was put into a line from `at` up to `end`, and what is before `at` did not change.
 abbrev pub PutsWord : List ℕ → ℕ → List ℕ → Words → Type 0
 PutsWord before at now (words.Line end) = (end ≤ length now) × ((take at now ≡ take at before) × (isOneWord (take (end - at) (drop at now)) ≡ true))
 PutsWord before at now words.Unfit = Unit {0}

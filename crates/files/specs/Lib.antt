@@ -1,3 +1,3 @@
--- What the functions promise of their answers, and what the next line of an input is.
+-- What the functions promise about their answers, and what the next line of an input is.
 pub mod Answers
 pub mod Input

@@ -1,7 +1,6 @@
-// What the programs share of the outside: files by name, the arguments, the lines of standard input, standard output, and what is
-// told on standard error.
-// No contract can say what is read or written. Each says what it can of the answer; where that goes by what a call below answered,
-// a private function takes it as an argument, and its answer follows from it.
+// What the programs share to call the operating system: files by name, arguments, lines of standard input, standard output, and
+// messages on standard error. No contract can say what is read or written; each says what it can about the answer. If the answer
+// depends on what another call returned, a private function takes that as an argument, and its answer follows from it.
 ghost use mathlib.Core.Bool.{true, false};
 ghost use mathlib.Core.List.{_++_};
 ghost use mathlib.Core.Path.{_≡_};
@@ -13,35 +12,37 @@ use libc::STDERR_FILENO;
 use libc::STDIN_FILENO;
 use libc::STDOUT_FILENO;
 
-// The longest line, with its newline.
+// The length of the longest line, with its newline.
 pub const LINE_BYTES: usize = 65_535;
 
-// A loop over a file takes a stretch of 65,536 bytes a turn, but for the last, and must be proved to end: it counts the turns down
-// from here. No file has 2^64 stretches, so that it ends before they do.
+// A loop over a file reads a stretch of 65,536 bytes in each turn, fewer in the last. It must be proved to end, so it counts its
+// turns down from this number. No file has so many stretches: the loop reaches the end of the file first.
 pub const MOST_STRETCHES: u64 = u64::MAX;
 
-// A file to read. Why opening it failed has been told.
+// A file to read. If opening it failed, the reason has been printed on standard error.
 pub enum Opened {
     File(i32),
     Missing,
     Failed,
 }
 
-// How many bytes of a buffer were filled from a file. Why that failed has been told.
+// How many bytes of a buffer were filled from a file. If that failed, the reason has been printed on standard error.
 pub enum Filled {
     Bytes(usize),
     Failed,
 }
 
-// The arguments as one line of a buffer, or that they are no words. Where help was asked for, it has been printed.
+// The arguments as one line at the start of a buffer, and its length; or `Unfit`, if they are not words or do not fit the buffer.
+// If help was asked for, it has been printed.
 pub enum Words {
     Line(usize),
     Unfit,
     Helped,
 }
 
-// What comes next: a line of the buffer, without its newline, and where the text that was read stops. Or text without a newline,
-// which was cut off or is too long for the buffer; or the end; or that reading failed, and why has been told.
+// What comes next in the input: a line of the buffer, without its newline, and `stop`, where the text read so far ends. Or `Cut`:
+// text without a newline, which was cut off or is too long for the buffer. Or the end. Or reading failed, and the reason has been
+// printed on standard error.
 pub enum Input {
     Line {
         start: usize,
@@ -61,7 +62,7 @@ pub fn open(name: &[u8]) -> Opened
     opened_by(name, file, os::errno())
 }
 
-// By what opening answered, and by the error where that is no descriptor.
+// `file` is what opening returned. The error matters only if that is not a descriptor.
 fn opened_by(name: &[u8], file: i32, error: i32) -> Opened
     ensures { λ r. ⌜ r ≡ openedBy file error ⌝ }
 {
@@ -75,7 +76,7 @@ fn opened_by(name: &[u8], file: i32, error: i32) -> Opened
     Opened::Failed
 }
 
-// Fills a buffer from a file, wholly unless the file ends.
+// Fills a buffer from a file, completely unless the file ends first.
 pub fn fill(name: &[u8], file: i32, buffer: &mut [u8]) -> Filled
     ensures room { λ r. ⌜ filledBytes r ≤ length (now (buffer .exit)) ⌝ }
     ensures none { λ r. ⌜ (length (now (buffer .entry)) ≡ 0 → r ≡ noBytes) ⌝ }
@@ -96,7 +97,7 @@ pub fn fill(name: &[u8], file: i32, buffer: &mut [u8]) -> Filled
     Filled::Bytes(done)
 }
 
-// The start of a file, as much as the buffer takes. A file that is missing counts as empty.
+// Reads the start of a file, as much as fits the buffer. A missing file counts as empty.
 pub fn start(name: &[u8], buffer: &mut [u8]) -> Filled
     ensures { λ r. ⌜ filledBytes r ≤ length (now (buffer .exit)) ⌝ }
 {
@@ -113,7 +114,7 @@ fn start_of(file: Opened, name: &[u8], buffer: &mut [u8]) -> Filled
     }
 }
 
-// Whether all of some bytes were written to a file. Why they were not has been told.
+// Writes bytes to a file. Returns whether all were written; if not, the reason has been printed on standard error.
 pub fn write(name: &[u8], file: i32, s: &[u8]) -> bool
     ensures { λ r. ⌜ (length (now (s .entry)) ≡ 0 → r ≡ true) ⌝ }
 {
@@ -127,15 +128,15 @@ pub fn write(name: &[u8], file: i32, s: &[u8]) -> bool
     false
 }
 
-// The same of a text and standard output.
+// The same for a text and standard output.
 pub fn print(text: &[u8]) -> bool
     ensures { λ r. ⌜ (length (now (text .entry)) ≡ 0 → r ≡ true) ⌝ }
 {
     write(b"standard output", STDOUT_FILENO, text)
 }
 
-// The arguments of the program, with single spaces between them, as one line: none of them may be empty or have a blank in it.
-// Where the first is `--help`, the text of the help is printed instead. A program calls this before it opens a file.
+// Puts the arguments of the program into one line, with single spaces between them. None of them may be empty or contain a blank.
+// If the first is `--help`, the help text is printed instead. A program calls this before it opens a file.
 pub fn arguments(line: &mut [u8], help: &[u8]) -> Words
     ensures { λ r. ⌜ IsArguments (now (line .exit)) r ⌝ }
 {
@@ -143,7 +144,7 @@ pub fn arguments(line: &mut [u8], help: &[u8]) -> Words
     words_of(asks_help(), line, help)
 }
 
-// The arguments of a program that takes none. Any is one too many, so a line of a byte is room enough for what there is to see.
+// The arguments of a program that takes none. Any argument is one too many, so one byte is enough to see whether there is one.
 pub fn no_arguments(help: &[u8]) -> Words
     ensures { λ r. ⌜ IsSpare r ⌝ }
 {
@@ -151,7 +152,8 @@ pub fn no_arguments(help: &[u8]) -> Words
     arguments(&mut none, help)
 }
 
-// Whether a program that takes no argument goes on: none was given, and no help asked for. Any argument is told as one too many.
+// Whether a program that takes no argument may go on: none was given, and help was not asked for. An argument is refused with 12;
+// then `sentence` is printed.
 pub fn none_given(tool: &[u8], words: Words, sentence: &[u8]) -> bool
     ensures { λ r. ⌜ r ≡ noneGiven words ⌝ }
 {
@@ -167,7 +169,7 @@ pub fn none_given(tool: &[u8], words: Words, sentence: &[u8]) -> bool
     }
 }
 
-// Where help is asked for it is printed, and there is no line.
+// If help is asked for, it is printed, and there is no line.
 fn words_of(asked: bool, line: &mut [u8], help: &[u8]) -> Words
     ensures { λ r. ⌜ IsGiven asked (now (line .exit)) r ⌝ }
 {
@@ -178,8 +180,8 @@ fn words_of(asked: bool, line: &mut [u8], help: &[u8]) -> Words
     joined(line, os::arg_count())
 }
 
-// A program may be started with standard input, output or error closed. A file that it opens would get that number, and what is
-// told or printed would go into the file: so the three numbers are taken first.
+// A program may be started with standard input, output or error closed. A file that it opens would then get that descriptor, and
+// what is printed would go into the file. So the three descriptors, 0 to 2, are taken first.
 fn take_standard() {
     if takes_one() && takes_one() {
         takes_one();
@@ -197,7 +199,7 @@ fn takes_one() -> bool {
 
 fn asks_help() -> bool {
     let mut word = [0u8; 6];
-    // An argument that is longer counts as none.
+    // An argument that is longer gives no bytes.
     let n = os::arg(1, &mut word);
     same(&word[..n], b"--help")
 }
@@ -217,7 +219,7 @@ fn same(a: &[u8], b: &[u8]) -> bool {
     true
 }
 
-// The program's own name is the first of the count.
+// Joins the arguments into one line. The program's own name is included in `count`, but not in the line.
 fn joined(line: &mut [u8], count: usize) -> Words
     ensures { λ r. ⌜ IsLineOf (count - 1) (now (line .exit)) r ⌝ }
 {
@@ -233,7 +235,7 @@ fn joined(line: &mut [u8], count: usize) -> Words
     Words::Line(end)
 }
 
-// Puts an argument behind those that are there.
+// Puts argument `i` after those that are there, which end at `end`.
 fn one_more(line: &mut [u8], end: usize, i: usize) -> Words
     requires { ⌜ end ≤ length (now line) ⌝ }
     ensures { λ r. ⌜ ((n : ℕ) → AreWords n (take end (now (line .entry))) → IsLineOf (n + 1) (now (line .exit)) r) ⌝ }
@@ -248,7 +250,7 @@ fn one_more(line: &mut [u8], end: usize, i: usize) -> Words
     put_argument(line, end + 1, i)
 }
 
-// Puts an argument at a place. One that is empty, or too long for the rest of the line, has no bytes.
+// Puts argument `i` into the line from `at` on. One that is empty, or too long for the rest of the line, gives no bytes.
 fn put_argument(line: &mut [u8], at: usize, i: usize) -> Words
     requires { ⌜ at ≤ length (now line) ⌝ }
     ensures { λ r. ⌜ PutsWord (now (line .entry)) at (now (line .exit)) r ⌝ }
@@ -264,9 +266,9 @@ fn put_argument(line: &mut [u8], at: usize, i: usize) -> Words
     Words::Line(end)
 }
 
-// The next line of the text between two places of the buffer, of which more is read where there is no whole line. Text that
-// stops before the buffer does is the last. So the first line is the next one of no text at the end of the buffer, and after a
-// line the text begins behind its newline. With its newline a line is as long as the buffer at most.
+// The next line of standard input. The text read but not yet used is in the buffer from `from` up to `to`; if it has no whole line,
+// more is read. Text that ends before the buffer does is the last. So for the first line, `from` and `to` are the buffer's length;
+// after a line, `from` is just after its newline and `to` is its `stop`. With its newline, a line is at most as long as the buffer.
 pub fn next_line(buffer: &mut [u8], from: usize, to: usize) -> Input
     ensures { λ r. ⌜ IsNext (now (buffer .entry)) from to (now (buffer .exit)) r ⌝ }
 {
@@ -281,7 +283,7 @@ pub fn next_line(buffer: &mut [u8], from: usize, to: usize) -> Input
     read_more(buffer, from, room)
 }
 
-// What comes next in the text between two places of a buffer.
+// What comes next in the text from `from` up to `to` in a buffer.
 fn next_in(buffer: &[u8], from: usize, to: usize) -> Input
     requires { ⌜ to ≤ length (now buffer) ⌝ }
     ensures { λ r. ⌜ r ≡ nextIn (now (buffer .entry)) from to ⌝ }
@@ -300,7 +302,7 @@ fn next_in(buffer: &[u8], from: usize, to: usize) -> Input
     }
 }
 
-// What comes next where more is read behind the text between two places, which moves to the front.
+// Moves the text from `from` up to `to` to the front of the buffer, reads more after it, and answers with what comes next.
 fn read_more(buffer: &mut [u8], from: usize, to: usize) -> Input
     requires { ⌜ to ≤ length (now buffer) ⌝ }
     ensures { λ r. ⌜ IsRead (now (buffer .entry)) from to (now (buffer .exit)) r ⌝ }
@@ -312,7 +314,7 @@ fn read_more(buffer: &mut [u8], from: usize, to: usize) -> Input
     next_in(buffer, 0, kept + more)
 }
 
-// Moves the text between two places of a buffer to its front, and answers how many bytes it has.
+// Moves the text from `from` up to `to` to the front of the buffer, and returns how many bytes it has.
 fn front(buffer: &mut [u8], from: usize, to: usize) -> usize
     requires { ⌜ to ≤ length (now buffer) ⌝ }
     ensures count { λ r. ⌜ r ≡ length (between from to (now (buffer .entry))) ⌝ }
@@ -328,8 +330,9 @@ fn front(buffer: &mut [u8], from: usize, to: usize) -> usize
     n
 }
 
-// Puts bytes in the place of a file. They go to a fresh file first, which then takes the name: so the old file is there, or
-// the new one with all its bytes. Why that failed has been told, and then the old one stays. No bytes are no file.
+// Replaces a file. The bytes go to a fresh file first, which is then renamed: so there is always the old file, or the new one with
+// all its bytes. If that fails, the reason is printed on standard error and the old file stays. With no bytes nothing is done, and
+// the answer is false.
 pub fn replace(name: &[u8], fresh: &[u8], bytes: &[u8]) -> bool
     ensures { λ r. ⌜ (length (now (bytes .entry)) ≡ 0 → r ≡ false) ⌝ }
 {
@@ -353,7 +356,7 @@ pub fn replace(name: &[u8], fresh: &[u8], bytes: &[u8]) -> bool
     true
 }
 
-// Whether bytes are in a file to stay, which is then closed.
+// Writes bytes to a file, makes sure that they are stored (fsync), and closes it. Returns whether they are.
 fn written(file: i32, name: &[u8], bytes: &[u8]) -> bool {
     let kept = io::write_all(file, bytes) && libc::fsync(file) == 0;
     if !kept {
@@ -363,8 +366,8 @@ fn written(file: i32, name: &[u8], bytes: &[u8]) -> bool {
     kept
 }
 
-// Tells on standard error that something is refused, with the line of the input that it stands in, 0 for none. A refusal is
-// no success, so false is answered: a caller can end with it.
+// Prints a refusal on standard error, with the number of the input line that is refused, 0 for none. It always returns false, for
+// failure, so that a caller can return it as its own answer.
 pub fn refused(tool: &[u8], line: u64, number: u32, sentence: &[u8]) -> bool
     ensures { λ r. ⌜ r ≡ false ⌝ }
 {

@@ -6,7 +6,7 @@ use native.Mathlib.Omega.{arith}
 use lib.IntN.{ℤ, pos}
 use lib.ListN.{length, getD, set, replicate}
 
--- Two readings are the first and the second, read or set.
+-- A list of two readings is its first and its second entry, whether they are read or set.
 pub two-read : (l : List ℤ) → length l ≡ 2 → getD l 0 (pos 0) ∷ getD l 1 (pos 0) ∷ [] ≡ l
 two-read [] h = absurd (omega (arith, h))
 two-read (a ∷ []) h = absurd (omega (arith, h))

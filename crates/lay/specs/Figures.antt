@@ -1,6 +1,6 @@
--- What the library for C tells of each answer: the number of the refusal, 0 for none, and the answer's figures, which are 0
--- after a refusal (01, Numbers of refusal). Metres, expected readings and searches have their figures in
--- their own crates.
+-- What the library for C returns for each answer: the number of the refusal, 0 for none, and the answer's figures, that is, its
+-- numbers, which are 0 after a refusal (01, Numbers of refusal). The figures of metres, expected readings and searches are defined
+-- in their own crates.
 use Prim.Native.Nat.{ℕ, _/_, _%_, _^_}
 use mathlib.Core.Bool.{cond}
 use mathlib.Core.List.{List, [], _∷_, _++_}
@@ -44,11 +44,11 @@ use Rattle.lay.specs.declared.JobFigures.{JobFigures}
 use Rattle.lay.specs.declared.HeldFigures.{HeldFigures}
 use Rattle.lay.specs.declared.ListedFigures.{ListedFigures}
 
--- The number of what lay.h declares: another one where a caller must be compiled anew.
+-- The version of what lay.h declares. It changes whenever callers must be compiled anew.
 abbrev pub version : ℕ
 version = 1
 
--- A window, a job and a draft by their figures.
+-- A window, a job and a draft, made from their numbers.
 abbrev pub windowBy : ℕ → ℕ → ℕ → Window
 windowBy e n k = record { corner = placeOf e n; k = k }
 
@@ -58,7 +58,7 @@ jobBy e n k tolerance allowance = record { window = windowBy e n k; tolerance = 
 abbrev pub draftBy : ℕ → ℕ → ℕ → ℤ → ℤ → Draft
 draftBy kind chain line x y = record { kind = kind; chain = chain; line = line; x = x; y = y }
 
--- A chain by the numbers of its stations, easting and northing in turn: so many, or 1.
+-- A chain, made from the numbers of its stations, easting and northing in turn; 1 if there are not `chainNumbers` of them.
 abbrev pub chainNumbers : ℕ
 chainNumbers = 6
 
@@ -73,28 +73,28 @@ chainWith s =
 unfoldable pub chainBy : List ℕ → NamedChain
 chainBy s = unless (eqb (length s) chainNumbers) (named.Refused 1) (named.Chain (chainWith s))
 
--- The number of a refusal, and all that a lent list or buffer holds then.
+-- The number of the refusal, 0 for none, and all that a lent list or buffer then holds.
 pub record Lent (A : Type 0) : Type 0 where
   pub refusal : ℕ
   pub holds : List A
 
--- After a refusal it holds zeros alone.
+-- After a refusal it holds only zeros.
 abbrev pub refusedWith : ℕ → ℕ → Lent ℕ
 refusedWith number entries = record { refusal = number; holds = replicate entries 0 }
 
--- The bytes of a chain in a buffer: what the writer makes of it.
+-- The bytes of a chain in a buffer of `bytes` bytes, as the writer makes them; zeros if there is no chain.
 unfoldable pub chainLent : ℕ → NamedChain → Lent ℕ
 chainLent bytes (named.Chain c) = record { refusal = chainRefusalOf bytes c; holds = chainBufferOf bytes c }
 chainLent bytes (named.Refused number) = refusedWith number bytes
 
--- The chain of a number in a table, and the chain of these stations.
+-- The same for the chain with a given number in a table, and for the chain with given stations.
 abbrev pub chainTold : ℕ → List ℕ → ℕ → Lent ℕ
 chainTold bytes table number = chainLent bytes (chainOf table number)
 
 abbrev pub chainWritten : ℕ → List ℕ → Lent ℕ
 chainWritten bytes stations = chainLent bytes (chainBy stations)
 
--- The numbers of a chain's stations in a list of so many entries: 1, then 5.
+-- The numbers of a chain's stations in a list of `entries` entries: 1 if that is not six, then 5 if the chain is not sound.
 unfoldable pub stationsLent : ℕ → NamedChain → Lent ℕ
 stationsLent entries (named.Chain c) =
     unless (eqb entries chainNumbers) (refusedWith 1 entries)
@@ -104,7 +104,7 @@ stationsLent entries (named.Refused number) = refusedWith number entries
 abbrev pub stationsTold : ℕ → List ℕ → Lent ℕ
 stationsTold entries chain = stationsLent entries (rawChainOf chain)
 
--- The readings of a chain, one for each slave: so many.
+-- How many readings a chain has: one for each slave.
 abbrev pub chainReadings : ℕ
 chainReadings = 2
 
@@ -112,7 +112,7 @@ chainReadings = 2
 abbrev pub readingsLent : Figures → Lent ℤ
 readingsLent f = record { refusal = f .refusal; holds = f .a ∷ f .b ∷ [] }
 
--- The readings expected at a place, in a list of so many entries: 1, then 4, then 5.
+-- The readings expected at a place, in a list of `entries` entries: 1 if that is not two, then 4, then 5.
 unfoldable pub expectedLent : ℕ → NamedChain → Place → Lent ℤ
 expectedLent entries (named.Chain c) p =
     unless (eqb entries chainReadings) (record { refusal = 1; holds = replicate entries (pos 0) })
@@ -122,30 +122,31 @@ expectedLent entries (named.Refused number) p = record { refusal = number; holds
 abbrev pub expectedTold : ℕ → List ℕ → ℕ → ℕ → Lent ℤ
 expectedTold entries chain e n = expectedLent entries (rawChainOf chain) (placeOf e n)
 
--- All that a search tells: its figures, and every entry of its list.
+-- All that a search returns: its figures, and every entry of its list.
 pub record SearchTold : Type 0 where
   pub figures : SearchFigures
   pub list : List ℕ
 
--- Nothing is searched: the list is zero.
+-- Nothing is searched, and every entry of the list is zero.
 abbrev pub unsearched : ℕ → ℕ → SearchTold
 unsearched number entries =
     record { figures = record { refusal = number; count = 0; visits = 0 }; list = replicate entries 0 }
 
--- A search by a job, whose window and tolerance it tests itself.
+-- A search with the window, tolerance and allowance of a job. The search itself tests window and tolerance.
 unfoldable pub searchedBy : Chain → List ℤ → JobAnswer → ℕ → SearchTold
 searchedBy c readings (job.Job j) entries =
     let left = searchLeft c readings (j .window) (j .tolerance) (j .allowance) entries in
     record { figures = searchFigures (left .answer); list = left .list }
 searchedBy c readings (job.Refused number) entries = unsearched number entries
 
--- Before it 1 for the chain, and for readings that are not as many as it has slaves.
+-- Before that, 1 for a chain of another length, and if there are not as many readings as the chain has slaves.
 unfoldable pub searchedIn : NamedChain → List ℤ → JobAnswer → ℕ → SearchTold
 searchedIn (named.Chain c) readings j entries =
     unless (eqb (length readings) chainReadings) (unsearched 1 entries) (searchedBy c readings j entries)
 searchedIn (named.Refused number) readings j entries = unsearched number entries
 
--- The bytes of a chain and of a job, and the readings: 1 where there are not as many, 2 for the job's zeros, then the search.
+-- The same from the bytes of a chain and of a job, and the readings: 1 for another length of any of them, 2 if a byte of the job
+-- that must be zero is not, then the search.
 abbrev pub searchTold : List ℕ → List ℤ → List ℕ → ℕ → SearchTold
 searchTold chain readings job entries = searchedIn (rawChainOf chain) readings (formedJobOf job) entries
 
@@ -153,14 +154,14 @@ searchTold chain readings job entries = searchedIn (rawChainOf chain) readings (
 abbrev pub foundIn : SearchFigures → List ℕ
 foundIn f = f .count ∷ f .visits ∷ []
 
--- A log record in centimetres, with its line number. The chain number is a hyperbolic record's alone.
+-- A log record in centimetres, with its line number. Only a hyperbolic record has a chain number.
 unfoldable pub entryFigures : ℕ → ℕ → LogEntry → RecordFigures
 entryFigures line chain (entry.Readings a b) = record { refusal = 0; kind = 1; chain = chain; line = line; x = a; y = b }
 entryFigures line chain (entry.Place p) = record { refusal = 0; kind = 2; chain = 0; line = line; x = pos (p .easting); y = pos (p .northing) }
 entryFigures line chain entry.Hold = record { refusal = 0; kind = 3; chain = 0; line = line; x = pos 0; y = pos 0 }
 entryFigures line chain (entry.Refused number) = record { refusal = number; kind = 0; chain = 0; line = line; x = pos 0; y = pos 0 }
 
--- The line number is told wherever there are 32 bytes, since any is allowed.
+-- The line number is given whenever there are 32 bytes, even if they are refused, since any is allowed.
 unfoldable pub recordBy : RawAnswer → LogEntry → RecordFigures
 recordBy (raw.Record r) e = entryFigures (r .line) (r .chain) e
 recordBy (raw.Refused number) e = entryFigures 0 0 (entry.Refused number)
@@ -185,16 +186,16 @@ jobAnswered (job.Refused number) = record { refusal = number; job = jobBy 0 0 0 
 abbrev pub jobTold : List ℕ → JobFigures
 jobTold s = jobAnswered (jobOf s)
 
--- The place carried to a record: none where `held` is 0.
+-- The place carried to a record: none if `held` is 0.
 unfoldable pub carriedIn : ℕ → ℕ → ℕ → Carried
 carriedIn held e n = cond (eqb held 0) carried.Nothing (carried.Place (placeOf e n))
 
--- The same as figures.
+-- A carried place as figures.
 unfoldable pub heldFigures : Carried → HeldFigures
 heldFigures (carried.Place p) = record { held = 1; place = p }
 heldFigures carried.Nothing = record { held = 0; place = placeOf 0 0 }
 
--- A listing in a buffer.
+-- The figures of a listing in a buffer.
 unfoldable pub listedFigures : Listed → ListedFigures
 listedFigures (listed.Text n c) = record { refusal = 0; length = n; carried = heldFigures c }
 listedFigures (listed.Refused number) = record { refusal = number; length = 0; carried = heldFigures carried.Nothing }
@@ -211,7 +212,7 @@ partOf f = halves (f .length) ++ (f .carried .held ∷ f .carried .place .eastin
 abbrev pub carriedTo : List ℕ → Carried
 carriedTo part = carriedIn (getD part 2 0) (getD part 3 0) (getD part 4 0)
 
--- All that the listing of a log, or of a further part of one, tells: its figures, and every byte of its buffer.
+-- All that the listing of a log, or of a further part of one, returns: its figures, and every byte of its buffer.
 pub record ListTold : Type 0 where
   pub figures : ListedFigures
   pub text : List ℕ

@@ -1,5 +1,6 @@
-// The library for C and Rust: what lay.h declares. Numbers and slices go in, figures come out, and each function answers with
-// the number of the refusal, 0 for none. A struct of lay.h is lent here as an array: its fields lie as the array's elements do.
+// The library for C and Rust: the functions that lay.h declares. Each but lay_version takes numbers and slices, sets the results
+// that are lent to it, and returns the number of the refusal, 0 for none. A struct of lay.h is an array here: its fields lie in
+// memory as the array's elements do.
 ghost use mathlib.Core.List.{[], _∷_};
 ghost use mathlib.Core.Path.{_≡_};
 ghost use lib.IntN.{pos};
@@ -45,7 +46,7 @@ struct JobFigures {
     job: Job,
 }
 
-// The place that a hold would repeat: held is 1 where there is one.
+// The place that a hold would repeat: `held` is 1 if there is one.
 struct HeldFigures {
     held: u32,
     place: Place,
@@ -57,15 +58,15 @@ struct ListedFigures {
     carried: HeldFigures,
 }
 
-// The number of what lay.h declares.
+// The version of what lay.h declares.
 const VERSION: u32 = 1;
 
-// The numbers of a chain's stations, and its readings.
+// How many numbers the stations of a chain have, and how many readings a chain has.
 const CHAIN_NUMBERS: usize = 6;
 
 const CHAIN_READINGS: usize = 2;
 
-// What the lower half of 64 bits counts to.
+// 2^32, which splits a number of 64 bits into its two halves.
 const HALF: usize = 1 << 32;
 
 // The version of lay.h that this is made for.
@@ -99,7 +100,7 @@ pub extern "C" fn lay_metres(centimetres: i64, metres: &mut f64) -> u32
     f.refusal
 }
 
-// The readings expected at a place, by a chain's bytes.
+// The readings expected at a place, for the chain in the bytes.
 #[no_mangle]
 pub extern "C" fn lay_expected(readings: &mut [i64], chain: &[u8], e: u32, n: u32) -> u32
     ensures answer { λ r. ⌜ r ≡ expectedTold (length (now (readings .entry))) (now (chain .entry)) e n .refusal ⌝ }
@@ -112,7 +113,7 @@ pub extern "C" fn lay_expected(readings: &mut [i64], chain: &[u8], e: u32, n: u3
     expected(readings, records::raw_chain(chain), place)
 }
 
-// Every cell of a job's window that matches the readings, in chart order, by the bytes of a chain and of a job.
+// Every cell of a job's window that matches the readings, in chart order. Chain and job are given as bytes.
 #[no_mangle]
 pub extern "C" fn lay_search(
     list: &mut [u32],
@@ -135,7 +136,7 @@ pub extern "C" fn lay_search(
     f.refusal
 }
 
-// A log record in whole centimetres.
+// Reads a log record, in whole centimetres.
 #[no_mangle]
 pub extern "C" fn lay_read_record(
     bytes: &[u8],
@@ -188,7 +189,7 @@ pub extern "C" fn lay_write_record(
     )
 }
 
-// The job in 32 bytes.
+// Reads the job in 32 bytes.
 #[no_mangle]
 pub extern "C" fn lay_read_job(
     bytes: &[u8],
@@ -254,7 +255,7 @@ pub extern "C" fn lay_count_chains(table: &[u8], count: &mut usize) -> u32
     f.refusal
 }
 
-// The bytes of the chain of a number in a table.
+// The bytes of the chain with a given number in a table.
 #[no_mangle]
 pub extern "C" fn lay_chain(buffer: &mut [u8], table: &[u8], number: u32) -> u32
     ensures answer { λ r. ⌜ r ≡ chainTold (length (now (buffer .entry))) (now (table .entry)) number .refusal ⌝ }
@@ -272,7 +273,7 @@ pub extern "C" fn lay_read_chain(chain: &[u8], stations: &mut [u32]) -> u32
     read_chain(stations, records::raw_chain(chain))
 }
 
-// Writes a chain into a buffer, by the numbers of its stations.
+// Writes a chain into a buffer, from the numbers of its stations.
 #[no_mangle]
 pub extern "C" fn lay_write_chain(buffer: &mut [u8], stations: &[u32]) -> u32
     ensures answer { λ r. ⌜ r ≡ chainWritten (length (now (buffer .entry))) (now (stations .entry)) .refusal ⌝ }
@@ -281,8 +282,8 @@ pub extern "C" fn lay_write_chain(buffer: &mut [u8], stations: &[u32]) -> u32
     put_chain(buffer, chain_by(stations))
 }
 
-// The listing of a log, or of a further part of one, as text in a buffer. The place carried to it stands in the part, and then the
-// one carried on.
+// Puts the listing of a log, or of a further part of one, into a buffer as text. On entry `part` has the place carried to it; on
+// return, the length of the text and the place carried on.
 #[no_mangle]
 pub extern "C" fn lay_list(
     text: &mut [u8],
@@ -329,7 +330,7 @@ fn clear_readings(readings: &mut [i64])
     }
 }
 
-// The readings of a chain in a list that is clear.
+// Puts the readings expected for a chain into a list of zeros.
 fn put_expected(readings: &mut [i64], c: Chain, place: Place) -> u32
     requires { ⌜ now readings ≡ replicate (length (now readings)) (pos 0) ⌝ }
     ensures answer { λ r. ⌜ r ≡ expectedLent (length (now (readings .entry))) (named.Chain c) place .refusal ⌝ }
@@ -416,7 +417,7 @@ fn no_chain(buffer: &mut [u8], number: u32) -> u32
     number
 }
 
-// A chain by the numbers of its stations.
+// The chain with these numbers of its stations; 1 if there are not six.
 fn chain_by(stations: &[u32]) -> NamedChain
     ensures { λ r. ⌜ r ≡ chainBy (now (stations .entry)) ⌝ }
 {
@@ -451,7 +452,7 @@ fn read_chain(stations: &mut [u32], a: NamedChain) -> u32
     }
 }
 
-// The numbers of a chain's stations in a list that is clear.
+// Puts the numbers of a chain's stations into a list of zeros.
 fn put_stations(stations: &mut [u32], c: Chain) -> u32
     requires { ⌜ now stations ≡ replicate (length (now stations)) 0 ⌝ }
     ensures answer { λ r. ⌜ r ≡ stationsLent (length (now (stations .entry))) (named.Chain c) .refusal ⌝ }

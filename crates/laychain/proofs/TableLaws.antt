@@ -1,4 +1,4 @@
--- A chain put behind those that are there makes one more; and what is counted at the end.
+-- A chain put after those that are in the table makes one more; and the chains counted at the end are in the table.
 use Prim.Native.Nat.{ℕ, _+_, _-_, _*_, _≤_, _<_}
 use mathlib.Core.Bool.{Bool, true, false, cond}
 use mathlib.Core.List.{List, [], _∷_, _++_, append-nil, append-assoc}
@@ -22,7 +22,7 @@ use Rattle.parsing.specs.Parsed.{parsedChain}
 use Rattle.parsing.specs.declared.ParsedChain.the-variants as parsed
 use Rattle.laychain.specs.Tables.{lineRefusal, tableWith, HoldsChains}
 
--- The table and its soundness with one chain more.
+-- With one more chain at the end: the bytes of the table, and that all its chains are sound.
 table-behind : (cs : List Chain) (c : Chain) → tableOf (cs ++ (c ∷ [])) ≡ tableOf cs ++ chainBufferOf chainBytes c
 unfolding tableOf
 table-behind [] c = append-nil (chainBufferOf chainBytes c)
@@ -37,7 +37,7 @@ sound-behind (x ∷ cs) c all one =
     let p = both (isSound x) (allSound cs) all in
     and-both (p .0) (sound-behind cs c (p .1) one)
 
--- A chain that is not refused has a place, and is sound.
+-- A chain that is not refused has a place in the table, and is sound.
 has-place : (before : ℕ) (c : Chain) → lineRefusal before (parsed.Chain c) ≡ 0 → (before < mostChains) × (chainRefusalOf chainBytes c ≡ 0)
 has-place before c e = go (ltb before mostChains) refl e
   where
@@ -53,7 +53,7 @@ is-sound c e = go (isSound c) e
     go true e = refl
     go false e = absurd (omega arith)
 
--- What is put where there is no place, and where there is one.
+-- The answer and the table if there is no place for a chain, and if there is one.
 pub no-place : (table : List ℕ) (before : ℕ) (c : Chain) → length table ≡ chainBytes * mostChains → mostChains ≤ before →
     (1 ≡ lineRefusal before (parsed.Chain c)) × (table ≡ tableWith table before (parsed.Chain c))
 no-place table before c size many =
@@ -78,7 +78,7 @@ chain-placed table before c bytes r written size few same answer made =
     } in
     (answer ∙ ap (λ (n : ℕ). chainRefusalOf n c) same ∙ ap (λ (t : Bool). unless t 1 (chainRefusalOf chainBytes c)) (sym room), put-promised put .1)
 
--- No chain, and one more.
+-- A table that holds no chain, and one that holds one more.
 pub no-chains : (table : List ℕ) → HoldsChains table 0
 unfolding allSound tableOf
 no-chains table = record { few = omega arith; chains = []; size = refl; sound = refl; bytes = refl }
@@ -106,7 +106,7 @@ one-more-line table now line before size held accepted same = go (isLine 6 line)
     go true c e s = one-more table now before c size held e s
     go false c e s = absurd (omega arith)
 
--- What is counted is held.
+-- The table holds the chains that are counted.
 pub held-if : (table : List ℕ) (lines : ℕ) (well : Bool) → (well ≡ true → HoldsChains table lines) → HoldsChains table (cond well lines 0)
 held-if table lines true held = held refl
 held-if table lines false held = no-chains table

@@ -1,2 +1,2 @@
--- What the program's functions promise of the table that they make.
+-- What the program's functions promise about the table that they make.
 pub mod Tables

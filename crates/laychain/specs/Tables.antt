@@ -1,4 +1,4 @@
--- The table as it is made, a chain a line.
+-- The table as it is made, one chain for each line.
 use Prim.Native.Nat.{ℕ, _*_, _≤_}
 use mathlib.Core.Bool.{true}
 use mathlib.Core.List.{List}
@@ -13,18 +13,19 @@ use Rattle.text.specs.Puts.{withText}
 use Rattle.parsing.specs.declared.ParsedChain.{ParsedChain}
 use Rattle.parsing.specs.declared.ParsedChain.the-variants as parsed
 
--- Why what a line stands for is not put behind so many others, 0 where it is: 1 where there are as many as a table has.
+-- The number of the refusal of a line when `before` chains are in the table, 0 for none: 1 if the table is full.
 abbrev pub lineRefusal : ℕ → ParsedChain → ℕ
 lineRefusal before (parsed.Chain c) = unless (ltb before mostChains) 1 (chainRefusalOf chainBytes c)
 lineRefusal before (parsed.Refused number) = number
 
--- The table then: the chain's bytes behind those of the others, where there is room. Nothing else of it changes.
+-- The table then: if there is room, the chain's bytes, or zeros for a chain that is not sound, after those of the others. Nothing
+-- else in it changes.
 abbrev pub tableWith : List ℕ → ℕ → ParsedChain → List ℕ
 tableWith table before (parsed.Chain c) = withText table (chainBytes * before) (chainBufferOf chainBytes c)
 tableWith table before (parsed.Refused number) = table
 
--- So many chains stand at the start of the table, one behind the other, each of them sound: those of some lines. Which lines
--- were read is the outside's.
+-- The table begins with `count` chains, one after the other, each of them sound: those of some lines. Which lines were read depends
+-- on the operating system.
 pub record HoldsChains (table : List ℕ) (count : ℕ) : Type 0 where
   pub few : count ≤ mostChains
   pub chains : List Chain

@@ -1,5 +1,5 @@
-// Writes chain.dat in the folder that it is run in, from the lines of standard input, a chain each. Every line that is refused is
-// told on standard error, as is what fails, and then the file stays as it was.
+// Writes chain.dat in the folder that it is run in, one chain for each line of standard input. Every line that is refused, and
+// anything that fails, is reported on standard error; then the file stays as it was.
 ghost use mathlib.Core.Bool.{cond, false, _&&_};
 ghost use mathlib.Core.Path.{_≡_};
 ghost use Prim.Native.Nat.{_*_, _≤_};
@@ -26,13 +26,14 @@ Each line of standard input is a chain, 1 to 16 of them, the first one chain 1:
   E N E N E N    easting and northing of master, slave A and slave B, in centimetres,
                  0 to 100000000 and 0 to 1000000000, no two stations on one spot
 
-What is refused is told with its line and its number, and then chain.dat stays as it was.
+Each refused line is reported, with the number of its refusal; then chain.dat stays as it was.
 The chain with its master at (0, 0), A at (30000, 0) and B at (0, 40000):
 
   echo 0 0 30000 0 0 40000 | laychain
 ",
     );
-    let expected = b"no argument was expected; the chains stand on standard input, a line each";
+    let expected =
+        b"no argument was expected; the chains are read from standard input, one line each";
     if files::none_given(b"laychain", words, expected) {
         make_table();
     }
@@ -52,7 +53,7 @@ fn make_table() {
     );
 }
 
-// How many chains were read and put into the table; none where something was refused, which has been told.
+// Reads the chains into the table and returns how many there are; 0 if something was refused, which has been printed.
 fn read_chains(buffer: &mut [u8], table: &mut [u8]) -> usize
     requires { ⌜ length (now table) ≡ chainBytes * mostChains ⌝ }
     ensures { λ r. ⌜ HoldsChains (now (table .exit)) r ⌝ }
@@ -75,7 +76,7 @@ fn read_chains(buffer: &mut [u8], table: &mut [u8]) -> usize
     0
 }
 
-// Whether every line was accepted, this one too. Why it was not is told.
+// Whether every line was accepted, this one too. If this one was not, its refusal is printed.
 fn accepted(well: bool, line: usize, refusal: u32) -> bool
     ensures { λ r. ⌜ r ≡ well && eqb refusal 0 ⌝ }
 {
@@ -85,7 +86,7 @@ fn accepted(well: bool, line: usize, refusal: u32) -> bool
     tell(line as u64, refusal)
 }
 
-// How many chains there are, where no line comes next.
+// How many chains there are when no line comes next: 0 if something was refused or failed.
 fn ended(input: Input, lines: usize, well: bool) -> usize
     requires { ⌜ lines ≤ mostChains ⌝ }
     ensures { λ r. ⌜ r ≡ atEnd input (cond well lines 0) 0 ⌝ }
@@ -109,7 +110,7 @@ fn chains(lines: usize, well: bool) -> usize
     lines
 }
 
-// No chain, for the reason that is told.
+// Prints a refusal, and returns 0 for no chains.
 fn told(line: usize, number: u32) -> usize
     ensures { λ r. ⌜ r ≡ 0 ⌝ }
 {
@@ -117,7 +118,7 @@ fn told(line: usize, number: u32) -> usize
     0
 }
 
-// Puts the chain of a line into the table, behind so many others, and answers with the number of its refusal, 0 for none.
+// Puts the chain of a line into the table, after `before` others, and returns the number of its refusal, 0 for none.
 fn put_line(table: &mut [u8], before: usize, line: &[u8]) -> u32
     requires { ⌜ length (now table) ≡ chainBytes * mostChains ⌝ }
     ensures answer { λ r. ⌜ r ≡ lineRefusal before (parsedChain (now (line .entry))) ⌝ }
@@ -141,7 +142,7 @@ fn put_chain(table: &mut [u8], before: usize, c: Chain) -> u32
     writing::write_chain(&mut table[at..at + CHAIN_BYTES], c)
 }
 
-// Tells a refusal, with its line, 0 for none. It is no success: false is answered.
+// Prints a refusal with the number of its input line, 0 for none. It always returns false, for failure.
 fn tell(line: u64, number: u32) -> bool
     ensures { λ r. ⌜ r ≡ false ⌝ }
 {

@@ -1,5 +1,5 @@
-// Prints the readings expected at a place for a chain of chain.dat in the folder that it is run in, from the three numbers in its
-// arguments. What is refused or fails is told on standard error, and then nothing is printed.
+// Prints the readings expected at a place for a chain of chain.dat in the folder that it is run in. Its three arguments are the
+// chain's number and the place. What is refused or fails is reported on standard error; then no readings are printed.
 use chart::Place;
 use files::Filled;
 use files::Words;
@@ -7,7 +7,7 @@ use parsing::ParsedQuestion;
 use shown::Line;
 
 fn main() {
-    // The arguments have no newline.
+    // Without the newline, which the arguments do not have.
     let mut line = [0u8; files::LINE_BYTES - 1];
     let words = files::arguments(
         &mut line,
@@ -17,7 +17,7 @@ fn main() {
   E N    easting and northing of the place in centimetres, 0 to 100000000 and 0 to 1000000000
 
 A line is printed for slave A and one for slave B: the reading in centimetres, the same in metres,
-and its eight bytes in a log record. What is refused is told with its number.
+and its eight bytes in a log record. A refusal is printed with its number.
 The readings at (30000, 40000) for chain 1:
 
   layexpect 1 30000 40000
@@ -38,7 +38,7 @@ fn take(line: &[u8]) {
 }
 
 fn answer(chain: u32, place: Place) {
-    // With one byte more than a table has, a file too long is seen to be so.
+    // One byte more than the longest table, so that a file that is too long is noticed.
     let mut table = [0u8; records::TABLE_BYTES + 1];
     let Filled::Bytes(n) = files::start(b"chain.dat", &mut table) else {
         return;

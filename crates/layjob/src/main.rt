@@ -1,11 +1,11 @@
 // Writes job.dat in the folder that it is run in, from the five numbers of a job in its arguments. What is refused or fails is
-// told on standard error, and then the file stays as it was.
+// reported on standard error; then the file stays as it was.
 use files::Words;
 use parsing::ParsedJob;
 use records::Job;
 
 fn main() {
-    // The arguments have no newline.
+    // Without the newline, which the arguments do not have.
     let mut line = [0u8; files::LINE_BYTES - 1];
     let words = files::arguments(
         &mut line,
@@ -17,7 +17,7 @@ fn main() {
   T          tolerance in centimetres, 0 to 100000
   ALLOWANCE  how many visits a search may make, 0 to 18446744073709551615
 
-What is refused is told with its number, and then job.dat stays as it was.
+A refusal is printed with its number, and then job.dat stays as it was.
 The window of 2 by 2 cells at (30000, 40000), tolerance 0, 100 visits:
 
   layjob 30000 40000 1 0 100

@@ -1,4 +1,4 @@
--- A part's listing has its room, and the listing of what follows goes on from its place.
+-- The buffer has room for the listing of a part, and the listing of the rest goes on from the place that the part carries on.
 use Prim.Native.Nat.{ℕ, _-_, _/_, _≤_, _<_}
 use mathlib.Core.Bool.{true, true≢false}
 use mathlib.Core.List.{List}
@@ -26,11 +26,11 @@ use Rattle.laylist.specs.declared.Next.{Next}
 use Rattle.laylist.specs.declared.Next.the-variants as follows
 use Rattle.laylist.specs.Walks.{acceptsJob, acceptsTable, BothGood, partBytes, partRoom, GoesOn}
 
--- A part has its room in the buffer.
+-- The buffer has room for the listing of a part.
 pub roomy : (out part : List ℕ) → length out ≡ partRoom → length part ≤ partBytes → hasListingRoom (length out) part ≡ true
 roomy out part size few = lt-ltb (length part / logBytes) (length out / _) (omega arith)
 
--- The job that is accepted, and the count of the chains.
+-- The job if it is accepted, and the count of chains if the table is.
 job-of : (a : JobAnswer) → acceptsJob a ≡ true → (j : Job) × (a ≡ job.Job j)
 unfolding acceptsJob
 job-of (job.Job j) h = (j, refl)
@@ -41,7 +41,7 @@ unfolding acceptsTable
 count-of (count.Chains n) h = (n, refl)
 count-of (count.Refused number) h = absurd (true≢false (sym h))
 
--- Nothing is left of a log: the place carried is that behind it.
+-- If nothing is left of a log, the place carried so far is the one that is carried on.
 pub nothing-left : (job table : List ℕ) → BothGood job table → (log : List ℕ) (done : ℕ) (place : Carried) → length log ≤ done →
     listingFrom job table (drop done log) place .carried ≡ place
 unfolding linesFrom listingBy listingFrom
@@ -49,7 +49,7 @@ nothing-left job table ok log done place all =
     rw (drop-of-length-le log {i = done} all, job-of (jobOf job) (ok .by-job) .1, count-of (chainCountOf table) (ok .by-table) .1)
 
 module _ (job table : List ℕ) (ok : BothGood job table) where
-  -- The place behind a log is that behind the rest of it, from the place that its first part carries on.
+  -- A log carries on the same place as the rest of it after its first part, when the rest starts from the place of that part.
   rest-carries : (log : List ℕ) (place : Carried) →
       listingFrom job table log place .carried
       ≡ listingFrom job table (drop partBytes log) (listingFrom job table (take partBytes log) place .carried) .carried
@@ -73,7 +73,7 @@ module _ (job table : List ℕ) (ok : BothGood job table) where
           ap (λ (l : List ℕ). listingFrom job table l place .carried) (sym (take-all partBytes log (omega arith)))
           ∙ sym (nothing-left job table ok log partBytes after (omega arith))
 
-  -- So what follows a part of a log goes on from the place that is carried on to the rest.
+  -- So the place that is carried on at the end stays the same when a part is listed and its place is handed to the rest.
   pub goes-on : (log : List ℕ) (done next : ℕ) → done < length log → next ≡ pieceEnd done partBytes (length log) → (place : Carried) {n : Next} {after : Carried} →
       GoesOn (listingFrom job table (take (next - done) (drop done log)) place) n → n ≡ follows.From after →
       listingFrom job table (drop done log) place .carried ≡ listingFrom job table (drop next log) after .carried

@@ -1,2 +1,2 @@
--- What the program's functions promise each other of the listing of a log.
+-- What the program's functions promise each other about the listing of a log.
 pub mod Walks

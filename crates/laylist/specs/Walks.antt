@@ -30,14 +30,14 @@ pub record BothGood (job table : List ℕ) : Type 0 where
   pub by-job : acceptsJob (jobOf job) ≡ true
   pub by-table : acceptsTable (chainCountOf table) ≡ true
 
--- The most bytes of a log that are listed at once, and those of the buffer: room for their lines and for one more.
+-- The most bytes of a log that are listed at once, 128 records; and the length of the buffer, room for 129 longest lines.
 abbrev pub partBytes : ℕ
 partBytes = 128 * logBytes
 
 abbrev pub partRoom : ℕ
 partRoom = 129 * longestLine
 
--- A buffer begins with the text of a listing, so many bytes, and its place is carried on.
+-- `l` is the listing `p`: the buffer begins with its text, and the place is the one that `p` carries on.
 pub record BeginsWith (out : List ℕ) (p : Part) (l : Listing) : Type 0 where
   pub fits : l .length ≤ length out
   pub text-is : take (l .length) out ≡ p .text

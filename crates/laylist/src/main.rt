@@ -1,5 +1,5 @@
 // Lists a lay log: reads job.dat, chain.dat and lay.dat in the folder that it is run in, and prints the listing of the log.
-// A file that is missing counts as empty. What fails is told on standard error, and nothing is listed after it.
+// A file that is missing counts as empty. A failure is reported on standard error, and nothing is listed after it.
 ghost use mathlib.Core.Path.{_≡_};
 ghost use mathlib.Core.Bool.{true};
 ghost use Prim.Native.Nat.{_≤_};
@@ -15,13 +15,13 @@ use listing::Listed;
 use records::ChainCount;
 use records::JobAnswer;
 
-// The text of a listing at the start of a buffer, so many bytes, and the place carried on from it.
+// A listing, whose text is the first `length` bytes of a buffer, and the place carried on from it.
 struct Listing {
     length: usize,
     carried: Carried,
 }
 
-// The place that what follows goes on from. Or nothing follows: the log has ended, or what failed has been told.
+// The place carried on to the next part of the log. Or nothing follows: the log has ended, or a failure has been reported.
 enum Next {
     From(Carried),
     End,
@@ -30,12 +30,13 @@ enum Next {
 // At most 128 records are listed at once.
 const PART_BYTES: usize = 128 * records::LOG_BYTES;
 
-// Room for their lines, and for one more, as `listing::list` asks.
+// Room for 129 longest lines: one for each of these records and one more, as `listing::list` requires.
 const PART_ROOM: usize = 129 * listing::LONGEST_LINE;
 
 fn main() {
     let words = files::no_arguments(
-        b"laylist lists a lay log: it reads job.dat, chain.dat and lay.dat in this folder, and prints a line a record.
+        b"laylist lists a lay log: it reads job.dat, chain.dat and lay.dat in this folder, and prints
+one line for each record.
 
   LINE FIX COUNT VISITS E N E N ..    the places that two readings allow, in chart order
   LINE GRID 1 0 E N                   the place that a grid record names
@@ -44,9 +45,9 @@ fn main() {
 
 LINE is the record's line number; eastings and northings are in centimetres. A job or table that
 is refused prints JOB REFUSED or CHAIN REFUSED alone. A missing file counts as empty.
-By bin/laylist a folder elsewhere can be listed: bin/laylist FOLDER.
 
-  laylist
+  laylist           lists this folder
+  laylist FOLDER    lists that folder
 ",
     );
     if files::none_given(b"laylist", words, b"no argument was expected") {
@@ -56,7 +57,7 @@ By bin/laylist a folder elsewhere can be listed: bin/laylist FOLDER.
 
 fn list_files() {
     let mut out = out_buffer();
-    // One byte more than a job has: a file too long is seen to be so.
+    // One byte more than a job has, so that a file that is too long is noticed.
     let mut job = [0u8; records::JOB_BYTES + 1];
     let Filled::Bytes(n) = files::start(b"job.dat", &mut job) else {
         return;
@@ -64,19 +65,19 @@ fn list_files() {
     by_job(&mut out, &job[0..n]);
 }
 
-// The buffer for the text. Its many bytes are made in a function of their own, so that only their number is known elsewhere.
+// The buffer for the text. It is made in a function of its own, so that proofs elsewhere know only its length.
 fn out_buffer() -> [u8; PART_ROOM] {
     [0u8; PART_ROOM]
 }
 
-// A job that is refused is told before the table is read, which may fail.
+// A refused job is printed before the table is read, because reading may fail.
 fn by_job(out: &mut [u8], job: &[u8])
     requires { ⌜ length (now out) ≡ partRoom ⌝ }
 {
     if !job_accepted(out, job) {
         return;
     }
-    // Here too, one byte more than the longest table has.
+    // One byte more than the longest table has, for the same reason.
     let mut table = [0u8; records::TABLE_BYTES + 1];
     let Filled::Bytes(n) = files::start(b"chain.dat", &mut table) else {
         return;
@@ -120,7 +121,7 @@ fn table_accepted(out: &mut [u8], job: &[u8], table: &[u8]) -> bool
     }
 }
 
-// The lines of the log, stretch by stretch.
+// Prints the lines of the log, stretch by stretch.
 fn list_log(out: &mut [u8], job: &[u8], table: &[u8])
     requires { ⌜ (length (now out) ≡ partRoom) × BothGood (now job) (now table) ⌝ }
 {
@@ -138,7 +139,7 @@ fn list_log(out: &mut [u8], job: &[u8], table: &[u8])
     }
 }
 
-// Reads a stretch of the log and lists it, before the next is read, which may fail.
+// Reads a stretch of the log and prints its lines before the next stretch is read, because reading may fail.
 fn list_stretch(out: &mut [u8], job: &[u8], table: &[u8], log: i32, before: Carried) -> Next
     requires { ⌜ (length (now out) ≡ partRoom) × BothGood (now job) (now table) ⌝ }
 {
@@ -192,7 +193,7 @@ fn list_part(out: &mut [u8], job: &[u8], table: &[u8], part: &[u8], before: Carr
 {
     match listing::list(out, job, table, part, before) {
         Listed::Text { length, carried } => Listing { length, carried },
-        // This never comes: there is room for every part.
+        // This never happens: there is room for every part.
         Listed::Refused(_) => Listing {
             length: 0,
             carried: before,
@@ -200,8 +201,8 @@ fn list_part(out: &mut [u8], job: &[u8], table: &[u8], part: &[u8], before: Carr
     }
 }
 
-// Whether a text was printed. All that is printed but the help goes through here, and must be the listing of a part. What it is
-// the listing of is handed over for that alone.
+// Prints a text and returns whether that succeeded. Everything that is printed except the help goes through here, and must be the
+// listing of a part. The other parameters are there only to state this.
 fn printed(text: &[u8], job: &[u8], table: &[u8], part: &[u8], before: Carried) -> bool
     requires { ⌜ now text ≡ listingFrom (now job) (now table) (now part) before .text ⌝ }
 {

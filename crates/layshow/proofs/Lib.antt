@@ -1,3 +1,3 @@
--- The laws on lines in a buffer, one behind the other.
+-- The laws on lines in a buffer, one after the other.
 mod LineLaws
 mod WalkLaws

@@ -1,4 +1,4 @@
--- A line that is put into its room in a buffer, of which that room alone is lent.
+-- A line is put into its room in a buffer. Only this part of the buffer is lent to the function that puts it.
 use Prim.Native.Nat.{ℕ, _+_, _-_, _*_, _≤_}
 use mathlib.Core.Bool.{true}
 use mathlib.Core.List.{List, _++_, append-assoc}
@@ -15,7 +15,7 @@ use Rattle.shown.specs.Rooms.{Says, lineFor, bufferFor, textOf, lineRoom, hasLi
 use Rattle.layshow.specs.Walks.{PutLine}
 
 module _ (o : List ℕ) (at bytes : ℕ) (fits : at + lineRoom bytes ≤ length o) where
-  -- The room that is lent, and what is behind it.
+  -- The room that is lent, and what is after it.
   abbrev lent : ℕ
   lent = at + 192 + 2 * bytes - at
 
@@ -28,7 +28,7 @@ module _ (o : List ℕ) (at bytes : ℕ) (fits : at + lineRoom bytes ≤ length 
   room-long : length room ≡ lineRoom bytes
   room-long = length-take-le lent (drop at o) (omega (arith, length-drop at o)) ∙ omega arith
 
-  -- So the line is not refused: it is put, and all else stays.
+  -- So the line is not refused: it is put, and the rest of the buffer is unchanged.
   pub line-put : (x : List ℕ) {line : Line} {room′ : List ℕ} {end : ℕ} →
       line ≡ lineFor (inRoom (length room) bytes (Says x)) → room′ ≡ bufferFor room (inRoom (length room) bytes (Says x)) →
       length room′ ≡ length room → end ≡ at + textOf line → PutLine o at x bytes (take at o ++ (room′ ++ behind)) end
@@ -54,6 +54,6 @@ module _ (o : List ℕ) (at bytes : ℕ) (fits : at + lineRoom bytes ≤ length 
         short = omega (arith, ends, short, room-long);
       }
 
--- A text that was put ends in its buffer.
+-- A text that was put ends inside its buffer.
 pub ends-within : {o : List ℕ} {at : ℕ} {x o′ : List ℕ} {end : ℕ} → Put o at x o′ end → end ≤ length o′
 ends-within p = omega (arith, p .fits, p .end-is, put-length p)

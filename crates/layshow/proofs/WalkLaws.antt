@@ -1,4 +1,4 @@
--- The lines of pieces, one after the other: those so far are put, and those of the rest are behind them.
+-- The lines of pieces, one after the other: those so far are put, and those of the rest follow.
 use Prim.Native.Nat.{ℕ, _+_, _-_, _*_, _≤_, _<_}
 use mathlib.Core.List.{List, _++_}
 use mathlib.Core.Path.{_≡_, ap}
@@ -12,7 +12,7 @@ use Rattle.text.proofs.Series.{Reached, reached-none, reached-more, reached-all
 use Rattle.shown.specs.Rooms.{lineRoom}
 use Rattle.layshow.specs.Walks.{pieceLines, allLines, PutLine}
 
--- The pieces of some bytes up to `done` have their lines in a buffer; the next has a number, and all the rest have room.
+-- The pieces of `s` up to `done` have their lines in a buffer. The next piece has the number `number`, and all the rest have room.
 pub record ShownTo (line : ℕ → List ℕ → List ℕ) (width at : ℕ) (s o : List ℕ) (done number : ℕ) (o′ : List ℕ) (end : ℕ) : Type 0 where
   pub lines : Reached o at (allLines line width 1 s) (allLines line width number (drop done s)) o′ end
   pub room : end + lineRoom width * piecesIn width (drop done s) ≤ length o
@@ -21,7 +21,7 @@ pub shown-none : {line : ℕ → List ℕ → List ℕ} {width at : ℕ} {s o : 
     ShownTo line width at s o 0 1 o at
 shown-none {line} {width} {at} {s} {o} room = record { lines = reached-none (allLines line width 1 s) (omega arith); room = room }
 
--- The lines of some bytes are that of the first piece and those of the rest.
+-- The lines of bytes that are not empty: the line of the first piece, then those of the rest.
 lines-step : (line : ℕ → List ℕ → List ℕ) {width : ℕ} → Width width → (number : ℕ) (s : List ℕ) → 0 < length s →
     allLines line width number s ≡ line number (take width s) ++ allLines line width (number + 1) (drop width s)
 unfolding pieceLines
@@ -43,7 +43,7 @@ module _ {line : ℕ → List ℕ → List ℕ} {width : ℕ} (w : Width width) 
       pub next-room : end + lineRoom (length piece) ≤ length o′
       next-room = omega (arith, left, put-length (r .lines .put), piece-long, e)
 
-      -- With its line, the buffer has one more.
+      -- When its line is put, the buffer has the lines of one more piece.
       pub shown-more : {o″ : List ℕ} {end′ : ℕ} → PutLine o′ end (line number piece) (length piece) o″ end′ →
           ShownTo line width at s o next (number + 1) o″ end′
       shown-more p =
@@ -52,7 +52,7 @@ module _ {line : ℕ → List ℕ → List ℕ} {width : ℕ} (w : Width width) 
             room = omega (arith, left, p .short, piece-long, e);
           }
 
-    -- Where no piece is left, it has the lines of all.
+    -- When no piece is left, the buffer has the lines of all.
     pub shown-all : length s ≤ done → Put o at (allLines line width 1 s) o′ end
     unfolding pieceLines
     shown-all all = reached-all (r .lines) (rw (drop-of-length-le s all, w .none))

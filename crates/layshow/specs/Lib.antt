@@ -1,2 +1,2 @@
--- What the program prints, and what its functions promise each other of it.
+-- What the program prints, and what its functions promise each other about it.
 pub mod Walks

@@ -1,5 +1,5 @@
-// Prints what job.dat, chain.dat and lay.dat hold, in the folder that it is run in, a line a record. A file that is missing counts
-// as empty. What is refused or fails is told on standard error, and nothing is printed after it.
+// Prints what job.dat, chain.dat and lay.dat hold, one line for each record, in the folder that it is run in. A missing file counts
+// as empty. A refused argument or a failure is reported on standard error, and nothing is printed after it.
 ghost use mathlib.Core.Path.{_≡_};
 ghost use Prim.Native.Nat.{_+_, _^_, _≤_, _<_};
 ghost use lib.ListN.{length};
@@ -12,10 +12,10 @@ use files::Opened;
 use records::ChainCount;
 use shown::Line;
 
-// So much of the log is read at a time.
+// How many bytes of the log are read at a time.
 const STRETCH_BYTES: usize = 65_536;
 
-// Room for a line of each record in it. Job and table take less.
+// Room for the lines of the 2,048 records in a stretch, 256 bytes each. Job and table take less.
 const STRETCH_ROOM: usize = STRETCH_BYTES / records::LOG_BYTES
     * (shown::LINE_ROOM + 2 * records::LOG_BYTES);
 
@@ -27,10 +27,14 @@ fn main() {
   CHAIN NUMBER E N E N E N     easting and northing of master, A and B
   LOG KIND CHAIN LINE X Y      1: readings A and B; 2: easting and northing; 3: a hold
 
-Lengths are in centimetres; one that cannot be told is a dash. A record that is refused has
-REFUSED, the number and its bytes in hexadecimal behind it. A missing file counts as empty.
+Lengths are in centimetres; a dash is for one that cannot be read. A refused record has REFUSED, the
+number and its bytes in hexadecimal after it. A missing file counts as empty.
+
+Without its first word, LOG, the line of a record is what laywrite takes: so a log can be mended as
+text, and written again.
 
   layshow
+  layshow | sed -n 's/^LOG //p' >log.txt
 ",
     );
     if files::none_given(b"layshow", words, b"no argument was expected") {
@@ -40,7 +44,7 @@ REFUSED, the number and its bytes in hexadecimal behind it. A missing file count
 
 fn show() {
     let mut out = out_buffer();
-    // One byte more than a job has, and than the longest table: a file too long is seen to be so.
+    // One byte more than a job has, and than the longest table has, so that a file that is too long is noticed.
     let mut job = [0u8; records::JOB_BYTES + 1];
     let mut table = [0u8; records::TABLE_BYTES + 1];
     let Filled::Bytes(j) = files::start(b"job.dat", &mut job) else {
@@ -52,12 +56,12 @@ fn show() {
     show_files(&mut out, &job[0..j], &table[0..t]);
 }
 
-// The buffer for the text. Its many bytes are made in a function of their own, so that only their number is known elsewhere.
+// The buffer for the text. It is made in a function of its own, so that proofs elsewhere know only its length.
 fn out_buffer() -> [u8; STRETCH_ROOM] {
     [0u8; STRETCH_ROOM]
 }
 
-// What is shown of job and table is written out before the log is opened, which may fail.
+// Prints the lines of job and table before the log is opened, because opening may fail.
 fn show_files(out: &mut [u8], job: &[u8], table: &[u8])
     requires { ⌜ (length (now out) ≡ stretchRoom) × (length (now job) ≤ longestJob) × (length (now table) ≤ longestTable) ⌝ }
 {
@@ -67,7 +71,7 @@ fn show_files(out: &mut [u8], job: &[u8], table: &[u8])
     }
 }
 
-// Whether the text of job and table was printed. What it is the text of is handed over for the contract alone.
+// Prints the text of job and table, and returns whether that succeeded. `job` and `table` are there only for the contract.
 fn files_printed(text: &[u8], job: &[u8], table: &[u8]) -> bool
     requires { ⌜ now text ≡ fileLines (now job) (now table) ⌝ }
 {
@@ -125,7 +129,7 @@ fn put_chain(out: &mut [u8], at: usize, number: u32, s: &[u8]) -> usize
     after(at, shown::chain(&mut out[at..most], number, s))
 }
 
-// Where a line that begins at a place ends. A line that is refused, for want of room, never comes.
+// Where a line that begins at `at` ends. A refusal for lack of room never happens here.
 fn after(at: usize, line: Line) -> usize
     requires { ⌜ at + textOf line < 2 ^ 64 ⌝ }
     ensures { λ r. ⌜ r ≡ at + textOf line ⌝ }
@@ -136,7 +140,7 @@ fn after(at: usize, line: Line) -> usize
     }
 }
 
-// The lines of the log, stretch by stretch.
+// Prints the lines of the log, stretch by stretch.
 fn show_log(out: &mut [u8])
     requires { ⌜ length (now out) ≡ stretchRoom ⌝ }
 {
@@ -152,8 +156,8 @@ fn show_log(out: &mut [u8])
     }
 }
 
-// Reads a stretch of the log, shows it, and writes all its lines out before the next is read, which may fail. Answers whether
-// there may be a next one.
+// Reads a stretch of the log and prints all its lines before the next stretch is read, because reading may fail. Returns whether
+// there may be a next stretch.
 fn show_stretch(out: &mut [u8], log: i32) -> bool
     requires { ⌜ length (now out) ≡ stretchRoom ⌝ }
 {
@@ -174,7 +178,7 @@ fn show_records(out: &mut [u8], log: &[u8]) -> bool
     records_printed(&out[..n], log)
 }
 
-// Whether the text of a stretch was printed. What it is the text of is handed over for the contract alone.
+// Prints the text of a stretch, and returns whether that succeeded. `log` is there only for the contract.
 fn records_printed(text: &[u8], log: &[u8]) -> bool
     requires { ⌜ now text ≡ recordLines (now log) ⌝ }
 {

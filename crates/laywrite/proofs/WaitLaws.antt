@@ -1,4 +1,4 @@
--- What waits after a line are records of accepted drafts if what waited before were.
+-- If what waits before a line are records of accepted drafts, so is what waits after it.
 use Prim.Native.Nat.{ℕ, _+_, _≤_, _<_}
 use mathlib.Core.Bool.{Bool, true, false}
 use mathlib.Core.List.{List, [], _∷_, _++_, append-nil, append-assoc}
@@ -16,7 +16,7 @@ use Rattle.laywrite.specs.Waiting.{waitingOf, Wait, MayWait, KeptBy, IsK
 use Rattle.laywrite.specs.declared.Records.{Records}
 use Rattle.laywrite.specs.declared.Records.the-variants as records
 
--- A record that is kept with the room, and without.
+-- A record that is kept if there is room for it, and if there is none.
 pub with-room : (waiting bytes out : List ℕ) (r : Records) → length waiting + length bytes ≤ length out → Wait (waiting ++ bytes) out r → IsKept waiting bytes out r
 with-room waiting bytes out r room w =
     subst⁻¹ (λ (t : Bool). KeptBy t waiting bytes out r) (le-leb (length waiting + length bytes) (length out) room) w
@@ -38,7 +38,7 @@ pub taken-refused : (waiting : Records) (before : List ℕ) (d : Draft) (out : L
 taken-refused waiting before d out r never e =
     subst⁻¹ (λ (t : Bool). TakenBy t waiting before d out r) (ne-eqb (refusalOf logBytes d) 0 never) e
 
--- One record more behind others.
+-- One more record after others.
 records-behind : (ds : List Draft) (d : Draft) → recordsOf (ds ++ (d ∷ [])) ≡ recordsOf ds ++ bufferOf logBytes d
 unfolding recordsOf
 records-behind [] d = append-nil (bufferOf logBytes d)
@@ -62,7 +62,7 @@ hold-inside out records.Dropped held = omega arith
 hold-dropped : (out : List ℕ) {r : Records} → r ≡ records.Dropped → HoldRecords out r
 hold-dropped out e = subst⁻¹ (HoldRecords out) e tt
 
--- These records wait.
+-- The records of these accepted drafts wait, unless all were dropped.
 hold-these : (ds : List Draft) (out : List ℕ) (r : Records) → AllAccepted ds → MayWait (recordsOf ds) out r → HoldRecords out r
 hold-these ds out (records.Waiting n) accepted w = (w .0, (ds, (accepted, w .1)))
 hold-these ds out records.Dropped accepted w = tt

@@ -1,2 +1,2 @@
--- What the program's functions promise of the records that wait to be written out.
+-- What the program's functions promise about the records that wait to be written out.
 pub mod Waiting

@@ -1,4 +1,4 @@
--- The bytes of records that wait in a buffer, by the lines that were read.
+-- The bytes of records that wait in a buffer to be written out, according to the lines that were read.
 use Prim.Native.Nat.{ℕ, _+_, _≤_}
 use mathlib.Core.Bool.{Bool, true, false}
 use mathlib.Core.List.{List, [], _∷_, _++_}
@@ -18,11 +18,11 @@ abbrev pub waitingOf : Records → ℕ
 waitingOf (records.Waiting n) = n
 waitingOf records.Dropped = 0
 
--- All were dropped, and any that come are.
+-- All records are dropped, and later ones will be too.
 abbrev pub allDropped : Records
 allDropped = records.Dropped
 
--- These bytes wait at the start of a buffer.
+-- `bytes` wait at the start of the buffer `out`.
 abbrev pub Wait : List ℕ → List ℕ → Records → Type 0
 Wait bytes out (records.Waiting n) = (n ≤ length out) × (take n out ≡ bytes)
 Wait bytes out records.Dropped = ⊥
@@ -32,8 +32,8 @@ abbrev pub MayWait : List ℕ → List ℕ → Records → Type 0
 MayWait bytes out (records.Waiting n) = Wait bytes out (records.Waiting n)
 MayWait bytes out records.Dropped = Unit {0}
 
--- A record's bytes wait behind those that wait already, where there is room for both. Else those were written out first, and
--- the record's wait alone; where that failed, which is the outside's, nothing is kept.
+-- If there is room for both, a record's bytes wait after those that wait already. Else those were written out first, and the
+-- record's bytes wait alone; if that failed, which depends on the operating system, nothing is kept.
 abbrev pub KeptBy : Bool → List ℕ → List ℕ → List ℕ → Records → Type 0
 KeptBy true waiting bytes out r = Wait (waiting ++ bytes) out r
 KeptBy false waiting bytes out r = MayWait bytes out r
@@ -41,22 +41,22 @@ KeptBy false waiting bytes out r = MayWait bytes out r
 abbrev pub IsKept : List ℕ → List ℕ → List ℕ → Records → Type 0
 IsKept waiting bytes out r = KeptBy (leb (length waiting + length bytes) (length out)) waiting bytes out r
 
--- The record of a draft is kept, where nothing was dropped before.
+-- The record of a draft is kept if nothing was dropped before.
 abbrev pub KeptAfter : Records → List ℕ → List ℕ → List ℕ → Records → Type 0
 KeptAfter (records.Waiting n) before bytes out r = IsKept (take n before) bytes out r
 KeptAfter records.Dropped before bytes out r = r ≡ records.Dropped
 
--- By whether the draft is accepted: one that is refused drops all.
+-- A draft that is accepted is kept in this way; one that is refused drops all.
 abbrev pub TakenBy : Bool → Records → List ℕ → Draft → List ℕ → Records → Type 0
 TakenBy true waiting before d out r = KeptAfter waiting before (bufferOf logBytes d) out r
 TakenBy false waiting before d out r = r ≡ records.Dropped
 
--- What waits after a line, by what the line stands for.
+-- What waits after a line, according to what the line says.
 abbrev pub IsTaken : Records → List ℕ → ParsedDraft → List ℕ → Records → Type 0
 IsTaken waiting before (parsed.Draft d) out r = TakenBy (eqb (refusalOf logBytes d) 0) waiting before d out r
 IsTaken waiting before (parsed.Refused number) out r = r ≡ records.Dropped
 
--- The bytes of records one behind the other, and that each of their drafts is accepted.
+-- The bytes of the records of drafts, one after the other; and that each of the drafts is accepted.
 unfoldable pub recordsOf : List Draft → List ℕ
 recordsOf [] = []
 recordsOf (d ∷ ds) = bufferOf logBytes d ++ recordsOf ds
@@ -65,8 +65,8 @@ unfoldable pub AllAccepted : List Draft → Type 0
 AllAccepted [] = Unit {0}
 AllAccepted (d ∷ ds) = (refusalOf logBytes d ≡ 0) × AllAccepted ds
 
--- What waits are the records of some drafts, in their order, each of them accepted, unless all were dropped. Which lines were
--- read is the outside's.
+-- Unless all were dropped, what waits are the records of some drafts, in their order, each of them accepted. Which lines were read
+-- depends on the operating system.
 abbrev pub HoldRecords : List ℕ → Records → Type 0
 HoldRecords out (records.Waiting n) = (n ≤ length out) × ((drafts : List Draft) × (AllAccepted drafts × (take n out ≡ recordsOf drafts)))
 HoldRecords out records.Dropped = Unit {0}

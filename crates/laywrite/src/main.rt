@@ -1,5 +1,5 @@
-// Appends log records to lay.dat in the folder that it is run in, from the lines of standard input, a record each. Every line that
-// is refused is told on standard error, as is what fails, and then nothing is appended.
+// Appends log records to lay.dat in the folder that it is run in, one record for each line of standard input. Every line that is
+// refused, and anything that fails, is reported on standard error; then nothing is appended.
 ghost use Prim.Native.Nat.{_+_, _≤_};
 ghost use mathlib.Core.List.{_++_};
 ghost use mathlib.Core.Path.{_≡_};
@@ -18,27 +18,29 @@ use parsing::ParsedDraft;
 use records::LOG_BYTES;
 use writing::Draft;
 
-// The log that is there, open to append to, and how long it is. Why there is none to append to has been told.
+// The log that is there, open to append to, and its length in bytes; or that there is none yet. `Unfit`: it cannot be used, and the
+// reason has been printed on standard error.
 enum Log {
     Old { file: i32, length: i64 },
     Missing,
     Unfit,
 }
 
-// How many bytes of records wait in a buffer. Why they were dropped, and any that come, has been told.
+// How many bytes of records wait in a buffer. `Dropped`: these and all later records are dropped, and the reason has been printed
+// on standard error.
 enum Records {
     Waiting(usize),
     Dropped,
 }
 
-// How far a file is copied. Why that failed has been told.
+// How far a file has been copied. If that failed, the reason has been printed on standard error.
 enum Copying {
     Some,
     All,
     Failed,
 }
 
-// Records are written out when so many bytes of them wait.
+// The size of the buffer in which records wait. They are written out when it is full.
 const WAIT_BYTES: usize = 65_536;
 
 fn main() {
@@ -51,25 +53,26 @@ Each line of standard input is a record, KIND CHAIN LINE X Y, in centimetres:
   2 CHAIN LINE E N    a place, easting 0 to 100000000 and northing 0 to 1000000000; any chain
   3 CHAIN LINE X Y    a hold, the place of the record before it; any chain, X and Y
 
-LINE is 0 to 4294967295. What is refused is told with its line and its number, and then
+LINE is 0 to 4294967295. Each refused line is reported, with the number of its refusal; then
 nothing is appended. Readings of -100 m and -200 m in chain 1, as line 1 of the log:
 
   echo 1 1 1 -10000 -20000 | laywrite
 ",
     );
-    // No log is looked at for the help.
+    // For the help, the log is not opened.
     if let Words::Helped = words {
         return;
     }
     by_log(open_log(), words);
 }
 
-// The log is looked at before anything that is given.
+// The log is tested before the arguments and the input.
 fn by_log(log: Log, words: Words) {
     if let Log::Unfit = log {
         return;
     }
-    let expected = b"no argument was expected; the records stand on standard input, a line each";
+    let expected =
+        b"no argument was expected; the records are read from standard input, one line each";
     if files::none_given(b"laywrite", words, expected) {
         write_log(log);
     }
@@ -85,7 +88,7 @@ fn open_log() -> Log {
         os::fail(b"lay.dat");
         return Log::Unfit;
     }
-    // The size of a record is a power of two: the bits below it are zero in a number that it divides.
+    // The size of a record is a power of two, so it divides a number if the bits below it are zero.
     if length & (LOG_BYTES as i64 - 1) != 0 {
         tell(0, 1);
         return Log::Unfit;
@@ -101,7 +104,7 @@ fn no_log() -> Log {
     Log::Unfit
 }
 
-// Until every line is accepted the records stay in a file of their own.
+// The records stay in a scratch file until every line has been accepted.
 fn write_log(log: Log) {
     let scratch = make_scratch();
     if scratch < 0 {
@@ -117,7 +120,7 @@ fn write_log(log: Log) {
     append(log, scratch);
 }
 
-// It has no name, so nothing is left of it whatever happens.
+// Makes the scratch file. Its name is removed at once, so nothing is left of it whatever happens. The answer is -1 if that fails.
 fn make_scratch() -> i32 {
     let mut name = *b"lay.dat.XXXXXX";
     let file = os::create_temp(&mut name);
@@ -132,7 +135,7 @@ fn make_scratch() -> i32 {
     file
 }
 
-// Whether every line was accepted, and its record written to the scratch file.
+// Whether every line was accepted and every record written to the scratch file.
 fn read_records(scratch: i32) -> bool {
     let mut buffer = [0u8; files::LINE_BYTES];
     let mut out = [0u8; WAIT_BYTES];
@@ -142,7 +145,7 @@ fn read_records(scratch: i32) -> bool {
     written(scratch, &out[0..n])
 }
 
-// The records of the lines that wait when all are read.
+// Takes every line of the input, and answers with the records that still wait in `out` when all lines have been read.
 fn each_line(buffer: &mut [u8], out: &mut [u8], scratch: i32) -> Records
     requires { ⌜ logBytes ≤ length (now out) ⌝ }
     ensures { λ r. ⌜ HoldRecords (now (out .exit)) r ⌝ }
@@ -164,7 +167,7 @@ fn each_line(buffer: &mut [u8], out: &mut [u8], scratch: i32) -> Records
     Records::Dropped
 }
 
-// The records, where no line comes next.
+// What becomes of the records when no line comes next: they are kept only at the end of the input.
 fn ended(input: Input, line: u64, records: Records) -> Records
     ensures { λ r. ⌜ r ≡ atEnd input records allDropped ⌝ }
 {
@@ -175,7 +178,7 @@ fn ended(input: Input, line: u64, records: Records) -> Records
     }
 }
 
-// No records, for the reason that is told.
+// Prints a refusal, and drops all records.
 fn dropped(line: u64, number: u32) -> Records
     ensures { λ r. ⌜ r ≡ allDropped ⌝ }
 {
@@ -210,7 +213,7 @@ fn take_draft(out: &mut [u8], before: Records, scratch: i32, line: u64, d: Draft
     keep(out, at, scratch, &bytes)
 }
 
-// Puts a record behind those that wait, and writes them all out where there is no room for it.
+// Puts a record after those that wait. If there is no room for it, those are written out first.
 fn keep(out: &mut [u8], at: usize, scratch: i32, bytes: &[u8]) -> Records
     requires { ⌜ at ≤ length (now out) ⌝ }
     requires { ⌜ length (now bytes) ≤ length (now out) ⌝ }
@@ -232,12 +235,12 @@ fn put(out: &mut [u8], at: usize, bytes: &[u8]) -> Records
     Records::Waiting(text::put(out, at, bytes))
 }
 
-// Whether all of some bytes are in the scratch file.
+// Writes bytes to the scratch file. Returns whether all were written.
 fn written(scratch: i32, bytes: &[u8]) -> bool {
     files::write(b"lay.dat.XXXXXX", scratch, bytes)
 }
 
-// Appends the scratch file to the log, wholly or not at all.
+// Appends the scratch file to the log, completely or not at all.
 fn append(log: Log, scratch: i32) {
     match log {
         Log::Old { file, length } => lengthen(file, length, scratch),
@@ -269,7 +272,7 @@ fn begin(scratch: i32) {
     }
 }
 
-// Whether all of the scratch file is in the log to stay.
+// Copies all of the scratch file to the log, and makes sure that it is stored (fsync). Returns whether it is.
 fn copied(scratch: i32, file: i32) -> bool {
     if !copy_all(scratch, file) {
         return false;
@@ -310,7 +313,7 @@ fn copy_some(scratch: i32, file: i32) -> Copying {
     Copying::Some
 }
 
-// Tells a refusal, with its line, 0 for none.
+// Prints a refusal with the number of its input line, 0 for none.
 fn tell(line: u64, number: u32) {
     match number {
         1 => refused(

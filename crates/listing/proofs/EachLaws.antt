@@ -18,13 +18,13 @@ use Rattle.listing.specs.Putting.{Gives}
 use Rattle.listing.proofs.ListingLaws.{put-first}
 
 module _ (j : Job) (table : List ℕ) where
-  -- The first line of a log that has any byte, and the lines of the rest.
+  -- The lines of a log that is not empty: its first line, then the lines of the rest.
   lines-step : (place : Carried) (s : List ℕ) → 0 < length s →
       linesOf j table place s ≡ lineBefore (firstLine j table place s) (linesOf j table (carriedBy (firstAnswer j table place s)) (drop logBytes s))
   unfolding linesFrom
   lines-step place s some = ap (λ (n : ℕ). linesFrom n j table place s) (record-width .one-more s some)
 
-  -- A log up to `done` is listed: its text stands in a buffer, what is carried on is carried to the rest, and there is room for it.
+  -- A log is listed up to `done`: the text so far is in a buffer, the rest goes on from `place`, and there is room for its lines.
   pub record ListedTo (before : Carried) (log : List ℕ) (done : ℕ) (out₀ out : List ℕ) (end : ℕ) (place : Carried) : Type 0 where
     pub lines : Reached out₀ 0 (linesOf j table before log .text) (linesOf j table place (drop done log) .text) out end
     pub carries : linesOf j table before log .carried ≡ linesOf j table place (drop done log) .carried
@@ -34,7 +34,7 @@ module _ (j : Job) (table : List ℕ) where
   listed-none before log out h = record { lines = reached-none (linesOf j table before log .text) (omega arith); carries = refl; room = omega arith }
 
   module _ (before : Carried) (log : List ℕ) (done : ℕ) (out₀ out : List ℕ) (end : ℕ) (place : Carried) (l : ListedTo before log done out₀ out end place) where
-    -- One record more.
+    -- One more record is listed.
     pub listed-more : done < length log → (next : ℕ) → next ≡ pieceEnd done logBytes (length log) → let s = take (next - done) (drop done log) in
         (out′ : List ℕ) (end′ : ℕ) (place′ : Carried) → Put out end (lineOf s (answerOf j table place s)) out′ end′ → end′ ≤ end + longestLine →
         place′ ≡ carriedBy (answerOf j table place s) → ListedTo before log next out₀ out′ end′ place′
@@ -50,7 +50,7 @@ module _ (j : Job) (table : List ℕ) where
           room = omega (arith, room-left record-width log done next some e end longestLine (l .room), short);
         }
 
-    -- The whole log.
+    -- The whole log is listed.
     pub listed-all : length log ≤ done → Gives out₀ (linesOf j table before log) out (listed.Text end place)
     unfolding linesFrom
     listed-all all =

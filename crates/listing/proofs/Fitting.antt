@@ -1,4 +1,4 @@
--- A listing in a buffer that has the room for it: it is not refused, and the buffer then begins with its text.
+-- A listing in a buffer that has room for it: it is not refused, and the buffer then begins with its text.
 use Prim.Native.Nat.{ℕ, _≤_}
 use mathlib.Core.Bool.{true}
 use mathlib.Core.List.{List, _++_}

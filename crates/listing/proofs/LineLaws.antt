@@ -1,4 +1,4 @@
--- A line put together: its head, the entries of its list, and what the figures and the list of an answer come to.
+-- A line put together from its pieces: its head, the entries of its places, and an answer's text from its figures and its list.
 use Prim.Native.Nat.{ℕ, _+_, _*_}
 use mathlib.Core.Path.{_≡_, refl, sym, ap, _∙_}
 use mathlib.Core.Bool.{Bool, true, false, cond}
@@ -18,7 +18,7 @@ use Rattle.listing.specs.Answers.{RecordAnswer, Fix, Grid, Hold, Refused
 use Rattle.listing.specs.Listings.{headOf, placesText, answerText, lineOf}
 use Rattle.listing.specs.Putting.{Tells, wordText, wordOf, figureOf, answerVisits}
 
--- The head of a line, by what the raw record says.
+-- The head of a line: the line number of the raw record, or a dash if that is refused.
 headBy : RawAnswer → List ℕ
 headBy (raw.Record r) = digitsOf (r .line)
 headBy (raw.Refused number) = bytesIn "-"
@@ -39,13 +39,13 @@ pub head-dash : (s : List ℕ) (n : ℕ) → rawRecordOf s ≡ raw.Refused n →
 unfolding headBy
 head-dash s n e = sym (ap headBy e) ∙ head-is s
 
--- The entries of places, as text.
+-- The entries of places, as text, are the text of the places.
 pub places-text : (ps : List Place) → figuresText (entriesOf ps) ≡ placesText ps
 unfolding figuresText entriesOf placesText
 places-text [] = refl
 places-text (p ∷ ps) = ap (λ (z : List ℕ). spaced (p .easting) ++ (spaced (p .northing) ++ z)) (places-text ps)
 
--- An answer's text, by its word, its figures and its places.
+-- An answer's text, put together from its word, its figures and its places.
 byParts : RecordAnswer → List ℕ
 byParts a = wordText (wordOf a) ++ (spaced (figureOf a) ++ (spaced (answerVisits a) ++ placesText (placesOf a)))
 
@@ -56,14 +56,14 @@ by-parts (Grid p) = refl
 by-parts (Hold p) = refl
 by-parts (Refused number visits) = ap (λ (z : List ℕ). bytesIn " REFUSED" ++ (spaced number ++ z)) (append-nil (spaced visits))
 
--- The text of what is told is the answer's.
+-- The text made from the figures and the list of an answer is the answer's text.
 pub told-text : (a : RecordAnswer) (t : Told) (l : List ℕ) → Tells a t l →
     wordText (t .word) ++ (spaced (t .figure) ++ (spaced (t .visits) ++ figuresText (take (2 * t .count) l))) ≡ answerText a
 unfolding byParts
 told-text a t l h =
     rw (h .word, h .figure, h .visits, h .places .entries, places-text (placesOf a)) (by-parts a)
 
--- And the line, with its end.
+-- The same for the whole line, with its head and its newline.
 pub line-text : (s : List ℕ) (a : RecordAnswer) (t : Told) (l : List ℕ) → Tells a t l →
     headOf s ++ (wordText (t .word) ++ (spaced (t .figure) ++ (spaced (t .visits) ++ (figuresText (take (2 * t .count) l) ++ bytesIn "\n")))) ≡ lineOf s a
 line-text s a t l h =

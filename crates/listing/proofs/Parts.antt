@@ -1,5 +1,5 @@
--- A log listed in parts of whole records: the text of one behind that of the other, the place carried handed on.
--- By recursion over the records of the first part; the count of records of both together is the sum.
+-- A log listed in two parts, the first of whole records: the text of the second follows that of the first, and the place that the
+-- first carries on is handed to it. By recursion over the records of the first part; the counts of records add up.
 use Prim.Native.Nat.{ℕ, zero, suc, _+_, _*_, _/_, _%_, _≤_, _<_}
 use mathlib.Core.Path.{_≡_, sym, ap, _∙_}
 use mathlib.Core.List.{List, [], _∷_, _++_, append-assoc}
@@ -40,7 +40,7 @@ module _ (j : Job) (table : List ℕ) where
       )
       (line-joined (firstLine j table before a) rest (linesFrom m j table (rest .carried) b))
 
-  -- The lines of a log whose first part is whole records.
+  -- The lines of a log in two parts, the first of whole records.
   pub lines-joined : (before : Carried) (a b : List ℕ) → length a % logBytes ≡ 0 →
       linesOf j table before (a ++ b)
       ≡ joined (linesOf j table before a) (linesOf j table (linesOf j table before a .carried) b)
@@ -52,7 +52,7 @@ module _ (j : Job) (table : List ℕ) where
       ∙ ap (λ (p : Part). joined p (linesOf j table (p .carried) b))
       (ap (λ (k : ℕ). linesFrom k j table before a) (sym whole))
 
-  -- Fewer bytes than a record answer 1, and have one line.
+  -- A record that is too short is refused with 1, and has one line.
   short-answer : (before : Carried) (s : List ℕ) → length s < logBytes → answerOf j table before s ≡ Refused 1 0
   unfolding answerOf answerBy logEntryOf logRecordOf inCentimetres
   short-answer before s few = rw (ne-eqb (length s) logBytes (λ e. omega arith))
@@ -65,14 +65,14 @@ module _ (j : Job) (table : List ℕ) where
       ap (λ (k : ℕ). linesFrom k j table before s .text) one
       ∙ rw (take-all logBytes s (omega arith), short-answer before s few, ne-eqb (length s) logBytes (λ e. omega arith))
 
--- Where job and table are accepted, a listing is the lines of its log.
+-- If job and table are accepted, a listing is the lines of its log.
 module _ (job table : List ℕ) (j : Job) (n : ℕ)
     (good : jobOf job ≡ answer.Job j) (known : chainCountOf table ≡ count.Chains n) where
   pub listing-lines : (log : List ℕ) (before : Carried) → listingFrom job table log before ≡ linesOf j table before log
   unfolding listingFrom listingBy
   listing-lines log before = rw (good, known)
 
-  -- The listing of a log whose first part is whole records.
+  -- The listing of a log in two parts, the first of whole records.
   pub listing-joined : (before : Carried) (a b : List ℕ) → length a % logBytes ≡ 0 →
       listingFrom job table (a ++ b) before
       ≡ joined (listingFrom job table a before) (listingFrom job table b (listingFrom job table a before .carried))

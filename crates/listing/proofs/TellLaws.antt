@@ -1,4 +1,4 @@
--- What a record answers, told in figures with its places in a list.
+-- What a record answers, given as a word and figures, with its places in a list.
 use Prim.Native.Nat.{ℕ, _-_, _*_, _≤_}
 use mathlib.Core.Path.{_≡_, refl, sym, ap, ap₂, _∙_, subst, subst⁻¹}
 use mathlib.Core.Bool.{true, false}
@@ -41,7 +41,7 @@ none-first : (l : List ℕ) → Begins [] 0 l
 unfolding entriesOf
 none-first l = record { count = refl; few = omega arith; entries = refl }
 
--- What is told of a refused answer, and of one with a single place.
+-- The word and the figures of a refused answer, and of one with a single place.
 pub refused-tells : (number visits : ℕ) (l : List ℕ) → Tells (Refused number visits) (record { word = word.Refused; figure = number; visits = visits; count = 0 }) l
 unfolding wordOf figureOf answerVisits placesOf
 refused-tells number visits l = record { word = refl; figure = refl; visits = refl; places = none-first l }
@@ -71,7 +71,7 @@ search-first ps count l n size e =
           ∙ take-at (entriesOf ps) rest (2 * length ps) (length-entries ps);
     }
 
--- The only place of a list, by its entries.
+-- If an answer has exactly one place, that is in the first two entries of its list; otherwise it hands on nothing.
 pub only-none : (ps : List Place) → (length ps ≡ 1 → ⊥) → carried.Nothing ≡ only ps
 unfolding only
 only-none [] h = refl
@@ -88,13 +88,13 @@ only-one (p ∷ []) count l h b =
     (sym (getD-take 2 l 1 0 (omega arith)) ∙ ap (λ (x : List ℕ). getD x 1 0) e)
 only-one (p ∷ q ∷ ps) count l h b = absurd (omega (arith, h, b .count))
 
--- Two entries put first stand first.
+-- Two entries that are set at the start of a list are its first two.
 pub two-first : (l : List ℕ) (e n : ℕ) → 2 ≤ length l → take 2 (set (set l 0 e) 1 n) ≡ e ∷ n ∷ []
 two-first [] e n h = absurd (omega (arith, h))
 two-first (a ∷ []) e n h = absurd (omega (arith, h))
 two-first (a ∷ b ∷ l) e n h = refl
 
--- What a search's figures tell, its places in a list.
+-- The word and the figures of a search's answer, with its places in a list.
 pub search-tells : (o : Outcome) (f : SearchFigures) (l : List ℕ) → f ≡ searchFigures (o .answer) → Begins (o .places) (f .count) l → f .refusal ≡ 0 → Tells (searched o) (record { word = word.Fix; figure = f .count; visits = f .visits; count = f .count }) l
 unfolding searched wordOf figureOf answerVisits placesOf
 search-tells o f l e places none =
@@ -108,7 +108,7 @@ search-refused o f e some =
     let failed : eqb (searchFigures (o .answer) .refusal) 0 ≡ false = ne-eqb _ 0 (λ z. some (ap (λ (x : SearchFigures). x .refusal) e ∙ z)) in
     rw failed (ap (λ (x : SearchFigures). Refused (x .refusal) (x .visits)) e)
 
--- The same of a search with the program's list.
+-- The same for a search with the program's list.
 pub found-tells : (q : Question) (w : Window) (a : Answer) (f : SearchFigures) (t : Told) (l : List ℕ) →
     f ≡ searchFigures a → a ≡ searchOf q w .answer → l ≡ listOf listEntries (searchOf q w .places) → length l ≡ listEntries →
     ((o : Outcome) (l : List ℕ) → f ≡ searchFigures (o .answer) → Begins (o .places) (f .count) l → Tells (searched o) t l) →
@@ -118,7 +118,7 @@ found-tells q w a f t l figures answer list size told =
     told (searchOf q w) l e
     (search-first (searchOf q w .places) (f .count) l (ap (λ (x : SearchFigures). x .count) e ∙ listed-are-counted q w) size list)
 
--- What answers the same is told the same.
+-- Equal answers have the same word and figures.
 pub tells-as : {a b : RecordAnswer} {t : Told} {l : List ℕ} → a ≡ b → Tells a t l → Tells b t l
 tells-as {a} {b} {t} {l} e h = subst (λ (x : RecordAnswer). Tells x t l) e h
 
@@ -142,7 +142,7 @@ fix-tells j chain c a b a′ b′ n chained first second entries answer f t l fi
 pub fix-same : (j : Job) (a b a′ b′ : ℤ) (x y : NamedChain) → a′ ≡ a → b′ ≡ b → x ≡ y → fixBy j (a′ ∷ b′ ∷ []) x ≡ fixBy j (a ∷ b ∷ []) y
 fix-same j a b a′ b′ x y first second e = ap₂ (λ (u v : ℤ). fixBy j (u ∷ v ∷ []) x) first second ∙ ap (fixBy j (a ∷ b ∷ [])) e
 
--- What a record answers, by its entry.
+-- What a record answers, when its entry is `e`.
 pub answer-by : (j : Job) (table : List ℕ) (before : Carried) (s : List ℕ) (e : LogEntry) → logEntryOf s ≡ e → answerBy j (chainOf table (byteAt s 1)) before e ≡ answerOf j table before s
 unfolding answerOf
 answer-by j table before s e h = sym (ap (answerBy j (chainOf table (byteAt s 1)) before) h)

@@ -1,5 +1,5 @@
--- What a listing is worth: it may be made in parts, and what it is for an empty log, a short last record, a refused job or
--- table, and a hold. These are theorems on the definitions by which the functions of `listing` answer.
+-- What the definitions of a listing guarantee: it may be made in parts; and what it is for an empty log, a short last record, a
+-- refused job or table, and a hold. The contracts of `listing` are stated with the same definitions.
 use Prim.Native.Nat.{ℕ, _%_, _≤_, _<_}
 use mathlib.Core.Path.{_≡_, refl, ap, ap₂, _∙_}
 use mathlib.Core.List.{List, [], _∷_, _++_}
@@ -21,17 +21,17 @@ use Rattle.listing.specs.Answers.{Fix, Grid, Hold, Refused, holdOf, answ
 use Rattle.listing.specs.Listings.{Part, joined, linesFrom, listingBy, listingFrom, listingOf}
 use Rattle.listing.proofs.Parts.{short-line, listing-lines, listing-joined}
 
--- Here the job and the table are accepted.
+-- In this module the job and the table are accepted.
 module _ (job table : List ℕ) (j : Job) (n : ℕ)
     (good : jobOf job ≡ answer.Job j) (known : chainCountOf table ≡ count.Chains n) where
-  -- Listing a log in parts of whole records, with the carried place handed on, is listing it whole: so the program may
-  -- stream.
+  -- Listing a log in parts of whole records, each with the place carried from the one before, gives the listing of the whole log.
+  -- So the program may read and list a log part by part.
   pub in-parts : (before : Carried) (a b : List ℕ) → length a % logBytes ≡ 0 →
       listingFrom job table (a ++ b) before
       ≡ joined (listingFrom job table a before) (listingFrom job table b (listingFrom job table a before .carried))
   in-parts = listing-joined job table j n good known
 
-  -- So the whole output is that of the first part, and behind it what the place carried makes of the rest.
+  -- So the whole output is that of the first part, then the listing of the rest with the place carried to it.
   pub then-the-rest : (a b : List ℕ) → length a % logBytes ≡ 0 →
       listingOf job table (a ++ b)
       ≡ listingOf job table a ++ listingFrom job table b (listingFrom job table a carried.Nothing .carried) .text
@@ -43,7 +43,7 @@ module _ (job table : List ℕ) (j : Job) (n : ℕ)
   unfolding listingOf linesFrom
   empty-log = ap (λ (p : Part). p .text) (listing-lines job table j n good known [] carried.Nothing)
 
-  -- A log may end in 1 to 31 bytes behind its whole records: they have a line of their own, with a dash.
+  -- A log may end in 1 to 31 bytes after its whole records: they have a line of their own, with a dash.
   pub short-tail : (a b : List ℕ) → length a % logBytes ≡ 0 → 1 ≤ length b → length b < logBytes →
       listingOf job table (a ++ b) ≡ listingOf job table a ++ bytesIn "- REFUSED 1 0\n"
   short-tail a b h some few =
@@ -67,7 +67,7 @@ unfolding listingOf listingFrom listingBy bytesIn
 then-chain job table log j number good e =
     ap₂ (λ (t : JobAnswer) (c : ChainCount). listingBy t c table log carried.Nothing .text) good e
 
--- What a record hands on to a hold behind it. One that is refused hands on nothing.
+-- What a record hands on to a hold after it. A refused record hands on nothing.
 pub refused-carries : (number visits : ℕ) → carriedBy (Refused number visits) ≡ carried.Nothing
 unfolding placesOf only
 refused-carries number visits = refl
@@ -89,7 +89,7 @@ pub hold-carries : (p : Place) → carriedBy (Hold p) ≡ carried.Place p
 unfolding placesOf only
 hold-carries p = refl
 
--- A hold repeats the place carried to it, and where nothing is carried it is refused by 11.
+-- A hold repeats the place carried to it. If nothing is carried to it, it is refused with 11.
 pub hold-repeats : (j : Job) (table s : List ℕ) (p : Place) → logEntryOf s ≡ entry.Hold →
     answerOf j table (carried.Place p) s ≡ Hold p
 unfolding answerOf answerBy holdOf

@@ -38,18 +38,18 @@ searched o =
     (Fix (searchFigures (o .answer) .visits) (o .places))
     (Refused (searchFigures (o .answer) .refusal) (searchFigures (o .answer) .visits))
 
--- Readings by a chain of the table: what refuses the chain, or the search by the job.
+-- What two readings answer: the refusal of their chain, or what the search in the job's window answers.
 unfoldable pub fixBy : Job → List ℤ → NamedChain → RecordAnswer
 fixBy j readings (named.Chain c) =
     searched (searchOf (questionOf c readings (j .tolerance) (j .allowance) (2 * programRoom)) (j .window))
 fixBy j readings (named.Refused number) = Refused number 0
 
--- A hold repeats the place carried, and is refused where there is none.
+-- A hold repeats the place carried to it, and is refused if there is none.
 unfoldable pub holdOf : Carried → RecordAnswer
 holdOf (carried.Place p) = Hold p
 holdOf carried.Nothing = Refused 11 0
 
--- What a record's entry in centimetres answers, `chain` its chain in the table.
+-- What a record answers, from its entry in centimetres. `chain` is what the table answers for its chain number.
 unfoldable pub answerBy : Job → NamedChain → Carried → LogEntry → RecordAnswer
 answerBy j chain before (entry.Readings a b) = fixBy j (a ∷ b ∷ []) chain
 answerBy j chain before (entry.Place p) = Grid p
@@ -67,12 +67,12 @@ placesOf (Grid p) = p ∷ []
 placesOf (Hold p) = p ∷ []
 placesOf (Refused number visits) = []
 
--- The only place of a list: where there are none, or several, nothing.
+-- The only place of a list; nothing if the list has none or several.
 unfoldable pub only : List Place → Carried
 only [] = carried.Nothing
 only (p ∷ []) = carried.Place p
 only (p ∷ q ∷ ps) = carried.Nothing
 
--- The place that an answer hands on to the next record: an answer with exactly one place does.
+-- The place that an answer hands on to the next record. Only an answer with exactly one place hands on any.
 abbrev pub carriedBy : RecordAnswer → Carried
 carriedBy a = only (placesOf a)

@@ -21,7 +21,7 @@ use Rattle.listing.specs.declared.Listed.{Listed}
 use Rattle.listing.specs.declared.Listed.the-variants as listed
 use Rattle.listing.specs.Answers.{RecordAnswer, Fix, Grid, Hold, Refused, answerOf, carriedBy}
 
--- What stands first in a record's line: its line number, or a dash where the record is too short to have one.
+-- The start of a record's line: its line number, or a dash if the record does not have 32 bytes.
 unfoldable pub headOf : List ℕ → List ℕ
 headOf s = cond (eqb (length s) logBytes) (digitsOf (rawIn s .line)) (bytesIn "-")
 
@@ -30,7 +30,7 @@ unfoldable pub placesText : List Place → List ℕ
 placesText [] = []
 placesText (p ∷ ps) = spaced (p .easting) ++ (spaced (p .northing) ++ placesText ps)
 
--- What follows: the word; the count of places, or the number of the refusal; the visits; the places.
+-- The rest of the line: the word; the count of places, or the number of the refusal; the visits; the places.
 unfoldable pub answerText : RecordAnswer → List ℕ
 answerText (Fix visits ps) = bytesIn " FIX" ++ (spaced (length ps) ++ (spaced visits ++ placesText ps))
 answerText (Grid p) = bytesIn " GRID" ++ (spaced 1 ++ (spaced 0 ++ placesText (p ∷ [])))
@@ -46,15 +46,15 @@ pub record Part : Type 0 where
   pub text : List ℕ
   pub carried : Carried
 
--- A line before the rest.
+-- A line, and the rest after it.
 abbrev pub lineBefore : List ℕ → Part → Part
 lineBefore line rest = record { text = line ++ rest .text; carried = rest .carried }
 
--- One part behind another.
+-- One part after another.
 abbrev pub joined : Part → Part → Part
 joined first second = record { text = first .text ++ second .text; carried = second .carried }
 
--- What the first record of a log answers, and its line. A short one answers 1.
+-- What the first record of a log answers, and its line. A short record is refused with 1.
 abbrev pub firstAnswer : Job → List ℕ → Carried → List ℕ → RecordAnswer
 firstAnswer j table before log = answerOf j table before (take logBytes log)
 
@@ -67,7 +67,7 @@ linesFrom zero j table before log = record { text = []; carried = before }
 linesFrom (suc n) j table before log =
     lineBefore (firstLine j table before log) (linesFrom n j table (carriedBy (firstAnswer j table before log)) (drop logBytes log))
 
--- How many records a log has, a short last one among them.
+-- How many records a log has, including a short last one.
 abbrev pub recordsIn : List ℕ → ℕ
 recordsIn log = piecesIn logBytes log
 
@@ -75,17 +75,17 @@ recordsIn log = piecesIn logBytes log
 abbrev pub linesOf : Job → List ℕ → Carried → List ℕ → Part
 linesOf j table before log = linesFrom (recordsIn log) j table before log
 
--- The only line where the job or the table is refused.
+-- The only line that is printed if the job or the table is refused.
 abbrev pub noticeOf : List ℕ → ℕ → Part
 noticeOf word number = record { text = word ++ (bytesIn " REFUSED" ++ (spaced number ++ bytesIn "\n")); carried = carried.Nothing }
 
--- The listing by the job and the count of chains: the job's refusal, then the table's, then the lines.
+-- The listing: the job's refusal if the job is refused, else the table's refusal if that is refused, else the lines of the log.
 unfoldable pub listingBy : JobAnswer → ChainCount → List ℕ → List ℕ → Carried → Part
 listingBy (job.Refused number) chains table log before = noticeOf (bytesIn "JOB") number
 listingBy (job.Job j) (count.Refused number) table log before = noticeOf (bytesIn "CHAIN") number
 listingBy (job.Job j) (count.Chains n) table log before = linesOf j table before log
 
--- The listing of a log, or of a further part of one, by the bytes of job, table and log and the place carried to it.
+-- The listing of a log, or of a further part of one, from the bytes of job, table and log and the place carried to it.
 unfoldable pub listingFrom : List ℕ → List ℕ → List ℕ → Carried → Part
 listingFrom job table log before = listingBy (jobOf job) (chainCountOf table) table log before
 
@@ -93,16 +93,16 @@ listingFrom job table log before = listingBy (jobOf job) (chainCountOf table) ta
 unfoldable pub listingOf : List ℕ → List ℕ → List ℕ → List ℕ
 listingOf job table log = listingFrom job table log carried.Nothing .text
 
--- No line has more bytes: 256 places take at most 22 each, and what stands before them and the newline less than 128.
+-- No line has more bytes than this: 256 places take at most 22 each, and all the rest of the line takes less than 128.
 abbrev pub longestLine : ℕ
 longestLine = 5_760
 
--- A buffer of so many bytes has room for the longest line for each whole record of a log, and for one more.
+-- Whether a buffer of `bytes` bytes has room for the longest line for each whole record of a log, and for one more.
 abbrev pub hasListingRoom : ℕ → List ℕ → Bool
 hasListingRoom bytes log = ltb (length log / logBytes) (bytes / longestLine)
 
--- What is answered of a listing put into such a buffer, and what the buffer then holds: the text, and behind it what it held
--- before. Without the room, 9, and the buffer as it was.
+-- The answer when a listing is put into a buffer, and what the buffer then holds: the text, and after it what was there before.
+-- Without this room the answer is 9, and the buffer is unchanged.
 unfoldable pub listedIn : ℕ → List ℕ → Part → Listed
 listedIn bytes log p = cond (hasListingRoom bytes log) (listed.Text (length (p .text)) (p .carried)) (listed.Refused 9)
 

@@ -1,4 +1,4 @@
--- How the code puts lines into a buffer: what its private functions promise each other. No public promise rests on it.
+-- How the code puts lines into a buffer: what its private functions promise each other. No public contract refers to it.
 use Prim.Native.Nat.{ℕ, _+_, _*_, _≤_}
 use mathlib.Core.Path.{_≡_}
 use mathlib.Core.List.{List, _++_}
@@ -14,16 +14,16 @@ use Rattle.listing.specs.declared.Listed.the-variants as listed
 use Rattle.listing.specs.Answers.{RecordAnswer, Fix, Grid, Hold, Refused, programRoom, placesOf}
 use Rattle.listing.specs.Listings.{Part}
 
--- A listing was put at the start of a buffer, and this is answered of it.
+-- The listing `p` was put at the start of a buffer, and `answer` was returned for it.
 pub record Gives (before : List ℕ) (p : Part) (now : List ℕ) (answer : Listed) : Type 0 where
   pub answer-is : answer ≡ listed.Text (length (p .text)) (p .carried)
   pub now-is : now ≡ p .text ++ drop (length (p .text)) before
 
--- The entries of the program's list: two to a place.
+-- How many entries the program's list has: two for each place.
 abbrev pub listEntries : ℕ
 listEntries = 2 * programRoom
 
--- A list begins with these places, so many, and not more than there is room for.
+-- A list begins with these places. There are `n` of them, not more than the program's list has room for.
 pub record Begins (places : List Place) (n : ℕ) (list : List ℕ) : Type 0 where
   pub count : n ≡ length places
   pub few : n ≤ programRoom
@@ -36,7 +36,7 @@ wordText word.Grid = bytesIn " GRID"
 wordText word.Hold = bytesIn " HOLD"
 wordText word.Refused = bytesIn " REFUSED"
 
--- An answer's word, and the two numbers behind it.
+-- An answer's word, and the two numbers after it.
 unfoldable pub wordOf : RecordAnswer → Word
 wordOf (Fix visits places) = word.Fix
 wordOf (Grid p) = word.Grid
@@ -55,7 +55,7 @@ answerVisits (Grid p) = 0
 answerVisits (Hold p) = 0
 answerVisits (Refused number visits) = visits
 
--- An answer is told: these, with its places in a list.
+-- `t` has the word and the numbers of the answer `a`, and `list` begins with the places of `a`.
 pub record Tells (a : RecordAnswer) (t : Told) (list : List ℕ) : Type 0 where
   pub word : t .word ≡ wordOf a
   pub figure : t .figure ≡ figureOf a

@@ -44,7 +44,7 @@ enum Word {
     Refused,
 }
 
-// What a record answers, its places in a list. The figure is their count or the number of the refusal.
+// What a record answers; its places are in a list. `figure` is their count or the number of the refusal.
 struct Told {
     word: Word,
     figure: u64,
@@ -52,17 +52,17 @@ struct Told {
     count: usize,
 }
 
-// Where the text of the lines so far ends, and the place carried on.
+// Where the text of the lines so far ends, and the place carried on to the next record.
 struct LinesSoFar {
     end: usize,
     carried: Carried,
 }
 
-// No line of a record is longer.
+// No record's line has more bytes than this.
 pub const LONGEST_LINE: usize = 5_760;
 
-// Puts the listing of a log at the start of a buffer, or that of a further part of a log, with the place carried to it. The
-// buffer must have room for the longest line, 5,760 bytes, for each whole record of the log and for one more; else 9.
+// Puts the listing of a log, or of a further part of a log, at the start of a buffer; `before` is the place carried to it. The
+// buffer must have room for the longest line, 5,760 bytes, for each whole record of the log and for one more; else the answer is 9.
 pub fn list(out: &mut [u8], job: &[u8], table: &[u8], log: &[u8], before: Carried) -> Listed
     ensures answer { λ r. ⌜ r ≡ listLeft (now (out .entry)) (now (job .entry)) (now (table .entry)) (now (log .entry)) before .answer ⌝ }
     ensures out { λ _. ⌜ now (out .exit) ≡ listLeft (now (out .entry)) (now (job .entry)) (now (table .entry)) (now (log .entry)) before .buffer ⌝ }
@@ -86,7 +86,7 @@ fn by_job(out: &mut [u8], j: Job, table: &[u8], log: &[u8], before: Carried) -> 
     }
 }
 
-// The only line where job or table is refused.
+// Puts the only line that is printed if the job or the table is refused.
 fn notice(out: &mut [u8], word: &[u8], number: u32) -> Listed
     requires { ⌜ (length (now word) ≤ 5) × (longestLine ≤ length (now out)) ⌝ }
     ensures { λ r. ⌜ Gives (now (out .entry)) (noticeOf (now (word .entry)) number) (now (out .exit)) r ⌝ }
@@ -134,7 +134,7 @@ fn each_line(
     Listed::Text { length, carried }
 }
 
-// The line of one record.
+// Puts the line of one record, and returns the place that it carries on.
 fn one(
     out: &mut [u8],
     at: usize,
@@ -195,7 +195,7 @@ fn fix(list: &mut [u32], j: Job, chain: NamedChain, a: i64, b: i64) -> Told
     }
 }
 
-// A search's figures, its places in a list.
+// What a record answers, from the figures of its search, whose places are in a list.
 fn found(f: SearchFigures) -> Told
     ensures { λ r. ⌜ ((o : Outcome) (list : List ℕ) → f ≡ searchFigures (o .answer) → Begins (o .places) (f .count) list → Tells (searched o) r list) ⌝ }
 {
@@ -247,7 +247,7 @@ fn refused(number: u32, visits: u64) -> Told
     }
 }
 
-// The place carried on: that of an answer with exactly one.
+// The place carried on: the only place of the answer, or nothing if it has none or several.
 fn carry(list: &[u32], count: usize) -> Carried
     requires { ⌜ length (now list) ≡ listEntries ⌝ }
     ensures { λ r. ⌜ ((ps : List Place) → Begins ps count (now (list .entry)) → r ≡ only ps) ⌝ }
@@ -275,7 +275,7 @@ fn put_line(out: &mut [u8], at: usize, list: &[u32], s: &[u8], t: Told) -> usize
     text::put(out, e, b"\n")
 }
 
-// The line number, or a dash where the record is too short to have one.
+// Puts the line number, or a dash if the record does not have 32 bytes.
 fn put_head(out: &mut [u8], at: usize, s: &[u8]) -> usize
     requires { ⌜ at + 10 ≤ length (now out) ⌝ }
     ensures text { λ r. ⌜ Put (now (out .entry)) at (headOf (now (s .entry))) (now (out .exit)) r ⌝ }
@@ -300,7 +300,7 @@ fn put_word(out: &mut [u8], at: usize, w: Word) -> usize
     }
 }
 
-// The first entries of a list.
+// Puts the first `count` entries of a list.
 fn put_entries(out: &mut [u8], at: usize, list: &[u32], count: usize) -> usize
     requires { ⌜ (count ≤ length (now list)) × (at + 11 * count + 10 ≤ length (now out)) ⌝ }
     ensures text { λ r. ⌜ Put (now (out .entry)) at (figuresText (take count (now (list .entry)))) (now (out .exit)) r ⌝ }
@@ -315,7 +315,7 @@ fn put_entries(out: &mut [u8], at: usize, list: &[u32], count: usize) -> usize
     end
 }
 
-// A number behind a space.
+// Puts a space, then a number.
 fn put_figure(out: &mut [u8], at: usize, n: u64) -> usize
     requires { ⌜ at + 21 ≤ length (now out) ⌝ }
     ensures text { λ r. ⌜ Put (now (out .entry)) at (spaced n) (now (out .exit)) r ⌝ }

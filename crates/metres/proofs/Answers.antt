@@ -1,5 +1,5 @@
--- What reading a number of metres may answer: `centimetresOf` answers it, and nothing else may be answered.
--- A number and its centimetres have the same sign, so the sizes decide; where the signs differ the centimetres are 0.
+-- `centimetresOf` gives an answer that `MayAnswer` allows, and no other answer is allowed.
+-- A number and its centimetres have the same sign, so the sizes decide; if the signs differ, the centimetres are 0.
 use Prim.Native.Nat.{ℕ, zero, suc, _+_, _-_, _*_, _%_, _≤_, _<_}
 use mathlib.Core.Path.{_≡_, refl, sym, ap, _∙_, subst, subst⁻¹}
 use mathlib.Core.Bool.{Bool, true, false, cond}
@@ -58,7 +58,7 @@ size-signed true (suc n) = refl
 off-is : (t s : Bool) (n m : ℕ) (e : ℤ) → off s m e (signed t n) ≡ gap t s (n * down e) (hundredfold m e)
 off-is t s n m e = ap (λ (y : ℤ). natAbs (y -ℤ signed s (hundredfold m e))) (times t n (down e)) ∙ size-less t s (n * down e) (hundredfold m e)
 
--- With the same sign, the size is near exactly if the number is nearest.
+-- With the same sign, a number is nearest exactly if its size is near.
 gap-same : (s : Bool) (x y : ℕ) → gap s s x y ≡ (x - y) + (y - x)
 gap-same true x y = refl
 gap-same false x y = refl
@@ -82,7 +82,7 @@ module _ (s : Bool) (m : ℕ) (e : ℤ) (n : ℕ) where
   same-sign : IsNearest s m e (signed s n) → signed s n ≡ signed s (closest (hundredfold m e) (down e))
   same-sign h = ap (signed s) (near-only (hundredfold m e) (down e) n (down-pos e) (to-near h))
 
--- With the other sign, a size but 0 is more than a half off.
+-- With the other sign, any size but 0 is more than a half off.
 too-far : (a b n d : ℕ) → 0 < b → d ≡ suc n * b + a → 2 * d ≤ b → ⊥
 too-far a b n d p is h = omega (arith, suc-mul n b)
 
@@ -104,8 +104,7 @@ module _ (s : Bool) (m : ℕ) (e : ℤ) where
   unfolding centimetresOf
   refused h = rw (lt-leb (m * up e) (mostMetres * down e) h)
 
--- A number of metres may be answered by what `centimetresOf` says: the nearest whole number of centimetres, a tie going to the
--- even one, or the refusal.
+-- What `centimetresOf` answers is allowed: the nearest whole number of centimetres, a tie going to the even one, or the refusal.
 pub answers : (x : Float) → MayAnswer x (centimetresOf x)
 unfolding centimetresOf
 answers nan = tt
@@ -116,7 +115,7 @@ answers (fin s m e) = go (isReadable m e) refl
     go true h = (leb-true (m * up e) (mostMetres * down e) h, from-near s m e (closest (hundredfold m e) (down e)) (closest-near (hundredfold m e) (down e) (down-pos e)))
     go false h = leb-false (m * up e) (mostMetres * down e) h
 
--- And by nothing else.
+-- And nothing else is allowed.
 pub answers-only : (x : Float) (w : Whole) → MayAnswer x w → w ≡ centimetresOf x
 unfolding centimetresOf
 answers-only nan Refused h = refl

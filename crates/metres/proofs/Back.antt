@@ -36,7 +36,7 @@ comes-back n q unit fine few near =
 whole-closest : (c : ℕ) → closest c 1 ≡ c
 whole-closest c = sym (near-only c 1 c (lit< tt) (less-than-half c 1 c (omega (arith, mul-one c))))
 
--- The q units are within the limit, which is a whole number c of them.
+-- The q units are within the limit, if the limit is a whole number c of units.
 no-more : (n unit fine c : ℕ) → 0 < unit → c * unit ≡ mostMetres * fine → n ≤ mostCentimetres → closest (n * fine) (100 * unit) * unit ≤ mostMetres * fine
 no-more n unit fine c some is h =
     let larger : n * fine * 1 ≤ c * (100 * unit) =
@@ -44,7 +44,7 @@ no-more n unit fine c some is h =
     let least : closest (n * fine) (100 * unit) ≤ closest c 1 = closest-mono (n * fine) (100 * unit) c 1 (mul-pos (lit< tt) some) (lit< tt) larger in
     le-trans (mul-le-mul-right unit (le-trans least (le-of-eq (whole-closest c)))) (le-of-eq is)
 
--- The unit that `round` picks for n / 100, of the finest ones, 2 ^ -1074.
+-- The unit that `round` picks for n / 100: 2 ^ k times the finest one, which is 2 ^ -1074.
 module _ (n : ℕ) (h : n ≤ mostCentimetres) where
   abbrev k : ℕ
   k = size (n * 2 ^ 1074 / 100) - 53
@@ -81,7 +81,7 @@ module _ (n : ℕ) (h : n ≤ mostCentimetres) where
       subst⁻¹ (λ (x : Float). HasValue x s (q * 2 ^ k) (2 ^ 1074)) (round-is binary64 s n 100)
       (units-val binary64 s q k (lt-of-le-of-lt limited (lit< tt)))
 
--- A number of so many units reads as their rounded hundredfold.
+-- A number that is `units` times 2 ^ -1074 is read as its hundredfold, rounded.
 of-value : (x : Float) (s : Bool) (units n : ℕ) → HasValue x s units (2 ^ 1074) → units ≤ mostMetres * 2 ^ 1074 → n ≡ closest (100 * units) (2 ^ 1074) → centimetresOf x ≡ Centimetres (signed s n)
 of-value nan s units n v h is = absurd v
 of-value (inf t) s units n v h is = absurd v
@@ -92,7 +92,7 @@ of-value (fin t m e) s units n v h is =
     closest-same (hundredfold m e) (down e) (100 * units) (2 ^ 1074) (down-pos e) (pow-pos 1074) (hundredfold-value t s m units (2 ^ 1074) e v) in
     given t m e within ∙ ap₂ (λ (u : Bool) (c : ℕ). Centimetres (signed u c)) (v .0) (same ∙ sym is)
 
--- Divided by 100, a whole number is `round` of the fraction.
+-- A whole number n divided by 100 is `round` of the fraction n / 100.
 hundred-is : ofInt binary64 (pos 100) ≡ fin false 25 (pos 2)
 unfolding ofInt
 hundred-is = refl

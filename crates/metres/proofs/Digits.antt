@@ -1,5 +1,5 @@
--- Exactly 100 times a number, from the fields of its pattern. With an exponent of 0 the number is its digits in units of
--- 2 ^ -1074, and with an exponent of j + 1 it is 2 ^ 52 more than them, times 2 ^ j.
+-- Exactly 100 times a number, from the fields of its pattern. With an exponent of 0 the number is `digits` units of 2 ^ -1074;
+-- with an exponent of j + 1 it is (2 ^ 52 + digits) * 2 ^ j such units.
 use Prim.Native.Nat.{ℕ, zero, suc, _+_, _-_, _*_, _/_, _%_, _^_, _≤_, _<_}
 use mathlib.Core.Path.{_≡_, refl, sym, ap, _∙_, subst, subst⁻¹}
 use mathlib.Core.Bool.{Bool, true, false, not, cond, true≢false, false≢true}
@@ -19,7 +19,7 @@ use Rattle.metres.specs.Metres.{mostMetres, hundredfold}
 use Rattle.metres.specs.Hundredfolds.{IsHundredfold}
 use Rattle.metres.proofs.Exact.{hundredfold-value}
 
--- What is refused: NaN, and a number beyond one that has at least the size of the limit.
+-- What is refused: NaN, and a number beyond a bound that is itself at least the limit in size.
 pub refused-nan : (x : Float) → ne x x ≡ true → IsHundredfold x Refused
 refused-nan x h = subst⁻¹ (λ (y : Float). IsHundredfold y Refused) (differs-from-itself x (subst⁻¹ T h tt)) tt
 
@@ -43,7 +43,7 @@ refused-below a f (inf s) least h = tt
 refused-below a f (fin false m e) least h = absurd (false≢true h)
 refused-below a f (fin true m e) least h = beyond a m f e least h
 
--- What is left is a finite number within the limit, if the number it was compared with has at most the limit's size.
+-- What is left is a finite number within the limit, if the bounds that it was compared with are at most the limit in size.
 abbrev pub Readable : Float → Type 0
 Readable nan = ⊥
 Readable (inf s) = ⊥
@@ -71,7 +71,7 @@ not-nan nan h = absurd (true≢false h)
 not-nan (inf s) h = tt
 not-nan (fin s m e) h = tt
 
--- A number by its sign, its exponent and its digits, in units of 2 ^ -1074.
+-- The size of a number in units of 2 ^ -1074, from its exponent and its digits.
 abbrev units : ℕ → ℕ → ℕ
 units zero digits = digits * 2 ^ 0
 units (suc j) digits = (2 ^ 52 + digits) * 2 ^ j
@@ -108,7 +108,7 @@ exponent-limit j digits h = le-of-suc-le-suc (lt-of-not-le (λ (many : 1046 ≤ 
         let more : 2 ^ 52 * 2 ^ 1046 ≤ 2 ^ 52 * 2 ^ j = mul-le-mul-left (2 ^ 52) (pow-mono many) in
         lt-of-le-of-lt low (lt-of-le-of-lt h (lt-of-lt-of-le high more))
 
--- From so many units to an exact hundredfold.
+-- From a number of n units to its exact hundredfold.
 exact-of : (x : Float) (s : Bool) (n parts halvings : ℕ) → HasValue x s n (2 ^ 1074) → Readable x → parts < 2 ^ 60 → 100 * n * 2 ^ halvings ≡ parts * 2 ^ 1074 → IsHundredfold x (Exact s parts halvings)
 exact-of nan s n parts halvings v h few same = absurd h
 exact-of (inf t) s n parts halvings v h few same = absurd h
@@ -162,7 +162,7 @@ module _ (x : Float) (held : T (fits binary64 x)) (h : Readable x) where
   digits-few : digits < 2 ^ 52
   digits-few = mod-lt pattern (pow-pos 52)
 
-  -- With an exponent of 0: the digits.
+  -- With an exponent of 0, the digits alone are the number.
   pub without-lead : exponent ≡ 0 → IsHundredfold x (Exact is-minus (digits * 100) 1074)
   without-lead e =
       exact-of x is-minus (digits * 2 ^ 0) (digits * 100) 1074 (value 0 e) h (omega (arith, digits-few))
@@ -174,11 +174,11 @@ module _ (x : Float) (held : T (fits binary64 x)) (h : Readable x) where
   low : (exponent ≡ 0 → ⊥) → exponent - 1 ≤ 1045
   low e = exponent-limit (exponent - 1) digits (units-limit x is-minus ((2 ^ 52 + digits) * 2 ^ (exponent - 1)) h (value (suc (exponent - 1)) (past-zero e)))
 
-  -- Within the limit the exponent is below 1075, so there are halvings from 0 up.
+  -- Within the limit the exponent is at most 1046, so the number of halvings, 1075 - exponent, is not below 0.
   pub exponent-few : (exponent ≡ 0 → ⊥) → exponent ≤ 1046
   exponent-few e = omega (arith, low e)
 
-  -- With any other: the digits after a leading one.
+  -- With any other exponent, the digits follow a leading 1.
   pub with-lead : (exponent ≡ 0 → ⊥) → IsHundredfold x (Exact is-minus ((2 ^ 52 + digits) * 100) (1075 - exponent))
   with-lead e =
       let halvings : 1074 - (exponent - 1) ≡ 1075 - exponent = omega (arith, low e, e) in

@@ -1,4 +1,4 @@
--- What follows from exactly 100 times a number of metres: its centimetres, or the refusal. Equal fractions round alike.
+-- From exactly 100 times a number of metres to its centimetres, or to the refusal. Equal fractions round to the same number.
 use Prim.Native.Nat.{ℕ, _*_, _/_, _%_, _^_, _<_, compare}
 use mathlib.Core.Path.{_≡_, refl, sym, ap, ap₂, _∙_}
 use mathlib.Core.Bool.{Bool}
@@ -33,7 +33,7 @@ of-exact (fin s m e) minus parts halvings h =
     ∙ ap₂ (λ (t : Bool) (n : ℕ). whole.Centimetres (signed t n)) (sym (h .sign))
     (closest-same (hundredfold m e) (down e) parts (2 ^ halvings) (down-pos e) (pow-pos halvings) (h .exact)))
 
--- The parts of an exact hundredfold are few, so that twice a remainder fits 64 bits.
+-- An exact hundredfold has fewer than 2 ^ 60 parts, so that twice a remainder fits in 64 bits.
 pub exact-few : (x : Float) (minus : Bool) (parts halvings : ℕ) → IsHundredfold x (Exact minus parts halvings) → parts < 2 ^ 60
 exact-few nan minus parts halvings h = absurd h
 exact-few (inf s) minus parts halvings h = absurd h

@@ -1,4 +1,4 @@
--- A number of 63 bits and its negative among the signed numbers of 64.
+-- A number of 63 bits and its negative, among the signed numbers of 64 bits.
 use Prim.Native.Nat.{ℕ, zero, suc, _<_, _^_}
 use mathlib.Core.Path.{_≡_, ap, _∙_, subst⁻¹}
 use native.Mathlib.Omega.{arith}
@@ -8,7 +8,7 @@ use mir.Syntax.{w64}
 use mir.Val.{SFits, toZ}
 use mir.ValLaws.{toZ-pos}
 
--- Taken from 0 it is its negative, which fits.
+-- 0 minus the number is its negative, which fits.
 pub minus-is : (n : ℕ) → n < 2 ^ 63 → pos 0 -ℤ toZ w64 n ≡ negℤ (pos n)
 minus-is n small = ap (λ (z : ℤ). pos 0 -ℤ z) (toZ-pos w64 n (omega (arith, small))) ∙ +ℤ-idl (negℤ (pos n))
 

@@ -1,5 +1,5 @@
--- Numbers and their patterns: each comes back from the other, plus zero is the pattern 0 and no other, and what is put into
--- eight bytes is read there again.
+-- Numbers and their patterns of 64 bits: each gives back the other, plus zero has the pattern 0 and no other number has it, and
+-- what is put into eight bytes is read there again.
 use Prim.Native.Nat.{ℕ, _%_, _^_, _<_}
 use mathlib.Core.Path.{_≡_, refl, sym, ap, _∙_, subst}
 use mathlib.Core.Bool.{Bool, true, false, not, false≢true}
@@ -16,11 +16,11 @@ use Rattle.metres.specs.declared.Number.{Number}
 use Rattle.metres.specs.declared.Number.the-variants.{Value, Outside}
 use Rattle.metres.specs.Patterns.{numberOf, patternOf, isPlusZero, numberAt, putNumberAt, ReadsThere}
 
--- A pattern is NaN's exactly if, its sign taken off, it is above the infinity's.
+-- A pattern is one of NaN exactly if, without its sign, it is above the pattern of infinity.
 pub nan-above : (pattern : ℕ) → isNan (numberOf pattern) ≡ ltb 0x7ff0_0000_0000_0000 (pattern % 2 ^ 63)
 nan-above pattern = sym (nanBits-is binary64 pattern) ∙ nanBits-above binary64 pattern
 
--- NaN is one number.
+-- There is only one NaN.
 pub only-nan : (x : Float) → isNan x ≡ true → x ≡ nan
 unfolding isNan
 only-nan nan h = refl
@@ -31,7 +31,7 @@ only-nan (fin s m e) h = absurd (false≢true h)
 pub number-back : (x : Float) → T (fits binary64 x) → numberOf (patternOf x) ≡ x
 number-back x held = ofBits-toBits binary64 x held
 
--- A pattern comes back from its number, unless it is NaN's.
+-- A pattern comes back from its number, unless it is one of NaN.
 pub pattern-back : (pattern : ℕ) → pattern < 2 ^ 64 → isNan (numberOf pattern) ≡ false → patternOf (numberOf pattern) ≡ pattern
 pattern-back pattern small h = toBits-ofBits binary64 pattern small (subst (λ (t : Bool). T (not t)) (sym h) tt)
 
@@ -55,7 +55,7 @@ plus-zero-bytes pattern small = go (isNan (numberOf pattern)) refl
         ∙ nan-pattern
         ∙ sym (ne-eqb pattern 0 (λ z. false≢true (sym zero-no-nan ∙ ap (λ (p : ℕ). isNan (numberOf p)) (sym z) ∙ h)))
 
--- The answer about a number, made of the answer about its eight bytes.
+-- The answer about a number, made from the answer about its eight bytes.
 abbrev pub numberFrom : Eight → Number
 numberFrom (eight.Value pattern) = Value (numberOf pattern)
 numberFrom eight.Outside = Outside

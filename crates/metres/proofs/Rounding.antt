@@ -1,4 +1,4 @@
--- The whole number nearest to a fraction a / b, a tie going to the even one: `closest a b` is, and no other number is.
+-- The whole number nearest to a fraction a / b, a tie going to the even one: it is `closest a b`, and no other number.
 use Prim.Native.Nat.{ℕ, suc, _+_, _-_, _*_, _/_, _%_, _≤_, _<_, compare, Ordering, Ordering·lt, Ordering·eq, Ordering·gt}
 use mathlib.Core.Path.{_≡_, subst}
 use mathlib.Core.Bool.{not}
@@ -9,28 +9,28 @@ use lib.Dec.{T, isLe, isEq, eqb, leb→le, nleb→lt, eqb→eq, eqb-refl}
 use lib.Ieee.{nearest}
 use lib.Ieee.Nearest.{closest}
 
--- c is at most a half off a / b, and even where exactly a half off.
+-- c is at most a half off a / b, and even if exactly a half off.
 pub record Near (a b c : ℕ) : Type 0 where
   pub near : 2 * ((c * b - a) + (a - c * b)) ≤ b
   pub tie : 2 * ((c * b - a) + (a - c * b)) ≡ b → c % 2 ≡ 0
 
--- Less than a half off is near.
+-- A number less than a half off is near.
 pub less-than-half : (a b c : ℕ) → 2 * ((c * b - a) + (a - c * b)) < b → Near a b c
 less-than-half a b c h = record { near = omega arith; tie = λ t. absurd (omega arith) }
 
--- A quotient and its remainder say which number is near.
+-- A quotient and its remainder show which number is near.
 module _ (a b q r : ℕ) (whole : q * b + r ≡ a) where
-  -- Where the rest is less than a half, the quotient.
+  -- If the remainder is less than a half, the quotient.
   pub rest-less : r * 2 < b → Near a b q
   rest-less h = less-than-half a b q (omega arith)
 
-  -- Where it is more, the next number.
+  -- If it is more, the next number.
   pub rest-more : r < b → b < r * 2 → Near a b (q + 1)
   rest-more l h =
       let up : (q + 1) * b ≡ q * b + 1 * b = add-mul q 1 b in
       less-than-half a b (q + 1) (omega arith)
 
-  -- Where it is a half, the even one of the two.
+  -- If it is a half, the even one of the two.
   pub rest-half : r * 2 ≡ b → Near a b (q + q % 2)
   rest-half h =
       let up : (q + q % 2) * b ≡ q * b + q % 2 * b = add-mul q (q % 2) b in
@@ -64,7 +64,7 @@ not-less a b c d pos m n l =
     let even-d : d % 2 ≡ 0 = n .tie (omega arith) in
     omega arith
 
--- And nothing else is.
+-- And no other number is near.
 pub near-only : (a b c : ℕ) → 0 < b → Near a b c → c ≡ closest a b
 near-only a b c pos n =
     let d = closest a b in

@@ -1,4 +1,4 @@
--- A number below 0 and its neighbour above: the neighbour's negative fits, and is one less than the number's size.
+-- A number x below 0: the negative of x + 1 fits in 64 bits, and is one less than the size of x.
 use Prim.Native.Nat.{ℕ, zero, suc, _+_}
 use mathlib.Core.Path.{_≡_, refl, ap, subst⁻¹}
 use mathlib.Core.Bool.{true, false, true≢false}
@@ -10,7 +10,7 @@ use borrow.Author.Tests.{ltb-true, lt-ltb}
 use mir.Syntax.{w64}
 use mir.Val.{Fits, SFits}
 
--- What turning the sign of a number's neighbour rests on.
+-- What the code relies on when it turns the sign of x + 1.
 pub record Turned (x : ℤ) : Type 0 where
   pub up : SFits w64 (x +ℤ pos 1)
   pub turned : SFits w64 (pos 0 -ℤ (x +ℤ pos 1))

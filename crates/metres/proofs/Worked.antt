@@ -1,4 +1,4 @@
--- Numbers at the limits, computed from the definitions. 01's P cases stand in `demands`.
+-- Numbers at the limits, computed from the definitions. 01's P cases are in `demands`.
 use mathlib.Core.Path.{_≡_, refl}
 use mathlib.Core.Bool.{true, false}
 use lib.IntN.{pos, negsuc}
@@ -17,7 +17,7 @@ below-half : centimetresOf (numberOf 0x3f74_7ae1_47ae_147a) ≡ whole.Centimetre
 unfolding centimetresOf ofBits
 below-half = refl
 
--- 10,000,000 is read, the next number is refused, with 3 and 0, and so are NaN and the infinities.
+-- 10,000,000 is read; the next number is refused, with 3 and 0, and so are NaN and minus infinity.
 largest : centimetresOf (numberOf 0x4163_12d0_0000_0000) ≡ whole.Centimetres (pos 1_000_000_000)
 unfolding centimetresOf ofBits
 largest = refl
@@ -47,12 +47,12 @@ plus-zero-told : isPlusZero plusZero ≡ true
 unfolding isPlusZero toBits
 plus-zero-told = refl
 
--- No centimetres in metres are plus zero.
+-- 0 centimetres in metres are plus zero.
 none-in-metres : metresOf (pos 0) ≡ length.Metres plusZero
 unfolding metresOf
 none-in-metres = refl
 
--- One centimetre in metres, and the first number that is not written, with 3 and plus zero.
+-- One centimetre in metres; and -1,000,000,001, the first number beyond the limit, is refused with 3 and plus zero.
 one-hundredth : metresOf (pos 1) ≡ length.Metres (numberOf 0x3f84_7ae1_47ae_147b)
 unfolding metresOf ofBits
 one-hundredth = refl

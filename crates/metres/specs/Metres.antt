@@ -1,5 +1,5 @@
 -- Metres to whole centimetres and back (01, Metres to centimetres and back).
--- A finite number is `fin s m e`: m times 2 ^ e, which is the fraction m * up e / down e, below zero where s is true.
+-- A finite number is `fin s m e`: m times 2 ^ e, which is the fraction m * up e / down e, below zero if s is true.
 use Prim.Native.Nat.{ℕ, _*_, _≤_}
 use mathlib.Core.Path.{_≡_}
 use mathlib.Core.Bool.{Bool, true, false, cond}
@@ -26,7 +26,7 @@ abbrev pub signed : Bool → ℕ → ℤ
 signed false n = pos n
 signed true n = negℤ (pos n)
 
--- The size is at most 10,000,000 metres. It is tested as it is, before it is rounded.
+-- The size is at most 10,000,000 metres. The exact size is tested, before any rounding.
 abbrev pub isReadable : ℕ → ℤ → Bool
 isReadable m e = leb (m * up e) (mostMetres * down e)
 
@@ -65,6 +65,6 @@ unfoldable pub lengthFigures : Length → LengthFigures
 lengthFigures (length.Metres x) = record { refusal = 0; metres = x }
 lengthFigures length.Refused = record { refusal = 3; metres = plusZero }
 
--- Read again, the metres give the centimetres that they were made of.
+-- Read again, the metres give back the centimetres z that they were made from, if z is within the limit.
 abbrev pub ReadsBack : ℤ → Length → Type 0
 ReadsBack z l = natAbs z ≤ mostCentimetres → centimetresOf (lengthFigures l .metres) ≡ whole.Centimetres z

@@ -1,4 +1,4 @@
--- What an answer in centimetres must be, said without a way to find it (01, Metres to centimetres and back).
+-- What an answer in centimetres must be, without a method of finding it (01, Metres to centimetres and back).
 use Prim.Native.Nat.{ℕ, _*_, _%_, _≤_, _<_}
 use mathlib.Core.Path.{_≡_}
 use mathlib.Core.Bool.{Bool}
@@ -12,12 +12,12 @@ use Rattle.metres.specs.Metres.{mostMetres, signed, hundredfold}
 abbrev pub off : Bool → ℕ → ℤ → ℤ → ℕ
 off s m e z = natAbs (z *ℤ pos (down e) -ℤ signed s (hundredfold m e))
 
--- z is the nearest whole number, a tie going to the even one: at most a half off, and even where exactly a half off.
+-- z is the nearest whole number, a tie going to the even one: at most a half off, and even if exactly a half off.
 pub record IsNearest (s : Bool) (m : ℕ) (e z : ℤ) : Type 0 where
   pub near : 2 * off s m e z ≤ down e
   pub tie : 2 * off s m e z ≡ down e → natAbs z % 2 ≡ 0
 
--- What a number of metres may answer. `Unit` holds always, `⊥` never.
+-- What may be answered for a number of metres. `Unit` holds always, `⊥` never.
 abbrev pub MayAnswer : Float → Whole → Type 0
 MayAnswer nan Refused = Unit
 MayAnswer nan (Centimetres z) = ⊥

@@ -30,6 +30,6 @@ numberAt = answerAt 8 (λ pattern. Value (numberOf pattern)) Outside
 abbrev pub putNumberAt : List ℕ → ℕ → Float → List ℕ
 putNumberAt s at x = putAt 8 s at (patternOf x)
 
--- What was put at `at` of s is read there again.
+-- If x was put at `at`, inside s, it is read there again from `after`.
 abbrev pub ReadsThere : List ℕ → List ℕ → ℕ → Float → Type 0
 ReadsThere s after at x = inside 8 s at ≡ true → numberAt after at ≡ Value x

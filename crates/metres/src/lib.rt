@@ -9,19 +9,19 @@ ghost use Rattle.metres.specs.Hundredfolds.{IsHundredfold};
 ghost use Rattle.metres.specs.Patterns.{numberOf, patternOf, isPlusZero, numberAt, putNumberAt, ReadsThere};
 use fields::Eight;
 
-// What a number of metres comes to: whole centimetres, or nothing.
+// What a number of metres becomes: whole centimetres, or a refusal.
 pub enum Whole {
     Centimetres(i64),
     Refused,
 }
 
-// What a whole number of centimetres comes to: a number of metres, or nothing.
+// What a whole number of centimetres becomes: a number of metres, or a refusal.
 pub enum Length {
     Metres(f64),
     Refused,
 }
 
-// Both as figures: the number of the refusal, 0 for none, and what was asked for.
+// Both as figures: the number of the refusal, 0 for none, and the centimetres or metres.
 pub struct WholeFigures {
     pub refusal: u32,
     pub centimetres: i64,
@@ -32,13 +32,13 @@ pub struct LengthFigures {
     pub metres: f64,
 }
 
-// What stands in eight bytes: a number, or nothing where they are not all inside the slice.
+// What is read from eight bytes: a number, or `Outside` if they are not all inside the slice.
 pub enum Number {
     Value(f64),
     Outside,
 }
 
-// Exactly 100 times a number of metres: parts / 2 ^ halvings, below zero where minus is true.
+// Exactly 100 times a number of metres: parts / 2 ^ halvings, below zero if minus is true.
 enum Hundredfold {
     Exact {
         minus: bool,
@@ -79,7 +79,7 @@ pub fn metres(c: i64) -> Length
     Length::Metres(quotient)
 }
 
-// The size of a number. The least number has no negative, so it goes by its neighbour.
+// The size of a number. The least i64 has no negative, so a number below 0 has 1 added before its sign is turned, and 1 after it.
 pub fn size(c: i64) -> u64
     ensures { λ r. ⌜ r ≡ natAbs c ⌝ }
 {
@@ -146,8 +146,8 @@ pub fn number_at(s: &[u8], at: usize) -> Number
     }
 }
 
-// Puts a number into the eight bytes of s from `at` on and answers true, or changes nothing and answers false. What was put
-// is read there again.
+// Puts a number into the eight bytes of s from `at` on and answers true; if they are not all inside s, changes nothing and
+// answers false. What was put is read there again.
 pub fn put_number(s: &mut [u8], at: usize, x: f64) -> bool
     ensures answer { λ r. ⌜ r ≡ inside 8 (now (s .entry)) at ⌝ }
     ensures buffer { λ r. ⌜ now (s .exit) ≡ putNumberAt (now (s .entry)) at x ⌝ }
@@ -171,8 +171,8 @@ fn length_told(refusal: u32, metres: f64) -> LengthFigures
     LengthFigures { refusal, metres }
 }
 
-// Exactly 100 times a number, from the fields of its pattern: the exponent's, and the digits below the leading one. An
-// exponent of 0 has no leading digit and counts as 1.
+// Exactly 100 times a number, from two fields of its pattern: the exponent, and the binary digits after the leading 1. With an
+// exponent of 0 there is no leading 1, and the exponent counts as 1.
 fn times_hundred(x: f64) -> Hundredfold
     ensures { λ r. ⌜ IsHundredfold x r ⌝ }
 {
@@ -211,7 +211,7 @@ fn rounded(parts: u64, halvings: u64) -> u64
     requires { ⌜ parts < 2 ^ 60 ⌝ }
     ensures { λ r. ⌜ r ≡ closest parts (2 ^ halvings) ⌝ }
 {
-    // One would be 2 ^ 62 parts or more, and there are fewer than 2 ^ 60.
+    // The divisor is 2 ^ 62 or more, and there are fewer than 2 ^ 60 parts: less than a half.
     if halvings >= 62 {
         return 0;
     }

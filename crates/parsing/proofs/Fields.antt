@@ -1,5 +1,6 @@
--- Numbers that are too large for their field (specs/Numbers.antt, `held`). What is refused of a line's numbers as they are held
--- is what would be refused of the numbers themselves, whatever their size; and a number that is written is the one typed.
+-- Numbers that are too large for their field (specs/Numbers.antt, `held`). The numbers of a line, as their fields hold them,
+-- are refused exactly as the typed numbers would be, whatever their size; and every number that is written is the one that was
+-- typed.
 use Prim.Native.Nat.{ℕ, _+_, _^_, _<_}
 use mathlib.Core.Path.{_≡_, sym, ap, _∙_}
 use mathlib.Core.Bool.{true, _&&_, false≢true}
@@ -62,13 +63,13 @@ line-fits s h =
     let rest = both (isReading (wordAt 4 s)) _ y .1 in
     ltb-true (valueAt s 2) (2 ^ 32) (both (noWord 5 s) (fits 32 (valueAt s 2)) rest .1)
 
--- A draft has its line's numbers as their fields hold them.
+-- A line's draft has the typed numbers as their fields hold them.
 pub draft-line : (s : List ℕ) → parsedDraft s ≡ unless (isDraft s) (draft.Refused 12) (draft.Draft (heldDraft (draftTyped s)))
 unfolding parsedDraft
 draft-line s = rw (held-signed (isBelow (wordAt 3 s)) (sizeAt s 3), held-signed (isBelow (wordAt 4 s)) (sizeAt s 4))
 
--- A line that is taken as a job. The writer refuses of it what it would refuse of the numbers as they were typed, whatever their
--- size; and a job that it accepts has those numbers.
+-- A line that is read as a job: the writer refuses the job exactly as it would refuse the typed numbers, whatever their size;
+-- and a job that it accepts has the typed numbers.
 pub job-as-typed : (bytes : ℕ) (s : List ℕ) (j : Job) → parsedJob s ≡ job.Job j →
     (jobRefusalOf bytes j ≡ jobRefusalOf bytes (jobTyped s)) × (jobRefusalOf bytes j ≡ 0 → j ≡ jobTyped s)
 unfolding parsedJob
@@ -79,7 +80,7 @@ job-as-typed bytes s j e =
     let refused = ap (jobRefusalOf bytes) same ∙ job-refused bytes (jobTyped s) in
     (refused, λ accepted. same ∙ job-kept bytes (jobTyped s) small (sym refused ∙ accepted))
 
--- The same of a chain.
+-- The same for a chain.
 pub chain-as-typed : (bytes : ℕ) (s : List ℕ) (c : Chain) → parsedChain s ≡ chain.Chain c →
     (chainRefusalOf bytes c ≡ chainRefusalOf bytes (chainTyped s)) × (chainRefusalOf bytes c ≡ 0 → c ≡ chainTyped s)
 unfolding parsedChain
@@ -89,7 +90,7 @@ chain-as-typed bytes s c e =
     let refused = ap (chainRefusalOf bytes) same ∙ chain-refused bytes (chainTyped s) in
     (refused, λ accepted. same ∙ chain-kept bytes (chainTyped s) (sym refused ∙ accepted))
 
--- The same of a draft; one that is accepted has the numbers that its kind uses.
+-- The same for a draft; one that is accepted has the typed numbers that its kind uses.
 pub draft-as-typed : (bytes : ℕ) (s : List ℕ) (d : Draft) → parsedDraft s ≡ draft.Draft d →
     (refusalOf bytes d ≡ refusalOf bytes (draftTyped s)) × (refusalOf bytes d ≡ 0 → usedOf d ≡ usedOf (draftTyped s))
 draft-as-typed bytes s d e =
@@ -98,8 +99,8 @@ draft-as-typed bytes s d e =
     let refused = ap (refusalOf bytes) same ∙ draft-refused bytes (draftTyped s) in
     (refused, λ accepted. ap usedOf same ∙ draft-kept bytes (draftTyped s) (line-fits s (form .0)) (sym refused ∙ accepted))
 
--- The other way: a line of the form whose numbers the writer accepts is taken as these numbers; of a draft, as what its kind
--- uses.
+-- The other way: a line of the right form whose numbers the writer accepts is read as these numbers; for a draft, as the
+-- numbers that its kind uses.
 pub job-taken : (bytes : ℕ) (s : List ℕ) → isLine 5 s ≡ true → valueAt s 4 < 2 ^ 64 → jobRefusalOf bytes (jobTyped s) ≡ 0 →
     parsedJob s ≡ job.Job (jobTyped s)
 unfolding parsedJob
@@ -119,8 +120,8 @@ draft-taken bytes s d form typed accepted =
     draft-line s
     ∙ rw form (ap draft.Draft (ap heldDraft typed ∙ used-kept bytes d (omega (arith, line-fits s form)) accepted))
 
--- A line that is taken as a question. A table names the chain that it names by the number as it was typed, whatever its size; and
--- at the place a chain has the readings, or the refusal, that it has at the place as it was typed.
+-- A line that is read as a question: its number names the same chain of a table as the typed number, whatever its size; and at
+-- its place a chain has the same readings, or the same refusal, as at the typed place.
 pub question-as-typed : (table s : List ℕ) (number : ℕ) (p : Place) → parsedQuestion s ≡ question.Question number p →
     (chainOf table number ≡ chainOf table (valueAt s 0))
     × (inRange p ≡ inRange (placeTyped s 1))

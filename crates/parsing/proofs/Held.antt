@@ -1,5 +1,5 @@
--- A number in its field passes the tests that the number itself passes, as long as they ask for less than the greatest that
--- the field holds; and where it passes them it is the number itself.
+-- A number as its field holds it passes the same tests as the number itself, as long as the limit tested for is less than the
+-- greatest that the field holds; and if it passes them, it is the number itself.
 use Prim.Native.Nat.{ℕ, zero, suc, _+_, _-_, _^_, _≤_, _<_}
 use mathlib.Core.Path.{_≡_, refl, sym, ap, ap₂, _∙_}
 use mathlib.Core.Bool.{Bool, true, false, _&&_}
@@ -20,7 +20,7 @@ use Rattle.records.specs.LogRecords.{isPlace}
 use Rattle.records.specs.ChainTables.{oneTo}
 use Rattle.parsing.specs.Numbers.{held}
 
--- Tests that fail together and pass together are one.
+-- Two tests that pass together and fail together are equal.
 leb-agree : (a b most : ℕ) → (most < b → most < a) → (b ≤ most → a ≤ most) → leb a most ≡ leb b most
 leb-agree a b most f g = go (leb b most) refl
   where
@@ -28,11 +28,11 @@ leb-agree a b most f g = go (leb b most) refl
     go true e = le-leb a most (g (leb-true b most e))
     go false e = lt-leb a most (f (leb-false b most e))
 
--- A number that the field has room for is itself there.
+-- A number that fits its field is held as it is.
 pub number-held : (bits n : ℕ) → n < 2 ^ bits → held bits n ≡ n
 number-held bits n h = omega arith
 
--- The tests: at most, at most with more behind it, at least 1, equal, 1 to another.
+-- The tests: at most `most`, at most `most` after adding `more`, at least 1, equal to m, from 1 to `most`.
 pub held-most : (bits n most : ℕ) → most + 1 < 2 ^ bits → leb (held bits n) most ≡ leb n most
 held-most bits n most h = leb-agree (held bits n) n most (λ l. omega arith) (λ l. omega arith)
 
@@ -70,7 +70,7 @@ place-held p h =
     let says = in-range-says p h in
     rw (number-held 32 (p .easting) (omega arith), number-held 32 (p .northing) (omega arith))
 
--- A chain. Stations that are equal only as they are held are out of range, and so were they before.
+-- A chain. Stations that are equal only as their fields hold them are out of range, and so are the typed ones.
 abbrev pub heldChain : Chain → Chain
 heldChain c = record { master = heldPlace (c .master); a = heldPlace (c .a); b = heldPlace (c .b) }
 
@@ -125,7 +125,7 @@ window-held w h =
       number-held 32 (w .corner .northing) (omega (arith, far .1)),
     )
 
--- A whole number in 64 bits with a sign.
+-- A whole number as a field of 64 bits with a sign holds it.
 abbrev pub heldWhole : ℤ → ℤ
 heldWhole (pos n) = pos (held 63 n)
 heldWhole (negsuc n) = negℤ (pos (held 63 (suc n)))

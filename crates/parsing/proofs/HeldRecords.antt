@@ -1,5 +1,5 @@
--- A job, a chain, a draft and a question whose numbers are held in their fields: what is refused of them is what would be refused
--- of the numbers themselves, and what is accepted has them.
+-- A job, a chain, a draft and a question with their numbers as the fields hold them: they are refused exactly as the typed
+-- numbers would be, and what is accepted has the typed numbers.
 use Prim.Native.Nat.{ℕ, _%_, _^_, _≤_, _<_}
 use mathlib.Core.Path.{_≡_, refl, sym, ap, _∙_}
 use mathlib.Core.Bool.{Bool, true, false, cond, _&&_, _||_, and-false}
@@ -84,7 +84,7 @@ draft-refused bytes d =
       held-one-to 32 mostChains (d .chain) (omega arith),
     )
 
--- What the held draft uses is what the draft uses, held; and where the draft is accepted, its numbers themselves.
+-- The held draft uses what the draft uses, as its fields hold it; and if the draft is accepted, these are its own numbers.
 held-used : (d : Draft) → usedOf (heldDraft d) ≡ heldDraft (usedOf d)
 unfolding usedOf
 held-used d =
@@ -134,7 +134,7 @@ used-kept bytes d small e =
 pub draft-kept : (bytes : ℕ) (d : Draft) → d .line < 2 ^ 32 → refusalOf bytes d ≡ 0 → usedOf (heldDraft d) ≡ usedOf d
 draft-kept bytes d small e = held-used d ∙ used-kept bytes d small e
 
--- A question: the chain of a table that has the number, and the readings expected at the place.
+-- A question: the chain of a table that the number names, and the readings expected at the place.
 table-few : (table : List ℕ) → isTable table ≡ true → chainsIn table ≤ mostChains
 table-few table h =
     one-to-says mostChains (chainsIn table)

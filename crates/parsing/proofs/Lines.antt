@@ -34,7 +34,7 @@ span-empty {s} {w} {p} h = go (eqb (p .end) (p .start)) refl
     go false e =
         sym (ne-eqb (length w) 0 (λ none. eqb-false (p .end) (p .start) e (omega (arith, span-length h, h .rises, none))))
 
--- A minus sign is taken off by starting behind it.
+-- A minus sign is taken off by starting after it.
 pub below-some : (w : List ℕ) → isBelow w ≡ true → 1 ≤ length w
 below-some [] e = absurd (omega (arith, eqb-true 0 45 e))
 below-some (b ∷ bs) e = omega arith
@@ -54,7 +54,7 @@ span-behind-sign {s} {w} {p} h e =
 pub size-plain : (w : List ℕ) → isBelow w ≡ false → sizeIn w ≡ w
 size-plain w e = rw (e)
 
--- Numbers up to one that is none.
+-- Words that are numbers, up to one that is not.
 pub numbers-stop : (n i : ℕ) (s : List ℕ) → i < n → isNumber (wordAt i s) ≡ false → areNumbers n s ≡ false
 unfolding areNumbers
 numbers-stop zero i s h e = absurd (omega arith)

@@ -1,4 +1,5 @@
--- A number put as its digits, and a whole number with its sign, is a word that is read as itself; so are the numbers of a line.
+-- A number written as its digits, and a whole number written with its sign, is a word that is read as the same number; so are
+-- the numbers of a line.
 use Prim.Native.Nat.{ℕ, zero, suc, _≤_, _<_}
 use mathlib.Core.Path.{_≡_, refl, ap, _∙_}
 use mathlib.Core.Bool.{true, false}
@@ -42,7 +43,7 @@ digits-number n =
     (eq-eqb (run isDigit (digitsOf n)) (length (digitsOf n))
     (run-all isDigit (digitsOf n) (λ i l. digit-is (getD (digitsOf n) i 0) (all-digits n i l))))
 
--- With a sign, or without one where it is not below 0, they are a reading.
+-- With a minus sign if the number is below 0, and without one if not, they are a reading.
 not-below : (n : ℕ) → isBelow (digitsOf n) ≡ false
 not-below n = ne-eqb (getD (digitsOf n) 0 0) 45 (λ e. omega (arith, all-digits n 0 (digits-some n) .low))
 
@@ -69,7 +70,7 @@ whole-back z =
     ap (signed (isBelow (wholeText z))) (ap numeral (whole-size z) ∙ reads-back (natAbs z))
     ∙ whole-sign z
 
--- Numbers that are put are words.
+-- Numbers written as text are words.
 digits-words : (ns : List ℕ) → EachIsWord (map digitsOf ns)
 digits-words [] = tt
 digits-words (n ∷ ns) = (digits-word n, digits-words ns)
@@ -82,7 +83,7 @@ figures-spaced (n ∷ ns) = ap (λ (rest : List ℕ). spaced n ++ rest) (figures
 word-there : (ns : List ℕ) (i : ℕ) → wordAt i (figuresText ns) ≡ getD (map digitsOf ns) i []
 word-there ns i = ap (wordAt i) (figures-spaced ns) ∙ words-back (map digitsOf ns) (digits-words ns) i
 
--- Each is a number, and has its value; behind them there is no more.
+-- Each is a number and has its value; after them there are no more words.
 number-there : (ns : List ℕ) (i : ℕ) → i < length ns → isNumber (getD (map digitsOf ns) i []) ≡ true
 number-there [] i h = absurd (omega arith)
 number-there (n ∷ ns) zero h = digits-number n

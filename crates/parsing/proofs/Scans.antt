@@ -1,4 +1,4 @@
--- The bytes of a kind at the start of a text, and what stands behind them.
+-- The run of bytes at the start of a text that pass a test, and what follows it.
 use Prim.Native.Nat.{ℕ, zero, suc, _+_, _-_, _≤_, _<_}
 use mathlib.Core.Path.{_≡_, refl, sym, ap, _∙_}
 use mathlib.Core.Bool.{Bool, true, false}
@@ -12,7 +12,8 @@ use Rattle.parsing.specs.Words.{run, areAll, isInLine, isBlank, isInWord
 use Rattle.parsing.specs.Numbers.{isDigit}
 use Rattle.parsing.specs.Scanning.{isOf, Spans}
 
--- One more where the byte is such, and none where it is not or where the text has ended.
+-- The run from i on is one longer than the run from i + 1 on if the byte at i passes the test. It is empty if the byte does
+-- not, or if the text has ended.
 pub run-more : (such : ℕ → Bool) (s : List ℕ) (i : ℕ) → i < length s → such (getD s i 0) ≡ true → run such (drop i s) ≡ suc (run such (drop (i + 1) s))
 unfolding run
 run-more such s i h e = rw (drop-cons s i 0 h, e, add-one)
@@ -25,7 +26,7 @@ pub run-ended : (such : ℕ → Bool) (s : List ℕ) (i : ℕ) → length s ≤ 
 unfolding run
 run-ended such s i h = rw (drop-of-length-le s h)
 
--- Never more than there are.
+-- A run is never longer than its text.
 pub run-within : (such : ℕ → Bool) (s : List ℕ) → run such s ≤ length s
 unfolding run
 run-within such [] = omega arith
@@ -38,7 +39,7 @@ run-within such (b ∷ bs) = go (such b) refl (run-within such bs)
 pub scan-within : (such : ℕ → Bool) (s : List ℕ) (from : ℕ) → from ≤ length s → from + run such (drop from s) ≤ length s
 scan-within such s from h = omega (arith, run-within such (drop from s), length-drop from s, h)
 
--- What the code scans for.
+-- The classes that the code scans for are the tests of the definitions.
 pub line-class : (s : List ℕ) → run (isOf class.InLine) s ≡ run isInLine s
 unfolding isOf
 line-class s = refl
@@ -59,7 +60,7 @@ pub all-in-word : (s : List ℕ) → areAll (isOf class.InWord) s ≡ areAll isI
 unfolding isOf
 all-in-word s = refl
 
--- Two scans, past the blanks from a place on and past the word behind them.
+-- Two scans: past the blanks from `at` on, then past the word after them.
 pub record Scanned (s : List ℕ) (at start end : ℕ) : Type 0 where
   pub inside : at ≤ length s
   pub to-start : start ≡ at + run (isOf class.Blank) (drop at s)
@@ -71,7 +72,7 @@ from-word {s} {at} {start} {end} h =
     ∙ drop-drop (run (isOf class.Blank) (drop at s)) at s
     ∙ ap (λ (n : ℕ). drop n s) (sym (h .to-start))
 
--- They end where the line goes on behind the word,
+-- What is left of the line after both scans is what follows the word,
 pub scanned-behind : {s : List ℕ} {at start end : ℕ} → Scanned s at start end → behindWord (drop at s) ≡ drop end s
 scanned-behind {s} {at} {start} {end} h =
     ap (λ (t : List ℕ). drop (run isInWord t) t) (from-word h)
@@ -85,7 +86,7 @@ scanned-start {s} {at} {start} {end} h = omega (arith, h .to-start, scan-within 
 pub scanned-end : {s : List ℕ} {at start end : ℕ} → Scanned s at start end → end ≤ length s
 scanned-end {s} {at} {start} {end} h = omega (arith, h .to-end, scan-within (isOf class.InWord) s start (scanned-start h))
 
--- and have the word between them.
+-- and the bytes between their ends are the word.
 pub scanned-word : {s : List ℕ} {at start end : ℕ} → Scanned s at start end → Spans s (firstWord (drop at s)) (record { start = start; end = end })
 scanned-word {s} {at} {start} {end} h =
     let size : end - start ≡ run isInWord (drop start s) = omega (arith, h .to-end, word-class (drop start s)) in
@@ -97,7 +98,7 @@ scanned-word {s} {at} {start} {end} h =
           ∙ sym (ap (λ (t : List ℕ). take (run isInWord t) t) (from-word h));
     }
 
--- The word behind some others is the word behind one less, farther on.
+-- The word after i others is the word after i - 1 others in what follows the first word.
 pub word-next : (i : ℕ) (s : List ℕ) → 0 < i → wordAt i s ≡ wordAt (i - 1) (behindWord s)
 unfolding wordAt
 word-next zero s h = absurd (omega arith)

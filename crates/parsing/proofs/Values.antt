@@ -1,4 +1,4 @@
--- The value of digits as it is worked out, and numbers in fields of so many bits.
+-- The value of digits as the code works it out, and numbers in fields of a given number of bits.
 use Prim.Native.Nat.{ℕ, _+_, _-_, _*_, _^_, _≤_, _<_}
 use mathlib.Core.Path.{_≡_, refl, sym, ap, _∙_}
 use mathlib.Core.Bool.{Bool, true, false}
@@ -15,7 +15,7 @@ use Rattle.parsing.specs.declared.Sized.the-variants.{Value, Large}
 use Rattle.parsing.specs.Numbers.{fits, held}
 use Rattle.parsing.specs.Scanning.{sizedOf, isValue, heldTo, heldIn, fitsIn}
 
--- One digit more, and the last.
+-- The value after one more digit, and after the last.
 pub numeral-more : (n : ℕ) (w : List ℕ) (i : ℕ) → i < length w → numeralFrom n (drop i w) ≡ numeralFrom (10 * n + (getD w i 0 - 48)) (drop (i + 1) w)
 unfolding numeralFrom
 numeral-more n w i h = rw (drop-cons w i 0 h, add-one)
@@ -24,20 +24,20 @@ pub numeral-ended : (n : ℕ) (w : List ℕ) (i : ℕ) → length w ≤ i → nu
 unfolding numeralFrom
 numeral-ended n w i h = rw (drop-of-length-le w h)
 
--- Digits behind a number make it no smaller.
+-- Further digits never make a number smaller.
 pub numeral-grows : (n : ℕ) (w : List ℕ) → n ≤ numeralFrom n w
 unfolding numeralFrom
 numeral-grows n [] = omega arith
 numeral-grows n (b ∷ bs) = omega (arith, numeral-grows (10 * n + (b - 48)) bs)
 
--- A number of 64 bits is told as it is, and a larger one as that.
+-- A number of at most 64 bits is given as `Value`, and a larger one as `Large`.
 pub sized-small : (n : ℕ) → n < 2 ^ 64 → sizedOf n ≡ Value n
 sized-small n h = rw (lt-ltb n (2 ^ 64) h)
 
 pub sized-large : (n : ℕ) → 2 ^ 64 ≤ n → sizedOf n ≡ Large
 sized-large n h = rw (le-ltb n (2 ^ 64) h)
 
--- So nothing is lost of it for a field of at most 64 bits.
+-- So a field of at most 64 bits holds the same of it as of the number itself.
 pub held-sized : (bits n : ℕ) → 2 ^ bits ≤ 2 ^ 64 → heldIn bits (sizedOf n) ≡ held bits n
 unfolding heldTo
 held-sized bits n h = go (ltb n (2 ^ 64)) refl
@@ -54,7 +54,7 @@ fits-sized bits n h = go (ltb n (2 ^ 64)) refl
     go true e = rw (e)
     go false e = rw (e, le-ltb n (2 ^ bits) (omega (arith, ltb-false n (2 ^ 64) e)))
 
--- What a field is given of a number that was told.
+-- What a field holds of a number that is given in this way.
 pub held-told : (bits m : ℕ) {n : Sized} {r : ℕ} → 2 ^ bits ≤ 2 ^ 64 → r ≡ heldIn bits n → n ≡ sizedOf m → r ≡ held bits m
 held-told bits m h r-is n-is = r-is ∙ ap (heldIn bits) n-is ∙ held-sized bits m h
 
@@ -71,7 +71,7 @@ value-sized n = go (ltb n (2 ^ 64)) refl
     go true e = rw (e)
     go false e = rw (e)
 
--- A test by the greatest number of 32 bits.
+-- The test by the greatest number of 32 bits.
 pub fits-32 : (n : ℕ) → leb n 4_294_967_295 ≡ fits 32 n
 fits-32 n = go (leb n 4_294_967_295) refl
   where

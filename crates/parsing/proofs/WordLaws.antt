@@ -1,4 +1,4 @@
--- Words that are put one behind the other, each behind a space, are the words of the line that they make.
+-- Words that are put one after the other, each after a space, are the words of the line that they make.
 use Prim.Native.Nat.{ℕ, zero, suc, _+_, _≤_, _<_}
 use mathlib.Core.Path.{_≡_, refl, sym, ap, _∙_}
 use mathlib.Core.Bool.{Bool, true, false}
@@ -18,7 +18,7 @@ abbrev pub EachIsWord : List (List ℕ) → Type 0
 EachIsWord [] = Unit {0}
 EachIsWord (w ∷ ws) = IsWord w × EachIsWord ws
 
--- Words, each behind a space.
+-- Words, each after a space.
 unfoldable pub spacedWords : List (List ℕ) → List ℕ
 spacedWords [] = []
 spacedWords (w ∷ ws) = (32 ∷ w) ++ spacedWords ws
@@ -33,7 +33,7 @@ pub spaced-one : (w : List ℕ) → 32 ∷ w ≡ spacedWords (w ∷ [])
 unfolding spacedWords
 spaced-one w = sym (append-nil (32 ∷ w))
 
--- Bytes that are all such are counted before what stands behind them; and one by one.
+-- A run that covers all of w goes on into what follows w; and it covers all of w if each byte of w passes the test.
 run-first : (such : ℕ → Bool) (b : ℕ) (bs : List ℕ) → run such (b ∷ bs) ≡ suc (length bs) →
     (such b ≡ true) × (run such bs ≡ length bs)
 unfolding run
@@ -61,7 +61,7 @@ unfolding run spacedWords
 words-ended [] = refl
 words-ended (w ∷ ws) = refl
 
--- No blank stands at the start of a word.
+-- A word does not begin with a blank.
 no-blank : (w rest : List ℕ) → IsWord w → run isBlank (w ++ rest) ≡ 0
 unfolding run
 no-blank [] rest h = absurd (omega (arith, h .some))
@@ -81,7 +81,7 @@ module _ (w : List ℕ) (ws : List (List ℕ)) (h : IsWord w) where
   behind-spaced : behindWord (spacedWords (w ∷ ws)) ≡ spacedWords ws
   behind-spaced = ap (λ (t : List ℕ). drop (run isInWord t) t) from-spaced ∙ drop-at w (spacedWords ws) _ as-long
 
--- The words of the line are the words, and behind them there are only empty ones.
+-- The words of the line are these words, and after them there are only empty ones.
 pub words-back : (ws : List (List ℕ)) → EachIsWord ws → (i : ℕ) → wordAt i (spacedWords ws) ≡ getD ws i []
 unfolding wordAt run spacedWords
 words-back [] h zero = refl

@@ -13,11 +13,11 @@ use Rattle.parsing.specs.Words.{areAll, wordAt}
 abbrev pub isDigit : ℕ → Bool
 isDigit b = leb 48 b && leb b 57
 
--- A number: digits, one at least, and nothing else. Its value is `numeral`.
+-- A number: one digit or more, and nothing else. Its value is `numeral`.
 abbrev pub isNumber : List ℕ → Bool
 isNumber w = areAll isDigit w
 
--- A reading is a number that may have a minus sign in front of it.
+-- A reading is a number that may have a minus sign before it.
 abbrev pub isBelow : List ℕ → Bool
 isBelow w = eqb (getD w 0 0) 45
 
@@ -27,7 +27,7 @@ sizeIn w = drop (cond (isBelow w) 1 0) w
 abbrev pub isReading : List ℕ → Bool
 isReading w = isNumber (sizeIn w)
 
--- The first n words of a line are numbers; and there are no more words.
+-- The first n words of a line are numbers; and a line has no word after its first n.
 unfoldable pub areNumbers : ℕ → List ℕ → Bool
 areNumbers zero s = true
 areNumbers (suc n) s = areNumbers n s && isNumber (wordAt n s)
@@ -39,19 +39,19 @@ noWord n s = eqb (length (wordAt n s)) 0
 abbrev pub isLine : ℕ → List ℕ → Bool
 isLine n s = areNumbers n s && noWord n s
 
--- The number in a word of a line, whatever its size, and whether it has so many bits.
+-- The number in the word i of a line, counted from 0, whatever its size; and whether a number fits in `bits` bits.
 abbrev pub valueAt : List ℕ → ℕ → ℕ
 valueAt s i = numeral (wordAt i s)
 
 abbrev pub fits : ℕ → ℕ → Bool
 fits bits n = ltb n (2 ^ bits)
 
--- A number in a field of so many bits: one that is larger counts as the greatest that the field holds. The tests behind
--- refuse that one as they would the number itself (proofs/Fields.antt).
+-- A number in a field of `bits` bits: a larger number counts as the greatest that the field holds. The later tests refuse that
+-- one exactly if they would refuse the number itself (proofs/Fields.antt).
 abbrev pub held : ℕ → ℕ → ℕ
 held bits n = min n (2 ^ bits - 1)
 
--- The reading in a word of a line, and the same in 64 bits with a sign.
+-- The reading in the word i of a line: its size, the reading, and the reading as a field of 64 bits with a sign holds it.
 abbrev pub sizeAt : List ℕ → ℕ → ℕ
 sizeAt s i = numeral (sizeIn (wordAt i s))
 

@@ -20,7 +20,7 @@ use Rattle.parsing.specs.declared.ParsedQuestion.the-variants as questio
 use Rattle.parsing.specs.Words.{wordAt}
 use Rattle.parsing.specs.Numbers.{isReading, areNumbers, noWord, isLine, valueAt, fits, held, heldReading}
 
--- The place in two words.
+-- The place in the words i and i + 1.
 abbrev pub placeIn : List ℕ → ℕ → Place
 placeIn s i = record { easting = held 32 (valueAt s i); northing = held 32 (valueAt s (i + 1)) }
 

@@ -1,4 +1,4 @@
--- How the code goes through a line: what its private functions promise each other. No public promise rests on it.
+-- What the private functions that scan a line promise each other. No public contract uses it.
 use Prim.Native.Nat.{ℕ, _-_, _^_, _≤_, min}
 use mathlib.Core.Path.{_≡_}
 use mathlib.Core.Bool.{Bool, true, false, cond}
@@ -12,18 +12,19 @@ use Rattle.parsing.specs.declared.Span.{Span}
 use Rattle.parsing.specs.Words.{isInLine, isBlank, isInWord}
 use Rattle.parsing.specs.Numbers.{isDigit, fits}
 
--- The bytes of a class.
+-- Whether a byte is of a class.
 unfoldable pub isOf : Class → ℕ → Bool
 isOf class.InLine b = isInLine b
 isOf class.Blank b = isBlank b
 isOf class.InWord b = isInWord b
 isOf class.Digit b = isDigit b
 
--- A number in 64 bits, or that it is larger.
+-- A number of at most 64 bits, or that it is larger.
 abbrev pub sizedOf : ℕ → Sized
 sizedOf n = cond (fits 64 n) (sized.Value n) sized.Large
 
--- Whether it has 64 bits; the same in a field that holds at most so much, or so many bits; and whether it fits there.
+-- Whether a number has at most 64 bits; the number in a field that holds at most `most`, or `bits` bits; and whether it fits in
+-- `bits` bits.
 unfoldable pub isValue : Sized → Bool
 isValue (sized.Value n) = true
 isValue sized.Large = false
@@ -39,7 +40,7 @@ unfoldable pub fitsIn : ℕ → Sized → Bool
 fitsIn bits (sized.Value n) = fits bits n
 fitsIn bits sized.Large = false
 
--- A span of a line has these bytes.
+-- The span p of the line s has the bytes w.
 pub record Spans (s : List ℕ) (w : List ℕ) (p : Span) : Type 0 where
   pub rises : p .start ≤ p .end
   pub inside : p .end ≤ length s

@@ -5,12 +5,12 @@ use mathlib.Core.List.{List, [], _∷_}
 use lib.Dec.{leb, eqb}
 use lib.ListN.{length, take, drop}
 
--- How many bytes at the start of a text are such.
+-- How many bytes at the start of a text pass the test `such`, up to the first that does not.
 unfoldable pub run : (ℕ → Bool) → List ℕ → ℕ
 run such [] = 0
 run such (b ∷ bs) = cond (such b) (suc (run such bs)) 0
 
--- All of a text is such, and there is some of it.
+-- A text is not empty, and all its bytes pass the test.
 abbrev pub areAll : (ℕ → Bool) → List ℕ → Bool
 areAll such s = leb 1 (length s) && eqb (run such s) (length s)
 
@@ -29,7 +29,7 @@ isInWord b = not (isBlank b)
 abbrev pub isOneWord : List ℕ → Bool
 isOneWord s = areAll isInWord s
 
--- A line from its first word on, that word, and what stands behind it.
+-- A line from its first word on; that word; and what follows it.
 abbrev pub fromWord : List ℕ → List ℕ
 fromWord s = drop (run isBlank s) s
 
@@ -39,7 +39,7 @@ firstWord s = take (run isInWord (fromWord s)) (fromWord s)
 abbrev pub behindWord : List ℕ → List ℕ
 behindWord s = drop (run isInWord (fromWord s)) (fromWord s)
 
--- The word behind i others. Behind the last there are only empty ones.
+-- The word after i others. After the last word there are only empty ones.
 unfoldable pub wordAt : ℕ → List ℕ → List ℕ
 wordAt zero s = firstWord s
 wordAt (suc i) s = wordAt i (behindWord s)

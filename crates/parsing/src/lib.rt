@@ -13,7 +13,7 @@ use records::Job;
 use search::Window;
 use writing::Draft;
 
-// What a line stands for, or 12, the refusal of a line that is not of its form.
+// What a line stands for, or refusal 12 for a line of another form.
 pub enum ParsedJob {
     Job(Job),
     Refused(u32),
@@ -34,7 +34,7 @@ pub enum ParsedQuestion {
     Refused(u32),
 }
 
-// What a byte may be.
+// The classes of bytes that a scan looks for.
 enum Class {
     InLine,
     Blank,
@@ -42,19 +42,19 @@ enum Class {
     Digit,
 }
 
-// A number in 64 bits, or that it is larger.
+// A number of at most 64 bits, or that it is larger.
 enum Sized {
     Value(u64),
     Large,
 }
 
-// Some bytes of a line, from one to before another.
+// Some bytes of a line: from `start` on, up to but without `end`.
 struct Span {
     start: usize,
     end: usize,
 }
 
-// How many bytes stand before the first newline of a text; all of them where there is none.
+// How many bytes are before the first newline of a text; all of them if there is none.
 pub fn line_end(text: &[u8]) -> usize
     ensures { λ r. ⌜ r ≡ run isInLine (now (text .entry)) ⌝ }
 {
@@ -200,7 +200,7 @@ fn window(s: &[u8]) -> Window
     Window { corner, k }
 }
 
-// The place in two words.
+// The place in the words i and i + 1, counted from 0.
 fn place(s: &[u8], i: usize) -> Place
     requires { ⌜ i ≤ 4 ⌝ }
     ensures { λ r. ⌜ r ≡ placeIn (now (s .entry)) i ⌝ }
@@ -226,7 +226,7 @@ fn reading(s: &[u8], i: usize) -> i64
     n
 }
 
-// The number in a word of a line.
+// The number in the word i of a line, counted from 0.
 fn number(s: &[u8], i: usize) -> Sized
     ensures { λ r. ⌜ r ≡ sizedOf (valueAt (now (s .entry)) i) ⌝ }
 {
@@ -252,7 +252,7 @@ fn as_64(n: Sized) -> u64
     held_to(n, u64::MAX)
 }
 
-// A number in a field: a larger one counts as the greatest that the field holds.
+// A number in a field that holds at most `most`: a larger number counts as `most`.
 fn held_to(n: Sized, most: u64) -> u64
     ensures { λ r. ⌜ r ≡ heldTo most n ⌝ }
 {
@@ -289,7 +289,7 @@ fn fits_64(n: Sized) -> bool
     }
 }
 
-// The word behind i others.
+// The word after i others.
 fn word(s: &[u8], i: usize) -> Span
     ensures { λ r. ⌜ Spans (now (s .entry)) (wordAt i (now (s .entry))) r ⌝ }
 {
@@ -333,7 +333,7 @@ fn is_number(w: &[u8]) -> bool
     all_of(w, Class::Digit)
 }
 
-// Whether there are bytes, all of them of a class.
+// Whether s is not empty and all its bytes are of a class.
 fn all_of(s: &[u8], class: Class) -> bool
     ensures { λ r. ⌜ r ≡ areAll (isOf class) (now (s .entry)) ⌝ }
 {
@@ -343,7 +343,7 @@ fn all_of(s: &[u8], class: Class) -> bool
     scan(s, 0, class) == s.len()
 }
 
-// The value of digits.
+// The number that digits stand for.
 fn value(w: &[u8]) -> Sized
     ensures { λ r. ⌜ r ≡ sizedOf (numeral (now (w .entry))) ⌝ }
 {
@@ -369,7 +369,7 @@ fn digit(b: u8) -> u64
     (b - 48) as u64
 }
 
-// Where the bytes of a class end that stand from a place on.
+// Where the run of bytes of a class that begins at `from` ends.
 fn scan(s: &[u8], from: usize, class: Class) -> usize
     requires { ⌜ from ≤ length (now s) ⌝ }
     ensures { λ r. ⌜ r ≡ from + run (isOf class) (drop from (now (s .entry))) ⌝ }

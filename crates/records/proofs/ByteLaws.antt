@@ -29,7 +29,7 @@ zero-value (b ∷ bs) = zero-sum b (valueOf bs) ∙ ap (λ (t : Bool). eqb b 0 &
 pub zero-field : (width : ℕ) (s : List ℕ) (at : ℕ) → eqb (fieldAt width s at) 0 ≡ areZero width s at
 zero-field width s at = zero-value (take width (drop at s))
 
--- One byte, and those behind it.
+-- One byte, and the bytes after it.
 pub zero-byte : (count : ℕ) (s : List ℕ) (at : ℕ) → at < length s → areZero (suc count) s at ≡ (eqb (byteAt s at) 0 && areZero count s (suc at))
 unfolding allZero
 zero-byte count s at h = rw (drop-cons s at 0 h)
@@ -56,13 +56,13 @@ drop-drop zero (suc at) [] = rw suc-add
 drop-drop (suc m) (suc at) [] = rw suc-add
 drop-drop m (suc at) (b ∷ bs) = rw suc-add (drop-drop m at bs)
 
--- Some bytes, and those behind them.
+-- Some bytes, and the bytes after them.
 pub zero-split : (m n : ℕ) (s : List ℕ) (at : ℕ) → areZero (m + n) s at ≡ (areZero m s at && areZero n s (at + m))
 zero-split m n s at =
     split-take m n (drop at s)
     ∙ ap (λ (bs : List ℕ). areZero m s at && allZero (take n bs)) (drop-drop m at s)
 
--- Bytes as far as a width are less than its power of 256.
+-- The number in the first `width` bytes is less than 256 ^ width.
 small-take : (width : ℕ) (bs : List ℕ) → Bytes bs → valueOf (take width bs) < 256 ^ width
 unfolding valueOf
 small-take zero bs h = omega arith

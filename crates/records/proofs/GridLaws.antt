@@ -11,7 +11,7 @@ use Rattle.chart.proofs.PlaceLaws.{in-range-says, too-far-east, too-far-north}
 use Rattle.records.specs.declared.LogEntry.the-variants as entry
 use Rattle.records.specs.LogRecords.{isPlace, placed}
 
--- West or south of the grid.
+-- A number below 0 lies west or south of the grid, and there is no place.
 pub too-far-west : (x y : ℤ) → ltZ x (pos 0) ≡ true → isPlace x y ≡ false
 unfolding isPlace
 too-far-west (pos e) y h = absurd (omega (arith, ltb-true e 0 h))
@@ -23,7 +23,7 @@ too-far-south x (pos n) h = absurd (omega (arith, ltb-true n 0 h))
 too-far-south (pos e) (negsuc n) h = refl
 too-far-south (negsuc e) (negsuc n) h = refl
 
--- Neither: the sizes are the place.
+-- If neither is below 0, the sizes are the place.
 pub by-size : (x y : ℤ) → ltZ x (pos 0) ≡ false → ltZ y (pos 0) ≡ false → isPlace x y ≡ inRange (record { easting = natAbs x; northing = natAbs y })
 unfolding isPlace
 by-size (pos e) (pos n) h k = refl

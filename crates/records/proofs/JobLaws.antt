@@ -1,4 +1,4 @@
--- The tests of a job, one after the other, and what each comes to.
+-- The tests of a job, one after the other, and what follows from each.
 use Prim.Native.Nat.{ℕ, _<_}
 use mathlib.Core.Path.{_≡_, refl, ap, _∙_, subst⁻¹}
 use mathlib.Core.Bool.{Bool, true, false, _&&_}
@@ -19,11 +19,11 @@ use Rattle.records.specs.ChainTables.{placeAt}
 use Rattle.records.specs.Jobs.{jobBytes, jobIn, formedJobOf, acceptedJob, jobOf}
 use Rattle.records.proofs.ByteLaws.{zero-byte, zero-one}
 
--- The bytes of a job that must be zero.
+-- The bytes of a job that must be zero are zero.
 abbrev pub zerosKept : List ℕ → Bool
 zerosKept s = areZero 3 s 9 && areZero 8 s 24
 
--- The three behind k, byte by byte.
+-- The three bytes after k, one by one.
 three-by-one : (s : List ℕ) → length s ≡ jobBytes → areZero 3 s 9 ≡ (eqb (byteAt s 9) 0 && (eqb (byteAt s 10) 0 && eqb (byteAt s 11) 0))
 three-by-one s h =
     let inside : (at : ℕ) → at < jobBytes → at < length s = λ at small. subst⁻¹ (λ (n : ℕ). at < n) h small in

@@ -1,5 +1,5 @@
--- The line number has no part in what a record says: no other field is among its bytes.
--- With the first eight bytes written out one by one, what the record is read from is the same before and after.
+-- The line number does not affect what a record says: no other field shares its bytes.
+-- With the first eight bytes written out one by one, what the entry is read from is the same for every line number.
 use Prim.Native.Nat.{ℕ, zero, suc, _≤_}
 use mathlib.Core.Path.{_≡_, refl, ap, _∙_, subst⁻¹}
 use mathlib.Core.List.{List, [], _∷_, _++_}
@@ -10,12 +10,12 @@ use Rattle.fields.specs.Fields.{bytesOf, filled, putAt}
 use Rattle.fields.proofs.FieldLaws.{put-inside}
 use Rattle.records.specs.LogRecords.{logRecordOf, logEntryOf}
 
--- The first entries of a list, one by one.
+-- The first k entries of a list, one by one.
 firsts : ℕ → List ℕ → List ℕ
 firsts zero s = []
 firsts (suc k) s = getD s 0 0 ∷ firsts k (drop 1 s)
 
--- A list that has as many is those and the rest.
+-- A list of at least k entries is its first k entries and the rest.
 begins : (k : ℕ) (s : List ℕ) → k ≤ length s → s ≡ firsts k s ++ drop k s
 unfolding firsts
 begins zero s h = refl

@@ -1,4 +1,4 @@
--- A log record by the tests of its raw record, and its entry by its kind.
+-- What a log record is, from the tests of its raw record; and its entry in centimetres, from its kind.
 -- A number of the raw record is plus zero exactly if its eight bytes are zero, so the tests are those on the bytes.
 use Prim.Native.Nat.{ℕ, _<_}
 use mathlib.Core.Path.{_≡_, refl, sym, ap, _∙_, subst⁻¹}
@@ -79,7 +79,7 @@ module _ (s : List ℕ) (r : RawRecord) (h : IsRaw s r) where
   pub hyperbolic-last : r .kind ≡ 1 → isHyperbolic s ≡ lastZero
   hyperbolic-last e = rw (kind-is 1 e)
 
-  -- The other kinds have byte 1 as well.
+  -- In the other kinds byte 1 must be zero as well.
   abbrev pub restZero : Bool
   restZero = areZero 3 s 1 && areZero 8 s 24
 
@@ -98,7 +98,7 @@ module _ (s : List ℕ) (r : RawRecord) (h : IsRaw s r) where
   pub grid-rest : r .kind ≡ 2 → isGrid s ≡ restZero
   grid-rest e = rw (kind-is 2 e)
 
-  -- A hold has all three fields.
+  -- In a hold all three fields must be zero.
   fields-zero : areZero 24 s 8 ≡ (isPlusZero (r .first) && (isPlusZero (r .second) && areZero 8 s 24))
   fields-zero =
       rw (field-is (λ (q : RawRecord). q .first) 8 refl, field-is (λ (q : RawRecord). q .second) 16 refl)
@@ -133,7 +133,7 @@ module _ (s : List ℕ) (r : RawRecord) (h : IsRaw s r) where
   unfolding logRecordOf
   told-2 n g e = rw (eq-eqb (length s) logBytes (h .whole), n, g, e)
 
--- The entry of a record, by what the record was read as.
+-- The entry of a record in centimetres, from the kind that it was read as.
 module _ (s : List ℕ) (r : LogRecord) where
   read-as : (q : LogRecord) → r ≡ logRecordOf s → r ≡ q → inCentimetres q ≡ logEntryOf s
   unfolding logEntryOf

@@ -1,4 +1,4 @@
--- Bytes cut into pieces of one width, of which the last may be short: the next piece, what is behind it, and how many there are.
+-- Bytes cut into pieces of one width, of which the last may be short: the next piece, what follows it, and how many there are.
 use Prim.Native.Nat.{ℕ, suc, _+_, _-_, _*_, _≤_, _<_}
 use mathlib.Core.Path.{_≡_, refl, sym, ap, ap₂, _∙_}
 use mathlib.Core.List.{List, []}
@@ -34,8 +34,8 @@ module _ (width : ℕ) (s : List ℕ) (done next : ℕ) (e : next ≡ pieceEnd d
           drop-of-length-le s {i = next} (omega (arith, e, lt-of-not-le h))
           ∙ sym (drop-of-length-le s {i = done + width} (omega (arith, lt-of-not-le h)))
 
--- What comes of some bytes, by a state, is what their first piece gives and what comes of the rest, by the state after it. Then so
--- it is of the bytes that are left behind `done` of them, by the next piece.
+-- Suppose that what `of` gives for some bytes in a state is made from their first piece and from what `of` gives for the rest
+-- in the state after that piece. Then the same holds for the bytes after the first `done`, with the next piece.
 module _ {S P : Type 0} (width : ℕ) (of : S → List ℕ → P) (first : S → List ℕ → P → P) (after : S → List ℕ → S)
     (by-first : (c : S) (s : List ℕ) → 0 < length s → of c s ≡ first c (take width s) (of (after c (take width s)) (drop width s))) where
   pub next-piece : (s : List ℕ) (done next : ℕ) → done < length s → next ≡ pieceEnd done width (length s) → (c : S) →
@@ -44,7 +44,7 @@ module _ {S P : Type 0} (width : ℕ) (of : S → List ℕ → P) (first : S →
       by-first c (drop done s) (omega (arith, length-drop done s))
       ∙ ap₂ (λ (x rest : List ℕ). first c x (of (after c x) rest)) (sym (piece-is width s done next e)) (sym (behind-is width s done next e))
 
--- Any bytes have one piece more than what is behind the first; none have none.
+-- Bytes have one piece more than what follows their first piece; no bytes have no piece.
 pub record Width (width : ℕ) : Type 0 where
   pub one-more : (s : List ℕ) → 0 < length s → piecesIn width s ≡ suc (piecesIn width (drop width s))
   pub none : piecesIn width [] ≡ 0
@@ -55,7 +55,7 @@ record-width = record { one-more = λ s some. omega (arith, length-drop logBytes
 pub chain-width : Width chainBytes
 chain-width = record { one-more = λ s some. omega (arith, length-drop chainBytes s); none = refl }
 
--- Room for each piece that is left is room for the next one and for each behind it.
+-- Room for every piece that is left is room for the next piece and for every piece after it.
 pub room-left : {width : ℕ} → Width width → (s : List ℕ) (done next : ℕ) → done < length s → next ≡ pieceEnd done width (length s) → (end room : ℕ) {most : ℕ} →
     end + room * piecesIn width (drop done s) ≤ most → end + (room * piecesIn width (drop next s) + room) ≤ most
 room-left {width} w s done next some e end room h =

@@ -1,4 +1,4 @@
--- The tests of a chain table, one after the other, and what each comes to.
+-- The tests of a chain table, one after the other, and what follows from each.
 use Prim.Native.Nat.{ℕ, _+_, _-_, _*_, _%_, _≤_}
 use mathlib.Core.Path.{_≡_, refl}
 use mathlib.Core.Bool.{Bool, true, false}
@@ -13,14 +13,14 @@ use Rattle.records.specs.declared.ChainCount.the-variants as count
 use Rattle.records.specs.declared.NamedChain.the-variants as named
 use Rattle.records.specs.ChainTables.{chainBytes, mostChains, oneTo, chainsIn, isTable, chainCountOf, chainAt, chainOf}
 
--- 0 is not from 1 on; any other number only has an upper end to keep to.
+-- 0 is not from 1 to `most`; any other number is if it is at most `most`.
 pub none-of : (most n : ℕ) → n ≡ 0 → oneTo most n ≡ false
 none-of most n e = rw (lt-leb 1 n (omega arith))
 
 pub some-of : (most n : ℕ) → (n ≡ 0 → ⊥) → oneTo most n ≡ leb n most
 some-of most n h = rw (le-leb 1 n (omega (arith, h)))
 
--- Bytes over, no bytes, and whole chains.
+-- Left-over bytes, no bytes, and whole chains: whether they are a table.
 pub bytes-over : (s : List ℕ) → (length s % chainBytes ≡ 0 → ⊥) → isTable s ≡ false
 bytes-over s h = rw (ne-eqb (length s % chainBytes) 0 h)
 
@@ -39,7 +39,7 @@ pub table-counted : (s : List ℕ) → isTable s ≡ true → chainCountOf s ≡
 unfolding chainCountOf
 table-counted s h = rw h
 
--- What naming a chain answers.
+-- What is answered when a number names a chain.
 pub chain-1 : (s : List ℕ) (number : ℕ) → isTable s ≡ false → chainOf s number ≡ named.Refused 1
 unfolding chainOf
 chain-1 s number h = rw h
@@ -56,7 +56,7 @@ pub chain-named : (s : List ℕ) (number : ℕ) → isTable s ≡ true → oneTo
 unfolding chainOf
 chain-named s number h there sound = rw (h, there, sound)
 
--- A number from 1 to another is so, and the chain of a number in the table lies in its bytes.
+-- What the test `oneTo` says, and that the chain of a number in the table lies inside the table's bytes.
 pub one-to-says : (most n : ℕ) → oneTo most n ≡ true → (1 ≤ n) × (n ≤ most)
 one-to-says most n h =
     let e = both (leb 1 n) (leb n most) h in

@@ -1,5 +1,6 @@
--- The records: the line number has no part in what one says, each answer has its refusals, and it follows from the bytes alone.
--- The functions of `records` are proved to answer by its definitions; these theorems say what the definitions are worth.
+-- Theorems about the records: the line number does not affect what a record says, each answer has its own refusals, and every
+-- answer follows from the bytes alone.
+-- The functions of `records` are proved to answer by its definitions; these theorems say what the definitions guarantee.
 use Prim.Native.Nat.{ℕ, _-_, _*_}
 use mathlib.Core.Path.{_≡_, refl, sym, ap, _∙_, subst⁻¹}
 use mathlib.Core.Bool.{true}
@@ -28,16 +29,16 @@ use Rattle.records.proofs.RefusalLaws.{Among, unless-either, either-kin
 use Rattle.records.proofs.LineLaws.{line-away}
 use Rattle.records.proofs.JobLaws.{zerosKept, job-by-tests}
 
--- The line number has no part in what a record says: any value, repeats allowed.
+-- The line number does not affect what a record says: "any value, repeats allowed" (01, The records).
 pub line-ignored : (s : List ℕ) (n : ℕ) → length s ≡ 32 → logEntryOf (putAt 4 s 4 n) ≡ logEntryOf s
 line-ignored s n h = line-away s n (omega arith)
 
--- Each answer has its own refusals, by 01's numbers, with 0 for none. A raw record has 1.
+-- Each answer has its own refusals, by 01's numbers, with 0 for none. A raw record can be refused with 1.
 pub raw-refusals : (s : List ℕ) → isAmong (rawRefusal (rawRecordOf s)) (0 ∷ 1 ∷ []) ≡ true
 unfolding rawRecordOf rawRefusal isAmong
 raw-refusals s = unless-either (Among rawRefusal (0 ∷ 1 ∷ [])) (eqb (length s) logBytes) refl refl
 
--- A log record in metres has 1 and 2.
+-- A log record in metres can be refused with 1 or 2.
 pub log-refusals : (s : List ℕ) → isAmong (logRefusal (logRecordOf s)) (0 ∷ 1 ∷ 2 ∷ []) ≡ true
 unfolding logRecordOf logRefusal isAmong
 log-refusals s =
@@ -45,7 +46,7 @@ log-refusals s =
     unless-either among (eqb (length s) logBytes) refl
     (either-kind among (isHyperbolic s) refl (either-kind among (isGrid s) refl (either-kind among (isHold s) refl refl)))
 
--- A log record in centimetres has 1, 2, 3 and 4.
+-- A log record in centimetres can be refused with 1, 2, 3 or 4.
 pub entry-refusals : (s : List ℕ) → isAmong (entryRefusal (logEntryOf s)) (0 ∷ 1 ∷ 2 ∷ 3 ∷ 4 ∷ []) ≡ true
 unfolding logEntryOf logRecordOf inCentimetres placed entryRefusal isAmong
 entry-refusals s =
@@ -58,12 +59,12 @@ entry-refusals s =
     (both-or-three among placed (centimetresOf (numberIn s 8)) (centimetresOf (numberIn s 16)) refl (λ e n. unless-either among (isPlace e n) refl refl))
     (either-kind of-record (isHold s) refl refl)))
 
--- The count of a chain table has 1.
+-- The count of a chain table can be refused with 1.
 pub count-refusals : (s : List ℕ) → isAmong (countRefusal (chainCountOf s)) (0 ∷ 1 ∷ []) ≡ true
 unfolding chainCountOf countRefusal isAmong
 count-refusals s = unless-either (Among countRefusal (0 ∷ 1 ∷ [])) (isTable s) refl refl
 
--- A chain of a table has 1 and 5.
+-- A chain of a table can be refused with 1 or 5.
 pub chain-refusals : (s : List ℕ) (number : ℕ) → isAmong (chainRefusal (chainOf s number)) (0 ∷ 1 ∷ 5 ∷ []) ≡ true
 unfolding chainOf chainRefusal isAmong
 chain-refusals s number =
@@ -71,7 +72,7 @@ chain-refusals s number =
     unless-either among (isTable s) refl
     (unless-either among (oneTo (chainsIn s) number) refl (unless-either among (isSound (chainAt s (chainBytes * (number - 1)))) refl refl))
 
--- A job has 1, 2, 6 and 7.
+-- A job can be refused with 1, 2, 6 or 7.
 pub job-refusals : (s : List ℕ) → isAmong (jobRefusal (jobOf s)) (0 ∷ 1 ∷ 2 ∷ 6 ∷ 7 ∷ []) ≡ true
 unfolding jobRefusal isAmong
 job-refusals s =
@@ -81,11 +82,11 @@ job-refusals s =
     (unless-either among (zerosKept s) refl
     (unless-either among (isWindow (jobIn s .window)) refl (unless-either among (leb (jobIn s .tolerance) mostTolerance) refl refl))))
 
--- Any two answers that keep a reader's promise of the same bytes are equal: they follow from the bytes alone.
+-- Any two answers that satisfy a reader's contract for the same bytes are equal: an answer follows from the bytes alone.
 pub bytes-alone : {A : Type 0} (answer : List ℕ → A) (s t : List ℕ) (r q : A) → s ≡ t → r ≡ answer s → q ≡ answer t → r ≡ q
 bytes-alone answer s t r q same is-r is-q = is-r ∙ ap answer same ∙ sym is-q
 
--- So it is of each reader.
+-- The same for each reader.
 pub raw-by-bytes : (s t : List ℕ) (r q : RawAnswer) → s ≡ t → r ≡ rawRecordOf s → q ≡ rawRecordOf t → r ≡ q
 raw-by-bytes = bytes-alone rawRecordOf
 

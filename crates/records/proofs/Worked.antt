@@ -47,7 +47,7 @@ line-3-read : logEntryOf line-3 ≡ entry.Hold
 unfolding logEntryOf logRecordOf inCentimetres allZero
 line-3-read = refl
 
--- A grid record of line 1, by the patterns of its three numbers.
+-- A grid record with line number 1, from the bit patterns of its three numbers.
 abbrev gridOf : ℕ → ℕ → ℕ → List ℕ
 gridOf first second third =
     2 ∷ 0 ∷ 0 ∷ 0 ∷ 1 ∷ 0 ∷ 0 ∷ 0 ∷ (bytesOf 8 first ++ (bytesOf 8 second ++ bytesOf 8 third))

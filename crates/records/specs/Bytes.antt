@@ -8,7 +8,7 @@ use lib.ListN.{length, getD, take, drop}
 use Rattle.fields.specs.Fields.{fieldAt}
 use Rattle.metres.specs.Patterns.{numberOf}
 
--- The byte at a place.
+-- The byte at `at`, 0 past the end.
 abbrev pub byteAt : List ℕ → ℕ → ℕ
 byteAt s at = getD s at 0
 
@@ -21,20 +21,20 @@ unfoldable pub allZero : List ℕ → Bool
 allZero [] = true
 allZero (b ∷ bs) = eqb b 0 && allZero bs
 
--- So many bytes from `at` on are all zero. Bytes are looked at, not numbers: those of minus zero are not all zero.
+-- The `count` bytes of s from `at` on are all zero. This tests bytes, not numbers: the bytes of minus zero are not all zero.
 abbrev pub areZero : ℕ → List ℕ → ℕ → Bool
 areZero count s at = allZero (take count (drop at s))
 
--- How many pieces of so many bytes there are, a short last one among them.
+-- How many pieces of `width` bytes s has, counting a short last one.
 abbrev pub piecesIn : ℕ → List ℕ → ℕ
 piecesIn width s = (length s + (width - 1)) / width
 
--- Where the piece ends that begins behind so many bytes, of so many in all: the last may be short.
+-- Where the piece of `width` bytes that begins after `done` bytes ends, in a text of `all` bytes. The last piece may be short.
 abbrev pub pieceEnd : ℕ → ℕ → ℕ → ℕ
 pieceEnd done width all = min (done + width) all
 
--- A test that fails is answered with its refusal; where it passes, the rest answers (01, Numbers of refusal: "the first
--- failure answers").
+-- If a test fails, the answer is its refusal; if it passes, the rest answers (01, Numbers of refusal: "the first failure
+-- answers").
 abbrev pub unless : {A : Type 0} → Bool → A → A → A
 unless true refused rest = rest
 unless false refused rest = refused

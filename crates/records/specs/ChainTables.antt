@@ -14,14 +14,14 @@ use Rattle.records.specs.declared.NamedChain.{NamedChain}
 use Rattle.records.specs.declared.NamedChain.the-variants as named
 use Rattle.records.specs.Bytes.{unless}
 
--- The bytes of a chain, and how many chains a table may have.
+-- How many bytes a chain has, and how many chains a table may have.
 abbrev pub chainBytes : ℕ
 chainBytes = 24
 
 abbrev pub mostChains : ℕ
 mostChains = 16
 
--- A number from 1 to another.
+-- n is from 1 to `most`.
 abbrev pub oneTo : ℕ → ℕ → Bool
 oneTo most n = leb 1 n && leb n most
 
@@ -29,11 +29,11 @@ oneTo most n = leb 1 n && leb n most
 abbrev pub chainsIn : List ℕ → ℕ
 chainsIn s = length s / chainBytes
 
--- No byte is left over, and the chains are 1 to 16.
+-- No byte is left over, and there are 1 to 16 chains.
 abbrev pub isTable : List ℕ → Bool
 isTable s = eqb (length s % chainBytes) 0 && oneTo mostChains (chainsIn s)
 
--- How many chains a table has, or 1.
+-- How many chains a table has, or refusal 1.
 unfoldable pub chainCountOf : List ℕ → ChainCount
 chainCountOf s = unless (isTable s) (count.Refused 1) (count.Chains (chainsIn s))
 
@@ -45,12 +45,12 @@ placeAt s at = record { easting = fieldAt 4 s at; northing = fieldAt 4 s (at + 4
 abbrev pub chainAt : List ℕ → ℕ → Chain
 chainAt s at = record { master = placeAt s at; a = placeAt s (at + 8); b = placeAt s (at + 16) }
 
--- The chain in 24 bytes, sound or not, or 1 where there are not as many.
+-- The chain in 24 bytes, sound or not; refusal 1 for any other number of bytes.
 unfoldable pub rawChainOf : List ℕ → NamedChain
 rawChainOf s = unless (eqb (length s) chainBytes) (named.Refused 1) (named.Chain (chainAt s 0))
 
--- The chain of a number: 1 for no table, then 5 for a number that is not in it or a chain that is not sound. No other chain
--- of the table is looked at.
+-- The chain with a given number: refusal 1 if the bytes are not a table, then 5 if the number is not in it or the chain is not
+-- sound. No other chain of the table is checked.
 unfoldable pub chainOf : List ℕ → ℕ → NamedChain
 chainOf s number =
     unless (isTable s) (named.Refused 1)

@@ -1,4 +1,4 @@
--- How the code holds a log record: what its private functions promise each other. No public promise rests on it.
+-- What the private functions of this crate promise each other about a log record. No public contract uses it.
 use Prim.Native.Nat.{ℕ}
 use mathlib.Core.Path.{_≡_}
 use mathlib.Core.List.{List}
@@ -7,7 +7,7 @@ use Rattle.fields.specs.Fields.{Bytes}
 use Rattle.records.specs.declared.RawRecord.{RawRecord}
 use Rattle.records.specs.LogRecords.{logBytes, rawIn}
 
--- A raw record that was gathered from these bytes.
+-- r is the raw record that was gathered from the bytes s.
 pub record IsRaw (s : List ℕ) (r : RawRecord) : Type 0 where
   pub whole : length s ≡ logBytes
   pub bytes : Bytes s

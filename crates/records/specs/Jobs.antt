@@ -13,11 +13,11 @@ use Rattle.records.specs.declared.JobAnswer.the-variants as answer
 use Rattle.records.specs.Bytes.{byteAt, areZero, unless}
 use Rattle.records.specs.ChainTables.{placeAt}
 
--- The bytes of a job.
+-- How many bytes a job has.
 abbrev pub jobBytes : ℕ
 jobBytes = 32
 
--- What stands where in them, whatever it is.
+-- The fields of a job as its bytes give them, valid or not.
 abbrev pub jobIn : List ℕ → Job
 jobIn s =
     record {
@@ -26,23 +26,23 @@ jobIn s =
       allowance = fieldAt 8 s 16;
     }
 
--- The same, or 1 where there are not as many bytes.
+-- The same, or refusal 1 for any other number of bytes.
 unfoldable pub rawJobOf : List ℕ → JobAnswer
 rawJobOf s = unless (eqb (length s) jobBytes) (answer.Refused 1) (answer.Job (jobIn s))
 
--- The same, then 2 for a byte that must be zero and is not.
+-- The same, then refusal 2 if a byte that must be zero is not.
 unfoldable pub formedJobOf : List ℕ → JobAnswer
 formedJobOf s =
     unless (eqb (length s) jobBytes) (answer.Refused 1)
     (unless (areZero 3 s 9 && areZero 8 s 24) (answer.Refused 2) (answer.Job (jobIn s)))
 
--- A job that is well-formed is accepted: 6 for the window, then 7 for the tolerance.
+-- A well-formed job is accepted, or refused with 6 for its window, then with 7 for its tolerance.
 unfoldable pub acceptedJob : JobAnswer → JobAnswer
 acceptedJob (answer.Job j) =
     unless (isWindow (j .window)) (answer.Refused 6)
     (unless (leb (j .tolerance) mostTolerance) (answer.Refused 7) (answer.Job j))
 acceptedJob (answer.Refused number) = answer.Refused number
 
--- A job: 1, 2, 6, 7 in this order.
+-- The job in some bytes, or refusal 1, 2, 6 or 7, tested in this order.
 unfoldable pub jobOf : List ℕ → JobAnswer
 jobOf s = acceptedJob (formedJobOf s)

@@ -44,7 +44,7 @@ unfoldable pub jobRefusal : JobAnswer → ℕ
 jobRefusal (job.Job j) = 0
 jobRefusal (job.Refused number) = number
 
--- n is one of some numbers.
+-- n is one of the numbers in a list.
 unfoldable pub isAmong : ℕ → List ℕ → Bool
 isAmong n [] = false
 isAmong n (m ∷ ms) = eqb n m || isAmong n ms

@@ -20,7 +20,7 @@ use fields::Four;
 use metres::Whole;
 use search::Window;
 
-// A log record as it stands in its bytes, whatever they say. Bytes 2 and 3 should be zero.
+// The fields of a log record as its bytes give them, valid or not. Bytes 2 and 3 should be zero.
 pub struct RawRecord {
     pub kind: u8,
     pub chain: u8,
@@ -32,13 +32,13 @@ pub struct RawRecord {
     pub third: f64,
 }
 
-// What is refused here and below is told by the number of the refusal in 01's table.
+// Here and below, `Refused` has the number of the refusal in 01's table.
 pub enum RawAnswer {
     Record(RawRecord),
     Refused(u32),
 }
 
-// A log record by its kind, with the numbers that the kind uses, in metres. Line number and chain stand in the raw record.
+// A log record by its kind, with the numbers that the kind uses, in metres. Line number and chain are in the raw record.
 pub enum LogRecord {
     Hyperbolic { a: f64, b: f64 },
     Grid { easting: f64, northing: f64 },
@@ -60,7 +60,7 @@ pub enum ChainCount {
     Refused(u32),
 }
 
-// The chain of a number.
+// The chain that a number names.
 pub enum NamedChain {
     Chain(Chain),
     Refused(u32),
@@ -78,20 +78,20 @@ pub enum JobAnswer {
     Refused(u32),
 }
 
-// Two numbers in whole centimetres, or that one of them cannot be used.
+// Two numbers in whole centimetres, or that one of them is refused.
 enum Pair {
     Both { x: i64, y: i64 },
     Unusable,
 }
 
-// The bytes of a log record, of a chain and of a job.
+// How many bytes a log record, a chain and a job have.
 pub const LOG_BYTES: usize = 32;
 
 pub const CHAIN_BYTES: usize = 24;
 
 pub const JOB_BYTES: usize = 32;
 
-// How many chains a table may have, and its bytes then.
+// How many chains a table may have, and how many bytes it then has.
 pub const MOST_CHAINS: usize = 16;
 
 pub const TABLE_BYTES: usize = MOST_CHAINS * CHAIN_BYTES;
@@ -128,7 +128,7 @@ pub fn log_entry(s: &[u8]) -> LogEntry
     }
 }
 
-// Whether two numbers are easting and northing of a place in range. They may be too large for a place's numbers.
+// Whether x and y are easting and northing of a place in range. They may be too large for the fields of a `Place`.
 pub fn is_place(x: i64, y: i64) -> bool
     ensures { λ r. ⌜ r ≡ isPlace x y ⌝ }
 {
@@ -152,7 +152,7 @@ pub fn is_place(x: i64, y: i64) -> bool
     })
 }
 
-// Whether a number is from 1 to another.
+// Whether n is from 1 to `most`.
 pub fn one_to(most: usize, n: u32) -> bool
     ensures { λ r. ⌜ r ≡ oneTo most n ⌝ }
 {
@@ -172,7 +172,7 @@ pub fn chain_count(s: &[u8]) -> ChainCount
     ChainCount::Chains(s.len() / CHAIN_BYTES)
 }
 
-// The chain of a number in the bytes of a table, if it is sound.
+// The chain with a given number in the bytes of a table, if it is sound.
 pub fn chain_of(s: &[u8], number: u32) -> NamedChain
     ensures { λ r. ⌜ r ≡ chainOf (now (s .entry)) number ⌝ }
 {
@@ -199,7 +199,7 @@ pub fn raw_chain(s: &[u8]) -> NamedChain
     NamedChain::Refused(1)
 }
 
-// What stands in the 32 bytes of a job, whatever it is.
+// The fields in the 32 bytes of a job, valid or not.
 pub fn raw_job(s: &[u8]) -> JobAnswer
     ensures { λ r. ⌜ r ≡ rawJobOf (now (s .entry)) ⌝ }
 {
@@ -209,7 +209,7 @@ pub fn raw_job(s: &[u8]) -> JobAnswer
     JobAnswer::Refused(1)
 }
 
-// The same where the bytes that must be zero are. Window and tolerance are not looked at.
+// The same, if the bytes that must be zero are zero. Window and tolerance are not checked.
 pub fn formed_job(s: &[u8]) -> JobAnswer
     ensures { λ r. ⌜ r ≡ formedJobOf (now (s .entry)) ⌝ }
 {
@@ -232,7 +232,7 @@ pub fn job_of(s: &[u8]) -> JobAnswer
     }
 }
 
-// A job that is well-formed.
+// A well-formed job, if its window and its tolerance are allowed.
 fn accepted(j: Job) -> JobAnswer
     ensures { λ r. ⌜ r ≡ acceptedJob (answer.Job j) ⌝ }
 {
@@ -245,7 +245,7 @@ fn accepted(j: Job) -> JobAnswer
     JobAnswer::Job(j)
 }
 
-// Where the piece of so many bytes ends that begins at done, in a text of so many in all: the last may be shorter.
+// Where the piece of `bytes` bytes that begins at `done` ends, in a text of `length` bytes. The last piece may be shorter.
 pub fn piece_end(done: usize, bytes: usize, length: usize) -> usize
     ensures { λ r. ⌜ r ≡ pieceEnd done bytes length ⌝ }
 {
@@ -350,7 +350,7 @@ fn unchained(r: RawRecord) -> bool
     last_zero(r)
 }
 
-// The bytes that no kind uses: bytes 2 and 3, and the third number's. Minus zero is not all zero bytes.
+// Whether the bytes that no kind uses are zero: bytes 2 and 3, and the third number's. Minus zero is not all zero bytes.
 fn last_zero(r: RawRecord) -> bool
     ensures { λ answer. ⌜ ((s : List ℕ) → IsRaw s r → answer ≡ (areZero 2 s 2 && areZero 8 s 24)) ⌝ }
 {
@@ -454,7 +454,7 @@ fn job_in(s: &[u8]) -> Job
     }
 }
 
-// The bytes of a job that must be zero.
+// Whether the bytes of a job that must be zero are zero.
 fn job_zeros(s: &[u8]) -> bool
     requires { ⌜ length (now s) ≡ jobBytes ⌝ }
     ensures { λ r. ⌜ r ≡ (areZero 3 (now (s .entry)) 9 && areZero 8 (now (s .entry)) 24) ⌝ }

@@ -1,4 +1,4 @@
-// Prints whole square roots, and fields read from a slice and put into a buffer.
+// A program for the tests: prints whole square roots, and fields read from a slice and put into a buffer.
 use fields::Eight;
 use fields::Four;
 
@@ -9,7 +9,7 @@ fn main() {
     put_fields();
 }
 
-// A line `root`, the number and its root.
+// Each line printed is `root`, the number and its root.
 fn small_roots() {
     root(0);
     root(1);
@@ -24,7 +24,8 @@ fn small_roots() {
     root(100);
 }
 
-// Just below a square, at it, and just below the next.
+// Squares and numbers just below a square; the largest sum of squares that a distance on the grid can have, and one less; and the
+// largest numbers of 63 and 64 bits.
 fn large_roots() {
     root(4294967295);
     root(4294967296);
@@ -51,7 +52,7 @@ fn root(n: u64) {
     io::write_all(1, b"\n");
 }
 
-// A line `four` or `eight`, the length of the slice, the place and the number, or `outside`.
+// Each line printed is `four` or `eight`, the length of the slice, the place, and the number or `outside`.
 fn read_fields() {
     let bytes = [1u8, 2, 3, 4, 5, 6, 7, 248, 249, 250, 251, 252];
     four(&bytes, 0);
@@ -106,7 +107,8 @@ fn outside() {
     io::write_all(1, b" outside\n");
 }
 
-// A line `put`, the width, the place, the number, whether it was put, and the twelve bytes of the buffer, which held 170.
+// Each line printed is `put`, the width, the place, the number, whether it was put, and the twelve bytes of the buffer, which were
+// all 170 before.
 fn put_fields() {
     put_four(0, 16909060);
     put_four(3, 4294967295);

@@ -1,5 +1,5 @@
--- A slave's test without its root. The reading that a slave's distance, the root of y, and the master's, m, make is as wanted,
--- u less d, give or take a slack, where y lies between two squares.
+-- The test of a slave without its root. The slave's distance is the root of y, the master's is m, and the reading u - d is wanted:
+-- the reading differs from it by at most `slack` exactly if y lies between two squares.
 use Prim.Native.Nat.{ℕ, zero, suc, _+_, _*_, _≤_, _<_}
 use mathlib.Core.Path.{_≡_, sym, ap, _∙_}
 use mathlib.Core.Bool.{true, false}
@@ -17,26 +17,26 @@ use Rattle.chart.specs.Places.{apart, squaredDistance, distanceOf}
 use Rattle.chart.specs.Readings.{differ}
 use Rattle.chart.proofs.Differing.{differ-is}
 
--- By how much the reading misses.
+-- By how much the reading differs from the wanted one.
 abbrev pub miss : ℕ → ℕ → ℕ → ℕ → ℕ
 miss y m u d = apart (root y + d) (m + u)
 
--- It is what the definitions say, for the squared distance y.
+-- The definitions give the same, if y is the squared distance.
 pub miss-is : (p slave : Place) (y m u d : ℕ) → y ≡ squaredDistance p slave → differ (subℕ (distanceOf p slave) m) (subℕ u d) ≡ miss y m u d
 unfolding distanceOf
 miss-is p slave y m u d e =
     differ-is (root (squaredDistance p slave)) m u d ∙ ap (λ (x : ℕ). apart (root x + d) (m + u)) (sym e)
 
 module _ (y m u d slack : ℕ) where
-  -- No range is small enough.
+  -- No distance of the slave is small enough.
   pub none-near : m + u + slack < d → leb (miss y m u d) slack ≡ false
   none-near h = lt-leb (miss y m u d) slack (omega arith)
 
-  -- The slave is farther than the highest range.
+  -- The slave is farther away than the highest distance allowed.
   pub too-far : (high : ℕ) → high + d ≡ m + u + slack → (high + 1) * (high + 1) ≤ y → leb (miss y m u d) slack ≡ false
   too-far high e h = lt-leb (miss y m u d) slack (omega (arith, below-next (high + 1) (root y) y h (root-law y .high)))
 
-  -- It is not, and any lower range will do.
+  -- It is not, and every smaller distance is allowed.
   pub not-far : (high : ℕ) → high + d ≡ m + u + slack → y < (high + 1) * (high + 1) → m + u ≤ d + slack → leb (miss y m u d) slack ≡ true
   not-far high e h l = le-leb (miss y m u d) slack (omega (arith, root-at-most y high h))
 
@@ -45,7 +45,7 @@ module _ (y m u d slack : ℕ) where
   nearer (suc low) e h =
       lt-leb (miss y m u d) slack (omega (arith, root-at-most y low (let g : y < (low + 1) * (low + 1) = omega (arith, h, ap (λ (x : ℕ). x * x) (let s : suc low ≡ low + 1 = omega arith in s)) in g)))
 
-  -- It is not, and the lowest range decides.
+  -- It is not, and the lowest distance allowed decides.
   pub by-low : (high low : ℕ) → high + d ≡ m + u + slack → y < (high + 1) * (high + 1) → low + (d + slack) ≡ m + u → leb (low * low) y ≡ leb (miss y m u d) slack
   by-low high low e h l = go (decLe (low * low) y)
     where

@@ -15,7 +15,7 @@ use Rattle.search.specs.Questions.{Question, mostTolerance, noneTooLarge
 use Rattle.search.specs.Walk.{Standing, start, visit}
 use Rattle.search.specs.Answers.{refused, gone, ended, Accepted, searchOf, entriesOf}
 
--- The end of a walk: 10, 9, or gone to its end.
+-- The end of a walk: stopped with 10, stopped with 9, or gone to its end.
 module _ (s : Standing) where
   pub ended-out : s .stop ≡ 10 → ended s ≡ refused (AllowanceUsed (s .visits))
   unfolding ended
@@ -47,12 +47,12 @@ module _ (q : Question) (w : Window) where
   unfolding searchOf
   search-7 e f g h = rw (e, f, g, lt-leb (q .rule .tolerance) mostTolerance h)
 
-  -- With the tests passed the answer is the walk's.
+  -- If all tests pass, the answer is that of the walk.
   pub search-walks : Accepted (q .rule) w → searchOf q w ≡ ended (visit q (w .k) (w .corner) start)
   unfolding searchOf
   search-walks a = rw (a .readings, a .chain, a .window, le-leb (q .rule .tolerance) mostTolerance (a .tolerance))
 
--- The places of a list, two entries each.
+-- Places have two entries each.
 pub length-entries : (ps : List Place) → length (entriesOf ps) ≡ 2 * length ps
 unfolding entriesOf
 length-entries [] = refl

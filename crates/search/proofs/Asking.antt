@@ -1,4 +1,4 @@
--- A hunt made from the readings asks the question of the readings, and the tests passed make it ready.
+-- The hunt that the code makes from the readings asks the question that they ask, and is ready if the tests have passed.
 use Prim.Native.Nat.{ℕ, _/_, _≤_}
 use mathlib.Core.Path.{_≡_, ap, ap₂, _∙_, subst⁻¹}
 use mathlib.Core.Bool.{true}
@@ -31,7 +31,7 @@ fair-wish : (slave : Place) (r : ℤ) → inRange slave ≡ true → natAbs r �
 fair-wish slave r e h =
     record { slave = e; above = le-trans (above-small r) h; below = le-trans (below-small r) h }
 
--- No reading is too large: neither of the two.
+-- If no reading is too large, neither of the two is.
 both-small : (c : Chain) (ra rb : ℤ) → noneTooLarge (wantedOf c (ra ∷ rb ∷ [])) ≡ true → (natAbs ra ≤ mostReading) × (natAbs rb ≤ mostReading)
 unfolding noneTooLarge
 both-small c ra rb e =
@@ -57,7 +57,7 @@ module _ (c : Chain) (ra rb : ℤ) (tolerance allowance room : ℕ) (a b : Wish)
             limits = record { allowance = allowance; room = n };
           }
 
-  -- With the tests passed it is ready.
+  -- If the tests have passed, it is ready.
   pub ready : noneTooLarge (wantedOf c (ra ∷ rb ∷ [])) ≡ true → isSound c ≡ true → tolerance ≤ mostTolerance → Ready made
   ready small sound t =
       let stations = stations-in-range c sound in

@@ -104,7 +104,7 @@ in-those f (p ∷ l) o m = go (f p) refl m (in-those f l o)
     go true t m ih = ⊎-elim (λ e. (ap f e ∙ t, List·Memᴰ·head e)) (λ r. (ih r .0, List·Memᴰ·tail (ih r .1))) (List·Memᴰ·cases-cons m)
     go false t m ih = (ih m .0, List·Memᴰ·tail (ih m .1))
 
--- Those of two lists in a row are those of the one, then those of the other.
+-- Of two joined lists, those that pass are those of the first, and then those of the second.
 pub those-append : (f : Place → Bool) (xs ys : List Place) → those f (xs ++ ys) ≡ those f xs ++ those f ys
 unfolding those
 those-append f [] ys = refl
@@ -114,7 +114,7 @@ those-append f (x ∷ xs) ys = go (f x) (those-append f xs ys)
     go true e = ap (λ (l : List Place). x ∷ l) e
     go false e = e
 
--- Where no member passes, there are none.
+-- If no member passes, there are none.
 pub those-none : (f : Place → Bool) (l : List Place) → ((o : Place) → List·Memᴰ o l → f o ≡ false) → those f l ≡ []
 unfolding those
 those-none f [] h = refl
@@ -137,6 +137,6 @@ pub matching-square : (rule : Rule) (k : ℕ) (p : Place) → matching rule (suc
 unfolding matching cells
 matching-square rule k p = simp those-append
 
--- So they are as many as those of the four.
+-- So there are as many as in the four quarters together.
 pub matching-counted : (rule : Rule) (k : ℕ) (p : Place) → length (matching rule (suc k) p) ≡ length (matching rule k p) + (length (matching rule k (east (2 ^ k) p)) + (length (matching rule k (north (2 ^ k) p)) + length (matching rule k (northEast (2 ^ k) p))))
 matching-counted rule k p = ap length (matching-square rule k p) ∙ simp length-append

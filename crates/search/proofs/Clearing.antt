@@ -1,4 +1,4 @@
--- Entries of a list made zero one after the other, from a place on, whatever zero is to the entries.
+-- Making the entries of a list zero one after the other, from index `from` on. Entries may be of any type that has a zero.
 use Prim.Native.Nat.{ℕ, _+_, _-_, _≤_, _<_}
 use mathlib.Core.Path.{_≡_, refl, sym, ap, _∙_}
 use mathlib.Core.List.{List, [], _∷_, _++_, append-nil, append-assoc}
@@ -7,7 +7,7 @@ use native.Mathlib.Numerals.{add-one}
 use lib.ListN.{length, take, set, replicate, length-set, replicate-append-replicate}
 use lib.Seq.{take-all, take-suc-set}
 
--- The list l came from l₀ by making the entries from a place up to i zero.
+-- So far, up to index i, the list l has the entries of l₀ up to `from`, and zeros after them; it is as long as l₀.
 pub record Cleared {A : Type 0} (zero : A) (from i : ℕ) (l₀ l : List A) : Type 0 where
   pub entries : take i l ≡ take from l₀ ++ replicate (i - from) zero
   pub same : length l ≡ length l₀
@@ -18,7 +18,7 @@ module _ {A : Type 0} (zero : A) where
   zeros : (n m : ℕ) → n ≡ m → replicate n zero ≡ replicate m zero
   zeros n m e = ap (λ (x : ℕ). replicate x zero) e
 
-  -- Nothing cleared yet; one entry more.
+  -- Before any entry is cleared; and with one entry more.
   pub cleared-none : (from : ℕ) (l : List A) → Cleared zero from from l l
   cleared-none from l =
       record {
@@ -43,7 +43,7 @@ module _ {A : Type 0} (zero : A) where
         inside = omega (arith, c .past, c .same);
       }
 
-  -- At the end of the list all entries from the place on are zero.
+  -- At the end of the list all entries from `from` on are zero.
   pub cleared-all : (from i : ℕ) (l₀ l : List A) → length l ≤ i → Cleared zero from i l₀ l → l ≡ take from l₀ ++ replicate (length l₀ - from) zero
   cleared-all from i l₀ l h c =
       sym (take-all i l h)

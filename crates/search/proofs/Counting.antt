@@ -46,6 +46,6 @@ in-tower rule (suc k) p =
           (omega (arith, in-tower rule k p, in-tower rule k se, in-tower rule k nw, in-tower rule k ne)),
     )
 
--- The law.
+-- The law: a square takes no more visits than that.
 pub at-most : (rule : Rule) (k : ℕ) (p : Place) → visitsOf rule k p ≤ mostVisits k
 at-most rule k p = omega (arith, in-tower rule k p, most-is k)

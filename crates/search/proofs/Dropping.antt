@@ -1,5 +1,5 @@
 -- A square that is dropped has no matching cell. Each of its cells lies at most half a side from the middle each way, so its
--- ranges differ from the middle's by at most 3/4 of the side, and its readings by twice that.
+-- ranges differ from the middle's by at most 3/4 of the side, or by 2 if the side is 2, and its readings by twice that.
 use Prim.Native.Nat.{ℕ, zero, suc, _+_, _*_, _^_, _≤_, _<_}
 use mathlib.Core.Path.{_≡_, refl, sym, ap, _∙_}
 use mathlib.Core.Bool.{Bool, true, false, true≢false}
@@ -15,7 +15,7 @@ use Rattle.search.specs.Questions.{Rule, matches, isKept}
 use Rattle.search.specs.Cells.{matching, cells}
 use Rattle.search.proofs.CellLaws.{those-none, cell-inside}
 
--- How far a range moves from the middle of a square of side 2 ^ (k + 1) to any of its cells, at the most.
+-- The most that a range changes from the middle of a square of side 2 ^ (k + 1) to any of its cells.
 span : ℕ → ℕ
 span zero = 2
 span (suc j) = 3 * 2 ^ j
@@ -23,14 +23,14 @@ span (suc j) = 3 * 2 ^ j
 sq-treble : (x : ℕ) → (3 * x) * (3 * x) ≡ 9 * (x * x)
 sq-treble x = simp (mul-assoc, mul-left-comm x 3 x) (omega arith)
 
--- It spans half a side each way.
+-- It covers half a side each way.
 spans : (k : ℕ) → 2 ^ k * 2 ^ k + 2 ^ k * 2 ^ k ≤ span k * span k
 unfolding span
 spans zero = omega arith
 spans (suc j) =
     omega (arith, ap (λ (x : ℕ). x * x) (pow-succ' 2 j), sq-double (2 ^ j), sq-treble (2 ^ j))
 
--- And the dropping rule leaves room for it twice.
+-- And the dropping rule leaves room for twice that.
 room-for-it : (t k : ℕ) → t + 2 * span k ≤ t + 2 * 2 ^ suc k + 2
 unfolding span
 room-for-it t zero = omega arith
@@ -39,7 +39,7 @@ room-for-it t (suc j) = omega (arith, pow-succ' 2 (suc j), pow-succ' 2 j)
 from-middle : (p o h side : ℕ) → side ≡ 2 * h → p ≤ o → o < p + side → apart (p + h) o ≤ h
 from-middle p o h side e l u = omega arith
 
--- Where a cell of the square matches, the square is kept.
+-- If a cell of the square matches, the square is kept.
 kept-by : (rule : Rule) (k : ℕ) (p o : Place) → IsCellOf (suc k) p o → matches rule o ≡ true → isKept rule k p ≡ true
 kept-by rule k p o i e =
     within-moves (rule .tolerance) _ (rule .chain) (rule .wanted) (northEast (2 ^ k) p) o (2 ^ k) (2 ^ k) (span k)
@@ -53,7 +53,7 @@ not-so : (b : Bool) → (b ≡ true → ⊥) → b ≡ false
 not-so true f = absurd (f refl)
 not-so false f = refl
 
--- The dropping law.
+-- The dropping law: a dropped square has no matching cell.
 pub dropped-none : (rule : Rule) (k : ℕ) (p : Place) → isKept rule k p ≡ false → matching rule (suc k) p ≡ []
 unfolding matching
 dropped-none rule k p e =

@@ -1,4 +1,4 @@
--- The end of a walk: what the tally and the cleared list come to is what the definitions answer.
+-- The end of a walk: the answer made from the tally, and the cleared list, are those of the definitions.
 use Prim.Native.Nat.{ℕ, _-_, _*_}
 use mathlib.Core.Path.{_≡_, refl, sym, ap, ap₂, _∙_, subst⁻¹}
 use mathlib.Core.List.{List, [], _∷_, _++_}
@@ -18,11 +18,11 @@ use Rattle.search.proofs.AnswerLaws.{ended-out, ended-full, ended-gone}
 abbrev pub IsTold : ℕ → Outcome → Answer → List ℕ → Type 0
 IsTold n o a l = (a ≡ o .answer) × (l ≡ listOf n (o .places))
 
--- A list cleared from its start on.
+-- The list l' is l cleared from its start on.
 abbrev pub Empty : List ℕ → List ℕ → Type 0
 Empty l l' = l' ≡ take 0 l ++ replicate (length l - 0) 0
 
--- A refusal with an empty list.
+-- If the outcome is a refusal, this refusal and a cleared list are right.
 pub refusal-told : (n : ℕ) (o : Outcome) (a : Answer) (l l' : List ℕ) → length l ≡ n → o ≡ refused a → Empty l l' → IsTold n o a l'
 unfolding listOf entriesOf
 refusal-told n o a l l' same e empty =
@@ -37,12 +37,12 @@ gone-some : (ps : List Place) (v : ℕ) → (length ps ≡ 0 → ⊥) → gone p
 gone-some [] v f = absurd (f refl)
 gone-some (p ∷ ps) v f = refl
 
--- Before the first visit any list holds the walk.
+-- Before the first visit, a tally of zeros and any list represent the walk.
 pub start-holds : (l : List ℕ) → Holds start (record { stop = 0; count = 0; visits = 0 }) l
 unfolding entriesOf
 start-holds l = record { stop = refl; visits = refl; count = refl; entries = refl }
 
--- Each end of a walk, told with the list cleared: 10, 9, 8, and places.
+-- Each end of a walk, answered with the list cleared: 10, 9, 8, and places.
 module _ (n : ℕ) (s : Standing) (t : Tally) (l l' : List ℕ) (h : Holds s t l) (same : length l ≡ n) where
   pub out-told : t .stop ≡ 10 → Empty l l' → IsTold n (ended s) (AllowanceUsed (t .visits)) l'
   out-told e empty =

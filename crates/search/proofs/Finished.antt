@@ -15,7 +15,7 @@ use Rattle.search.specs.Cells.{matching, visitsOf}
 use Rattle.search.proofs.WalkLaws.{visit-after, visit-out, visit-cell, visit-square, quarters, cell-missed, cell-full, cell-listed}
 use Rattle.search.proofs.Whole.{going, after, after-missed, after-listed, after-dropped, after-quarters}
 
--- A walk that goes on after a visit went on before it.
+-- A walk that is not stopped after a visit was not stopped before it.
 went-on : (q : Question) (k : ℕ) (p : Place) (s : Standing) → visit q k p s .stop ≡ 0 → s .stop ≡ 0
 went-on q k p s e = go (ℕ-discrete (s .stop) 0)
   where
@@ -26,7 +26,7 @@ went-on q k p s e = go (ℕ-discrete (s .stop) 0)
 abbrev Finished : Question → ℕ → Place → Type 0
 Finished q k p = (ps : List Place) (v : ℕ) → visit q k p (going ps v) .stop ≡ 0 → visit q k p (going ps v) ≡ after (q .rule) k p ps v
 
--- Only a visit that the allowance covers leaves the walk going.
+-- A walk goes on after a visit only if the allowance covered the visit.
 covered : (q : Question) (k : ℕ) (p : Place) (ps : List Place) (v : ℕ) → visit q k p (going ps v) .stop ≡ 0 → q .limits .allowance ≤ v → ⊥
 covered q k p ps v e h = eqb-false 10 0 refl (sym (ap (λ (x : Standing). x .stop) (visit-out q k p (going ps v) refl h)) ∙ e)
 
@@ -74,7 +74,7 @@ module _ (q : Question) (p : Place) (ps : List Place) (v : ℕ) where
       ∙ ap (λ (b : Bool). either b (quarters q k p) unchanged (going ps (v + 1))) t in
       step ∙ quarters-finished k ih t (sym (ap (λ (x : Standing). x .stop) step) ∙ e)
 
--- The law.
+-- The law, for every square.
 pub finished : (q : Question) (k : ℕ) (p : Place) → Finished q k p
 finished q zero p ps v e = cell-finished q p ps v (matches (q .rule) p) refl (decLe (q .limits .allowance) v) (decLe (q .limits .room) (length ps)) e
 finished q (suc k) p ps v e = square-finished q p ps v k (λ o. finished q k o) (isKept (q .rule) k p) refl (decLe (q .limits .allowance) v) e

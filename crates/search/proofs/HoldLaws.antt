@@ -1,4 +1,4 @@
--- How a tally and a list go on holding where a walk stands, visit by visit.
+-- The tally and the list represent the state of the walk from visit to visit.
 use Prim.Native.Nat.{ℕ, suc, _+_, _*_, _^_, _≤_, _<_}
 use mathlib.Core.Path.{_≡_, refl, sym, ap, ap₂, _∙_, subst⁻¹}
 use mathlib.Core.Bool.{Bool, true, false}
@@ -38,11 +38,11 @@ abbrev pub begunTally : Tally → Tally
 begunTally t = record { stop = 0; count = t .count; visits = t .visits + 1 }
 
 module _ (s : Standing) (t : Tally) (l : List ℕ) (h : Holds s t l) where
-  -- The places held are all in the list.
+  -- The places counted in the tally fit in the list.
   pub held-fits : 2 * t .count ≤ length l
   held-fits = omega (arith, h .count, ap length (h .entries), length-entries (s .places), length-take (2 * t .count) l)
 
-  -- A stop, and a visit counted, leave the list.
+  -- A stop and a counted visit leave the list as it is.
   pub stop-holds : (why : ℕ) → Holds (stopped why s) (stopTally why t) l
   stop-holds why = record { stop = refl; visits = h .visits; count = h .count; entries = h .entries }
 
@@ -50,7 +50,7 @@ module _ (s : Standing) (t : Tally) (l : List ℕ) (h : Holds s t l) where
   count-holds z =
       record { stop = sym z ∙ h .stop; visits = ap (λ (v : ℕ). v + 1) (h .visits); count = h .count; entries = h .entries }
 
-  -- One place more goes behind the others.
+  -- One more place is put after the others.
   pub list-holds : (p : Place) → 2 * t .count + 2 ≤ length l → Holds (listed p s) (record { stop = t .stop; count = t .count + 1; visits = t .visits }) (set (set l (2 * t .count) (p .easting)) (2 * t .count + 1) (p .northing))
   list-holds p room =
       let i : ℕ = 2 * t .count in
@@ -66,7 +66,7 @@ module _ (s : Standing) (t : Tally) (l : List ℕ) (h : Holds s t l) where
       }
 
   module _ (q : Question) (p : Place) where
-    -- A cell is missed, finds the list full, or is listed.
+    -- A cell does not match, finds the list full, or is listed.
     pub missed-holds : matches (q .rule) p ≡ false → Holds (cell q p s) t l
     missed-holds e = subst⁻¹ (λ (x : Standing). Holds x t l) (cell-missed q p s e) h
 
@@ -79,7 +79,7 @@ module _ (s : Standing) (t : Tally) (l : List ℕ) (h : Holds s t l) where
         (cell-listed q p s e (omega (arith, h .count)))
         (list-holds p (omega arith))
 
-    -- A visit after a stop, and one that is not allowed.
+    -- A visit after a stop, and one that the allowance does not cover.
     pub after-holds : (k : ℕ) → (t .stop ≡ 0 → ⊥) → Holds (visit q k p s) t l
     after-holds k f = subst⁻¹ (λ (x : Standing). Holds x t l) (visit-after q k p s (λ e. f (h .stop ∙ e))) h
 
@@ -89,7 +89,7 @@ module _ (s : Standing) (t : Tally) (l : List ℕ) (h : Holds s t l) where
         (visit-out q k p s (sym (h .stop) ∙ z) (omega (arith, h .visits)))
         (stop-holds 10)
 
-    -- A visit that begins: what holds the cell's walk, the dropped square's or the quarters' holds the visit's.
+    -- A visit that begins: what represents the walk after the cell, dropped square or quarters represents it after the visit.
     module _ (z : t .stop ≡ 0) (a : t .visits < q .limits .allowance) where
       pub cell-holds : (k : ℕ) (r : Tally) (l' : List ℕ) → k ≡ 0 → Holds (cell q p (counted s)) r l' → Holds (visit q k p s) r l'
       cell-holds k r l' e g =

@@ -1,4 +1,4 @@
--- What every step of a walk keeps, the walk keeps.
+-- A property of the state that every step of a walk keeps is kept by the whole walk.
 use Prim.Native.Nat.{ℕ, zero, suc, _≤_, _<_}
 use mathlib.Core.Path.{_≡_, refl, subst⁻¹}
 use mathlib.Core.Bool.{Bool, true, false}
@@ -10,7 +10,7 @@ use Rattle.search.specs.Questions.{Question, matches, isKept}
 use Rattle.search.specs.Walk.{Standing, either, unchanged, stopped, counted, listed, cell, visit}
 use Rattle.search.proofs.WalkLaws.{visit-after, visit-out, visit-cell, visit-square, quarters, cell-missed, cell-full, cell-listed}
 
--- The steps: the allowance found used up, a visit counted, the list found full, and a place listed.
+-- The steps that keep it: the allowance found used up, a visit counted, the list found full, and a place listed.
 pub record Keeps (q : Question) (P : Standing → Type 0) : Type 0 where
   pub out : (s : Standing) → P s → q .limits .allowance ≤ s .visits → P (stopped 10 s)
   pub count : (s : Standing) → P s → s .stop ≡ 0 → s .visits < q .limits .allowance → P (counted s)
@@ -23,7 +23,7 @@ module _ (q : Question) (P : Standing → Type 0) (keeps : Keeps q P) where
   cell-keeps p s true m (yes r) h = subst⁻¹ P (cell-full q p s m r) (keeps .full s h r)
   cell-keeps p s true m (no r) h = subst⁻¹ P (cell-listed q p s m (lt-of-not-le r)) (keeps .list p s h (lt-of-not-le r))
 
-  -- By whether the walk goes on and the allowance covers the visit.
+  -- If the walk was stopped or the allowance is used up, P is kept; otherwise the visit begins, which `begun` covers.
   by-start : (k : ℕ) (p : Place) (s : Standing) → P s → (s .stop ≡ 0 → s .visits < q .limits .allowance → P (visit q k p s)) → P (visit q k p s)
   by-start k p s h begun = go (ℕ-discrete (s .stop) 0) (decLe (q .limits .allowance) (s .visits))
     where
@@ -36,7 +36,7 @@ module _ (q : Question) (P : Standing → Type 0) (keeps : Keeps q P) where
   either-keeps true k p s ih h = ih _ _ (ih _ _ (ih _ _ (ih p s h)))
   either-keeps false k p s ih h = h
 
-  -- The law.
+  -- The law: a visit keeps P.
   pub visit-keeps : (k : ℕ) (p : Place) (s : Standing) → P s → P (visit q k p s)
   visit-keeps zero p s h =
       by-start 0 p s h

@@ -1,5 +1,5 @@
--- Where a walk is stopped: no more visits than allowed, exactly the allowance with 10; and 9 where the matching cells are more
--- than the room.
+-- How a walk is stopped. It makes no more visits than allowed, and exactly the allowance if it stops with 10. It stops with 9 if
+-- the allowance covers its visits and there are more matching cells than room.
 use Prim.Native.Nat.{ℕ, zero, suc, _+_, _^_, _≤_, _<_}
 use mathlib.Core.Path.{_≡_, refl, sym, ap, _∙_}
 use mathlib.Core.Logic.{_⊎_, inl, inr}
@@ -37,13 +37,13 @@ module _ (q : Question) where
         list = λ p s h r. record { stop = h .stop; most = h .most; all = h .all };
       }
 
-  -- Every walk from its start is so.
+  -- This holds for every walk from its start.
   pub bounded : (k : ℕ) (p : Place) → Bounded q (visit q k p start)
   bounded k p =
       visit-keeps q (Bounded q) steps k p start
       (record { stop = inl refl; most = omega arith; all = λ e. absurd (eqb-false 0 10 refl e) })
 
-  -- A part of a walk, of c visits and f matching cells, stops with 9 where the allowance covers it and the room does not.
+  -- A part of a walk, of c visits and f matching cells, stops with 9 if the allowance covers it and the room does not.
   record Overflows (part : Standing → Standing) (c f : ℕ) : Type 0 where
     stays : (s : Standing) → s .stop ≡ 9 → part s .stop ≡ 9
     over : (ps : List Place) (v : ℕ) → length ps ≤ q .limits .room → v + c ≤ q .limits .allowance → q .limits .room < length ps + f → part (going ps v) .stop ≡ 9
@@ -97,6 +97,6 @@ module _ (q : Question) where
             ∙ square-over k p ih (isKept (q .rule) k p) refl ps v l m r;
       }
 
-  -- With the allowance for its visits and too little room, a walk stops with 9.
+  -- With allowance for its visits but too little room, a walk stops with 9.
   pub too-little-room : (k : ℕ) (p : Place) → visitsOf (q .rule) k p ≤ q .limits .allowance → q .limits .room < length (matching (q .rule) k p) → visit q k p (going [] 0) .stop ≡ 9
   too-little-room k p a r = overflows k p .over [] 0 (omega arith) (omega arith) (omega arith)

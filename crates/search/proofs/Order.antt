@@ -1,5 +1,5 @@
--- The cells of a window, quarter by quarter, stand in chart order, and no other list of the same cells does.
--- The quarter that a cell lies in decides the two highest bits of its number; below them stands its number in the quarter.
+-- The cells of a window, quarter by quarter, are in chart order, and no other list of the same cells is.
+-- The quarter of a cell gives the two highest bits of its number; the bits below them are its number in the quarter.
 use Prim.Native.Nat.{ℕ, zero, suc, _+_, _-_, _*_, _/_, _%_, _^_, _≤_, _<_}
 use mathlib.Core.Path.{_≡_, refl, sym, ap, ap₂, _∙_}
 use mathlib.Core.Logic.{_⊎_, inl, inr, ⊎-elim}
@@ -36,7 +36,7 @@ fourfold k c = ap (λ (x : ℕ). x * c) (pow-succ' 4 k) ∙ mul-assoc 4 (4 ^ k) 
 halved : (k a e : ℕ) → (a * 2 ^ suc k + e) / 2 ≡ a * 2 ^ k + e / 2
 halved k a e = omega (arith, twofold k a)
 
--- With a bit a above the k bits of e, and a bit b above those of n, b and then a stand above what e and n interleave to.
+-- With a bit a above the k bits of e, and a bit b above those of n, the interleaved number has b and then a above its other bits.
 pub top-bits : (k a b e n : ℕ) → a ≤ 1 → b ≤ 1 → e < 2 ^ k → n < 2 ^ k → interleave (suc k) (a * 2 ^ k + e) (b * 2 ^ k + n) ≡ 4 ^ k * (2 * b + a) + interleave k e n
 top-bits zero a b e n ha hb he hn =
     omega (arith, lowest-bits 0 (a * 2 ^ 0 + e) (b * 2 ^ 0 + n), no-bits ((a * 2 ^ 0 + e) / 2) ((b * 2 ^ 0 + n) / 2), no-bits e n)
@@ -52,7 +52,7 @@ module _ (number : Place → ℕ) where
   tail-rises p [] r = tt
   tail-rises p (q ∷ l) r = r .1
 
-  -- In a rising list the first number is below all that follow, not the next alone.
+  -- In a rising list the first number is below all that follow, not only below the next.
   above-head : (p : Place) (l : List Place) → Rises number (p ∷ l) → (o : Place) → List·Memᴰ o l → number p < number o
   unfolding Rises
   above-head p [] r o m = absurd (List·Memᴰ·not-nil m)
@@ -103,7 +103,7 @@ module _ (number : Place → ℕ) where
       (λ o i. ⊎-elim (above-head p l rl o) (λ j. omega (arith, first, above o j)) (List·Memᴰ·append-cases l i))
       (rises-append middle l m (tail-rises p l rl) rm (λ o i. below o (List·Memᴰ·tail i)) above)
 
-  -- A rising list whose numbers are low or more and less than high.
+  -- A rising list whose numbers are at least low and below high.
   record Stretch (low high : ℕ) (l : List Place) : Type 0 where
     rises : Rises number l
     ordered : low ≤ high
@@ -119,7 +119,7 @@ module _ (number : Place → ℕ) where
         to = λ o i. ⊎-elim (λ j. omega (arith, s .to o j)) (t .to o) (List·Memᴰ·append-cases l i);
       }
 
--- Numbers that are larger by the same at each place rise too.
+-- Numbers that are larger by the same amount at each place rise too.
 rises-shifted : (number shifted : Place → ℕ) (c : ℕ) (l : List Place) → ((o : Place) → List·Memᴰ o l → shifted o ≡ c + number o) → Rises number l → Rises shifted l
 unfolding Rises
 rises-shifted number shifted c [] h r = tt
@@ -168,11 +168,11 @@ square-rises (suc k) p =
     let ne = quarter-stretch k 1 1 p (northEast (2 ^ k) p) (omega arith) (square-rises k (northEast (2 ^ k) p)) in
     stretch-append number sw (stretch-append number se (stretch-append number nw ne)) .rises
 
--- The cells of a window, quarter by quarter, stand in chart order.
+-- The cells of a window, quarter by quarter, are in chart order.
 pub cells-rise : (w : Window) → Rises (chartNumber w) (cells (w .k) (w .corner))
 cells-rise w = square-rises (w .k) (w .corner)
 
--- The matching cells of a window stand in chart order.
+-- The matching cells of a window are in chart order.
 pub matching-rises : (rule : Rule) (w : Window) → Rises (chartNumber w) (matchingIn rule w)
 unfolding matching
 matching-rises rule w = those-rise (chartNumber w) (matches rule) (cells (w .k) (w .corner)) (cells-rise w)

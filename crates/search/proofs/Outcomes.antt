@@ -1,4 +1,4 @@
--- How a search that was accepted ends, said by its matching cells and the visits they take.
+-- How a search ends, in terms of its matching cells and the visits they take.
 use Prim.Native.Nat.{ℕ, _+_, _≤_, _<_}
 use mathlib.Core.Path.{_≡_, refl, sym, ap, ap₂, _∙_, subst⁻¹}
 use mathlib.Core.Logic.{_⊎_, inl, inr}
@@ -35,7 +35,7 @@ from-nought : (n : ℕ) → 0 + n ≡ n
 from-nought n = omega arith
 
 module _ (q : Question) (w : Window) where
-  -- A walk that was not stopped ended complete.
+  -- A walk that was not stopped has the complete outcome.
   unstopped : walk q w .stop ≡ 0 → ended (walk q w) ≡ complete q w
   unstopped e =
       let done = finished q (w .k) (w .corner) [] 0 e in
@@ -43,19 +43,19 @@ module _ (q : Question) (w : Window) where
       ∙ ap₂ gone (ap (λ (s : Standing). s .places) done) (ap (λ (s : Standing). s .visits) done ∙ from-nought _)
 
   module _ (a : Accepted (q .rule) w) (enough : AmpleAllowance q w) where
-    -- With ample allowance and room.
+    -- With ample allowance and room, the search is complete.
     pub ample-complete : AmpleRoom q w → searchOf q w ≡ complete q w
     ample-complete room =
         search-walks q w a
         ∙ unstopped (ap (λ (s : Standing). s .stop) (whole q (w .k) (w .corner) [] 0 (omega arith) (omega arith)))
 
-    -- With ample allowance and too little room.
+    -- With ample allowance and too little room, it is refused with 9.
     pub short-full : q .limits .room < length (matchingIn (q .rule) w) → searchOf q w ≡ refused (NoRoom (walk q w .visits))
     short-full room =
         let nine : walk q w .stop ≡ 9 = too-little-room q (w .k) (w .corner) enough room in
         search-walks q w a ∙ ended-full (walk q w) (λ x. eqb-false 9 10 refl (sym nine ∙ x)) nine
 
--- How a search ends: at a test before the walk, complete, for want of room, or with the allowance used up.
+-- How a search ends: at a test before the walk, complete, for lack of room, or with the allowance used up.
 pub data Ending (q : Question) (w : Window) : Outcome → Type 0 where
   early : (a : Answer) → (8 ≤ searchFigures a .refusal → ⊥) → (searchFigures a .visits ≡ 0) → Ending q w (refused a)
   done : visitsIn (q .rule) w ≤ q .limits .allowance → Ending q w (complete q w)

@@ -1,4 +1,4 @@
--- A reading taken apart: how far it lies above 0 and how far below.
+-- A reading split into how far it is above 0 and how far below.
 use Prim.Native.Nat.{_≤_}
 use mathlib.Core.Path.{_≡_, refl}
 use mathlib.Core.Bool.{true, false, true≢false}
@@ -9,7 +9,7 @@ use lib.Signed.{ltZ}
 use Rattle.chart.proofs.Differing.{nothing-less, all-less}
 use Rattle.search.specs.Holding.{aboveZero, belowZero}
 
--- A number below 0 has all its size there; any other has it above.
+-- A number below 0 has its whole size below; any other has it above.
 pub below-zero : (z : ℤ) → ltZ z (pos 0) ≡ true → (aboveZero z ≡ 0) × (belowZero z ≡ natAbs z)
 below-zero (pos n) e = absurd (omega (arith, ltb-true n 0 e))
 below-zero (negsuc n) e = (refl, refl)
@@ -18,12 +18,12 @@ pub not-below-zero : (z : ℤ) → ltZ z (pos 0) ≡ false → (aboveZero z ≡ 
 not-below-zero (pos n) e = (refl, refl)
 not-below-zero (negsuc n) e = absurd (true≢false e)
 
--- The two make the number again.
+-- The two parts make the number again.
 pub made-again : (z : ℤ) → subℕ (aboveZero z) (belowZero z) ≡ z
 made-again (pos n) = nothing-less n
 made-again (negsuc n) = all-less n
 
--- Neither is larger than its size.
+-- Neither part is larger than the size of the number.
 pub above-small : (z : ℤ) → aboveZero z ≤ natAbs z
 above-small (pos n) = omega arith
 above-small (negsuc n) = omega arith

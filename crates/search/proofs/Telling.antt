@@ -1,4 +1,4 @@
--- What each end of a search lists and tells.
+-- What each end of a search lists, and the figures of its answer.
 use Prim.Native.Nat.{ℕ, _≤_}
 use mathlib.Core.Path.{_≡_, refl, subst, subst⁻¹}
 use mathlib.Core.Bool.{Bool, true, false, cond}
@@ -22,7 +22,7 @@ use Rattle.search.proofs.CellLaws.{matching-all}
 use Rattle.search.proofs.Order.{matching-rises}
 use Rattle.search.proofs.Outcomes.{Ending, early, done, full, out}
 
--- A complete walk: its places, visits and count, and what 8 says of it.
+-- A complete walk: its places, visits and count; and if it answers 8, it has no places.
 pub gone-places : (ps : List Place) (v : ℕ) → gone ps v .places ≡ ps
 gone-places [] v = refl
 gone-places (p ∷ ps) v = refl
@@ -42,7 +42,7 @@ unfolding searchFigures
 gone-none [] v e = refl
 gone-none (p ∷ ps) v e = absurd (eqb-false 0 8 refl e)
 
--- A complete walk is told as 0 or 8.
+-- A complete walk answers with 0 or 8.
 pub gone-small : (ps : List Place) (v : ℕ) → searchFigures (gone ps v .answer) .refusal ≤ 8
 unfolding searchFigures
 gone-small [] v = omega arith
@@ -87,7 +87,7 @@ module _ (q : Question) (w : Window) where
   places-of _ (full v most) p m = absurd (List·Memᴰ·not-nil m)
   places-of _ out p m = absurd (List·Memᴰ·not-nil m)
 
-  -- And it stands in chart order.
+  -- And it is in chart order.
   pub rises-of : (o : Outcome) → Ending q w o → Rises (chartNumber w) (o .places)
   unfolding Rises
   rises-of _ (early a f v) = tt
@@ -95,7 +95,7 @@ module _ (q : Question) (w : Window) where
   rises-of _ (full v most) = tt
   rises-of _ out = tt
 
-  -- 8 ends only a walk that found no matching cell.
+  -- A search ends with 8 only if there is no matching cell.
   pub none-of : (o : Outcome) → Ending q w o → searchFigures (o .answer) .refusal ≡ 8 → matchingIn (q .rule) w ≡ []
   unfolding searchFigures
   none-of _ (early a f v) e = absurd (f (omega (arith, e)))
@@ -103,12 +103,12 @@ module _ (q : Question) (w : Window) where
   none-of _ (full v most) e = absurd (eqb-false 9 8 refl e)
   none-of _ out e = absurd (eqb-false 10 8 refl e)
 
-  -- Where there is no matching cell, no cell matches.
+  -- If there is no matching cell, no cell of the window matches.
   pub unmatched : (o : Place) → IsCellIn w o → matchingIn (q .rule) w ≡ [] → (b : Bool) → matches (q .rule) o ≡ b → b ≡ false
   unmatched o i e true m = absurd (List·Memᴰ·not-nil (subst (IsListed o) e (matching-all (q .rule) (w .k) (w .corner) o i m)))
   unmatched o i e false m = refl
 
-  -- No end has more visits than allowed, and 10 has exactly as many.
+  -- No search makes more visits than allowed, and one that ends with 10 makes exactly as many.
   pub spent-of : (o : Outcome) → Ending q w o → (searchFigures (o .answer) .visits ≤ q .limits .allowance) × (searchFigures (o .answer) .refusal ≡ 10 → searchFigures (o .answer) .visits ≡ q .limits .allowance)
   unfolding searchFigures
   spent-of _ (early a f v) = (omega (arith, v), λ e. absurd (f (omega (arith, e))))

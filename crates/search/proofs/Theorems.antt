@@ -1,5 +1,5 @@
--- Demand 3: what the answer of a search is worth. `search::search` is proved to answer `searchOf` and to leave its places in the
--- list; these theorems say what `searchOf` is, by the cells of the window and nothing else.
+-- Demand 3: what the answer of a search guarantees. `search::search` is proved to answer `searchOf` and to leave its places in the
+-- list; these theorems say what `searchOf` is, in terms of the cells of the window alone.
 use Prim.Native.Nat.{ℕ, _≤_, _<_}
 use mathlib.Core.Path.{_≡_, refl, ap, _∙_, subst⁻¹}
 use mathlib.Core.Bool.{false}
@@ -24,11 +24,11 @@ use Rattle.search.proofs.Outcomes.{ample-complete, short-full, ending}
 use Rattle.search.proofs.Telling.{gone-places, gone-visits, gone-count, gone-small, search-counts, places-of, rises-of, none-of, unmatched, spent-of}
 
 module _ (q : Question) (w : Window) where
-  -- No cell is listed that does not lie in the window and match, whatever the room and the allowance.
+  -- Every listed cell lies in the window and matches, whatever the room and the allowance.
   pub listed-matches : (o : Place) → IsListed o (searchOf q w .places) → IsMatch (q .rule) w o
   listed-matches o m = matching-only (q .rule) (w .k) (w .corner) o (places-of q w (searchOf q w) (ending q w) o m)
 
-  -- With room and allowance ample, a cell is listed exactly if it lies in the window and matches.
+  -- With ample room and allowance, a cell is listed exactly if it lies in the window and matches.
   pub listed-iff-matches : Accepted (q .rule) w → AmpleRoom q w → AmpleAllowance q w → (o : Place) →
       (IsListed o (searchOf q w .places) → IsMatch (q .rule) w o) × (IsMatch (q .rule) w o → IsListed o (searchOf q w .places))
   listed-iff-matches a room enough o = (
@@ -38,7 +38,7 @@ module _ (q : Question) (w : Window) where
         (matching-all (q .rule) (w .k) (w .corner) o (h .0) (h .1)),
   )
 
-  -- The chart numbers of the listed cells strictly rise: so they stand in chart order, and each once.
+  -- The chart numbers of the listed cells strictly rise: so they are in chart order, and each is listed once.
   pub numbers-rise : Rises (chartNumber w) (searchOf q w .places)
   numbers-rise = rises-of q w (searchOf q w) (ending q w)
 
@@ -51,7 +51,7 @@ module _ (q : Question) (w : Window) where
       (λ o m. listed-iff-matches a room enough o .1 (right o m))
       (λ o m. all o (listed-matches o m))
 
-  -- 8 is answered exactly when no cell matches. That it is answered only then needs no allowance.
+  -- 8 is answered exactly when no cell matches. That it is answered only then does not depend on the allowance.
   pub eight-only-then : figuresIn q w .refusal ≡ 8 → (o : Place) → IsCellIn w o → matches (q .rule) o ≡ false
   eight-only-then e o i = unmatched q w o i (none-of q w (searchOf q w) (ending q w) e) (matches (q .rule) o) refl
 
@@ -63,7 +63,7 @@ module _ (q : Question) (w : Window) where
       ap (λ (x : Outcome). searchFigures (x .answer) .refusal) (ample-complete q w a enough (omega (arith, ap length nothing)))
       ∙ ap (λ (l : List Place). searchFigures (gone l (visitsIn (q .rule) w) .answer) .refusal) nothing
 
-  -- With room and allowance ample, the visits are the quartering count, and the count is that of the matching cells.
+  -- With ample room and allowance, the visits are the quartering count, and the count is that of the matching cells.
   pub visits-are-counted : Accepted (q .rule) w → AmpleRoom q w → AmpleAllowance q w → figuresIn q w .visits ≡ visitsIn (q .rule) w
   visits-are-counted a room enough =
       ap (λ (x : Outcome). searchFigures (x .answer) .visits) (ample-complete q w a enough room) ∙ gone-visits (matchingIn (q .rule) w) (visitsIn (q .rule) w)
@@ -80,7 +80,7 @@ module _ (q : Question) (w : Window) where
   pub always-enough : mostVisits (w .k) ≤ q .limits .allowance → AmpleAllowance q w
   always-enough h = le-trans (at-most (q .rule) (w .k) (w .corner)) h
 
-  -- With the allowance ample, 9 is answered exactly when the matching cells are more than the room.
+  -- With ample allowance, 9 is answered exactly when there are more matching cells than room.
   pub nine-when-short : Accepted (q .rule) w → AmpleAllowance q w → q .limits .room < length (matchingIn (q .rule) w) → figuresIn q w .refusal ≡ 9
   unfolding searchFigures
   nine-when-short a enough short = ap (λ (x : Outcome). searchFigures (x .answer) .refusal) (short-full q w a enough short)
@@ -94,11 +94,11 @@ module _ (q : Question) (w : Window) where
           let told = ap (λ (x : Outcome). searchFigures (x .answer) .refusal) (ample-complete q w a enough room) in
           absurd (omega (arith, e, told, gone-small (matchingIn (q .rule) w) (visitsIn (q .rule) w)))
 
-  -- No search makes more visits than allowed, and one that is told 10 has made exactly as many.
+  -- No search makes more visits than allowed, and one that answers 10 has made exactly as many.
   pub visits-in-allowance : (figuresIn q w .visits ≤ q .limits .allowance) × (figuresIn q w .refusal ≡ 10 → figuresIn q w .visits ≡ q .limits .allowance)
   visits-in-allowance = spent-of q w (searchOf q w) (ending q w)
 
--- A place's own readings find that place, with room and allowance ample.
+-- A place's own readings find that place, with ample room and allowance.
 pub own-readings-found : (c : Chain) (p : Place) (w : Window) (tolerance allowance entries : ℕ) →
     let q = questionOf c (readingsOf c p) tolerance allowance entries in
     Accepted (q .rule) w → AmpleRoom q w → AmpleAllowance q w → IsCellIn w p → IsListed p (searchOf q w .places)

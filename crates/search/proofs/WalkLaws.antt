@@ -1,4 +1,4 @@
--- What a visit comes to, by how far it goes.
+-- What a visit does, according to how far it goes.
 use Prim.Native.Nat.{ℕ, zero, suc, _^_, _≤_, _<_}
 use mathlib.Core.Path.{_≡_}
 use mathlib.Core.Bool.{true, false}
@@ -48,7 +48,7 @@ pub visit-square : (q : Question) (k : ℕ) (p : Place) (s : Standing) → s .st
 unfolding visit
 visit-square q k p s z h = visited-on (q .limits .allowance) _ s z h
 
--- A cell is missed, finds the list full, or is listed.
+-- A cell does not match, finds the list full, or is listed.
 module _ (q : Question) (p : Place) (s : Standing) where
   pub cell-missed : matches (q .rule) p ≡ false → cell q p s ≡ s
   unfolding cell

@@ -1,4 +1,4 @@
--- A walk and what is to be found: with room and allowance it lists the matching cells, in as many visits as the squares take.
+-- With enough room and allowance, a walk lists the matching cells, in as many visits as the squares take.
 use Prim.Native.Nat.{ℕ, zero, suc, _+_, _^_, _≤_}
 use mathlib.Core.Path.{_≡_, refl, sym, ap, ap₂, _∙_}
 use mathlib.Core.Bool.{Bool, true, false}
@@ -14,11 +14,11 @@ use Rattle.search.proofs.WalkLaws.{visit-cell, visit-square, quarters, 
 use Rattle.search.proofs.CellLaws.{matching-square, matching-counted}
 use Rattle.search.proofs.Dropping.{dropped-none}
 
--- A walk that goes on.
+-- A walk that goes on, with the places listed and the visits made so far.
 abbrev pub going : List Place → ℕ → Standing
 going ps v = record { stop = 0; places = ps; visits = v }
 
--- Where a walk stands after a square: its matching cells are listed and its visits made.
+-- The state of a walk after a square: its matching cells are listed and its visits made.
 abbrev pub after : Rule → ℕ → Place → List Place → ℕ → Standing
 after rule k p ps v = going (ps ++ matching rule k p) (v + visitsOf rule k p)
 
@@ -37,12 +37,12 @@ unfolding visitsOf
 one-visit rule zero p = omega arith
 one-visit rule (suc k) p = omega arith
 
--- A cell's share.
+-- The matching cells of a single cell: the cell itself, or none.
 pub matching-cell : (rule : Rule) (p : Place) (b : Bool) → matches rule p ≡ b → matching rule 0 p ≡ ifSo b p []
 unfolding matching those cells
 matching-cell rule p b e = ap (λ (x : Bool). ifSo x p []) e
 
--- One more visit, after which a cell is missed, a cell is listed, or a square dropped: its share is done.
+-- After one visit a cell that does not match, a cell that is listed, and a square that is dropped are done.
 pub after-missed : (rule : Rule) (p : Place) (ps : List Place) (v : ℕ) → matches rule p ≡ false → going ps (v + 1) ≡ after rule 0 p ps v
 unfolding visitsOf
 after-missed rule p ps v e =
@@ -59,11 +59,11 @@ after-dropped rule k p ps v e =
     (sym (append-nil ps) ∙ ap (λ (l : List Place). ps ++ l) (sym (dropped-none rule k p e)))
     (ap (λ (n : ℕ). v + n) (sym (visits-dropped rule k p e)))
 
--- Four shares one after the other are the square's.
+-- Lists joined one after the other are the same list however they are grouped.
 shares : (a b c d e : List Place) → (((a ++ b) ++ c) ++ d) ++ e ≡ a ++ (b ++ (c ++ (d ++ e)))
 shares a b c d e = simp append-assoc
 
--- So is a square's after its quarters.
+-- After its four quarters a square is done.
 pub after-quarters : (rule : Rule) (k : ℕ) (p : Place) (ps : List Place) (v : ℕ) → isKept rule k p ≡ true → going ((((ps ++ matching rule k p) ++ matching rule k (east (2 ^ k) p)) ++ matching rule k (north (2 ^ k) p)) ++ matching rule k (northEast (2 ^ k) p)) (v + 1 + visitsOf rule k p + visitsOf rule k (east (2 ^ k) p) + visitsOf rule k (north (2 ^ k) p) + visitsOf rule k (northEast (2 ^ k) p)) ≡ after rule (suc k) p ps v
 after-quarters rule k p ps v e =
     ap₂ going
@@ -71,7 +71,7 @@ after-quarters rule k p ps v e =
     ∙ ap (λ (l : List Place). ps ++ l) (sym (matching-square rule k p)))
     (omega (arith, visits-kept rule k p e))
 
--- What a square of side 2 ^ k is to do to a walk, if it can.
+-- What a visit to a square of side 2 ^ k does to a walk, if allowance and room suffice.
 abbrev pub IsWhole : Question → ℕ → Place → Type 0
 IsWhole q k p = (ps : List Place) (v : ℕ) → v + visitsOf (q .rule) k p ≤ q .limits .allowance → length ps + length (matching (q .rule) k p) ≤ q .limits .room → visit q k p (going ps v) ≡ after (q .rule) k p ps v
 

@@ -1,4 +1,4 @@
--- What being a window says: its exponent, and that its squares lie on the chart.
+-- What being a window means: its exponent is at most 24, and its squares lie on the chart.
 use Prim.Native.Nat.{ℕ, _-_, _≤_, _<_, _^_}
 use mathlib.Core.Path.{_≡_, refl, ap, _∙_}
 use mathlib.Core.Bool.{Bool, true, false, _&&_}
@@ -14,7 +14,7 @@ use Rattle.search.specs.declared.Window.{Window}
 use Rattle.search.specs.Windows.{northEast, mostExponent, isWindow, IsCellIn}
 use Rattle.search.specs.Holding.{OnChart}
 
--- An exponent too large decides; one that is not leaves it to the cell farthest north-east.
+-- If the exponent is too large, it is not a window; if it is not, the cell farthest north-east decides.
 pub too-large-k : (w : Window) → mostExponent < w .k → isWindow w ≡ false
 unfolding isWindow
 too-large-k w h = ap (λ (b : Bool). b && inRange (northEast (2 ^ w .k - 1) (w .corner))) (lt-leb _ _ h)

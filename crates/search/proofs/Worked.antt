@@ -1,4 +1,4 @@
--- What a search leaves in a list, a chart number and a count of visits, computed from the definitions. 01's P cases stand in
+-- What a search leaves in a list, a chart number and a count of visits, computed from the definitions. 01's P cases are in
 -- `demands`.
 use Prim.Native.Nat.{ℕ}
 use mathlib.Core.Path.{_≡_, refl}
@@ -19,7 +19,7 @@ asked = ruleOf (record { master = placeOf 0 0; a = placeOf 30000 0; b = placeOf 
 abbrev window : ℕ → ℕ → ℕ → Window
 window e n k = record { corner = placeOf e n; k = k }
 
--- The list of P4, of nine entries: the places, then zeros; and of any refusal.
+-- The list of P4, with nine entries: the places, then zeros; and the list of any refusal, with three.
 p4-list : listOf 9 (placeOf 30000 40000 ∷ placeOf 30001 40001 ∷ []) ≡ 30000 ∷ 40000 ∷ 30001 ∷ 40001 ∷ 0 ∷ 0 ∷ 0 ∷ 0 ∷ 0 ∷ []
 unfolding listOf entriesOf
 p4-list = refl

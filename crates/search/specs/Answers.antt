@@ -28,25 +28,25 @@ pub record Outcome : Type 0 where
 abbrev pub refused : Answer → Outcome
 refused a = record { answer = a; places = [] }
 
--- A walk that was not stopped: no matching cell is a refusal.
+-- The outcome of a walk that was not stopped. If it found no matching cell, that is a refusal.
 abbrev pub gone : List Place → ℕ → Outcome
 gone [] visits = refused (NoMatch visits)
 gone (p ∷ ps) visits = record { answer = Places (length (p ∷ ps)) visits; places = p ∷ ps }
 
--- How a walk ended: stopped by the allowance or for want of room, or gone to its end.
+-- How a walk ended: stopped by the allowance, stopped for lack of room, or gone to its end.
 unfoldable pub ended : Standing → Outcome
 ended s =
     cond (eqb (s .stop) 10) (refused (AllowanceUsed (s .visits)))
     (cond (eqb (s .stop) 9) (refused (NoRoom (s .visits))) (gone (s .places) (s .visits)))
 
--- The tests before the walk all pass.
+-- All tests before the walk pass.
 pub record Accepted (rule : Rule) (w : Window) : Type 0 where
   pub readings : noneTooLarge (rule .wanted) ≡ true
   pub chain : isSound (rule .chain) ≡ true
   pub window : isWindow w ≡ true
   pub tolerance : rule .tolerance ≤ mostTolerance
 
--- The search: 3, 5, 6, 7, each where its test fails, then the walk.
+-- The search: 3, 5, 6 or 7 if its test fails, in this order; otherwise the walk.
 unfoldable pub searchOf : Question → Window → Outcome
 searchOf q w =
     whereSo (noneTooLarge (q .rule .wanted)) (refused ReadingTooLarge) (λ _.
@@ -60,16 +60,16 @@ unfoldable pub entriesOf : List Place → List ℕ
 entriesOf [] = []
 entriesOf (p ∷ ps) = p .easting ∷ p .northing ∷ entriesOf ps
 
--- A list of so many entries with these places: theirs first, all others zero.
+-- A list of `entries` entries with the places ps: theirs come first, all others are zero.
 unfoldable pub listOf : ℕ → List Place → List ℕ
 listOf entries ps = entriesOf ps ++ replicate (entries - 2 * length ps) 0
 
--- All that a search leaves: its answer, and every entry of its list, whatever it held.
+-- All that a search leaves: its answer, and every entry of its list, whatever the list held before.
 pub record SearchLeft : Type 0 where
   pub answer : Answer
   pub list : List ℕ
 
--- What a search of a window for readings, one for each slave, leaves in a list of so many entries.
+-- What a search of a window leaves, asked for one reading for each slave, with a list of `entries` entries.
 abbrev pub searchLeft : Chain → List ℤ → Window → ℕ → ℕ → ℕ → SearchLeft
 searchLeft c readings w tolerance allowance entries =
     let o = searchOf (questionOf c readings tolerance allowance entries) w in

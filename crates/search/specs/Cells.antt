@@ -1,4 +1,4 @@
--- What a search is to find, said without a walk: the matching cells in chart order, and how many visits they take
+-- What a search must find, said without a walk: the matching cells in chart order, and how many visits it takes
 -- (01, The search and its count).
 use Prim.Native.Nat.{ℕ, zero, suc, _+_, _-_, _*_, _/_, _%_, _^_, _≤_, _<_}
 use mathlib.Core.Path.{_≡_}
@@ -31,7 +31,7 @@ unfoldable pub cells : ℕ → Place → List Place
 cells zero p = p ∷ []
 cells (suc k) p = cells k p ++ (cells k (east (2 ^ k) p) ++ (cells k (north (2 ^ k) p) ++ cells k (northEast (2 ^ k) p)))
 
--- p before the others, if it passes.
+-- p before the others if it passed the test, and the others alone if it did not.
 abbrev pub ifSo : Bool → Place → List Place → List Place
 ifSo true p ps = p ∷ ps
 ifSo false p ps = ps
@@ -45,14 +45,14 @@ those test (p ∷ ps) = ifSo (test p) p (those test ps)
 unfoldable pub matching : Rule → ℕ → Place → List Place
 matching rule k p = those (matches rule) (cells k p)
 
--- The visits that a square takes: one, and those of its quarters where it is not dropped.
+-- The visits that a square takes: one, and those of its quarters if it is not dropped.
 unfoldable pub visitsOf : Rule → ℕ → Place → ℕ
 visitsOf rule zero p = 1
 visitsOf rule (suc k) p =
     1 + whereSo (isKept rule k p) 0
     (λ _. visitsOf rule k p + (visitsOf rule k (east (2 ^ k) p) + (visitsOf rule k (north (2 ^ k) p) + visitsOf rule k (northEast (2 ^ k) p))))
 
--- The most that any square of side 2^k takes.
+-- The most visits that any square of side 2^k takes.
 abbrev pub mostVisits : ℕ → ℕ
 mostVisits k = (4 ^ (k + 1) - 1) / 3
 
@@ -67,7 +67,7 @@ visitsIn rule w = visitsOf rule (w .k) (w .corner)
 abbrev pub IsMatch : Rule → Window → Place → Type 0
 IsMatch rule w p = IsCellIn w p × (matches rule p ≡ true)
 
--- A place stands in a list.
+-- The place p is in the list ps.
 abbrev pub IsListed : Place → List Place → Type 0
 IsListed p ps = List·Memᴰ p ps
 

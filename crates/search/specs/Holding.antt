@@ -1,4 +1,4 @@
--- How the code holds a search: what its private functions promise each other. No public promise rests on it.
+-- How the code represents a search: what its private functions promise each other. No public contract uses it.
 use Prim.Native.Nat.{ℕ, suc, _+_, _*_, _≤_, _^_}
 use mathlib.Core.Path.{_≡_}
 use mathlib.Core.Bool.{true}
@@ -24,11 +24,11 @@ abbrev pub belowZero : ℤ → ℕ
 belowZero (pos n) = 0
 belowZero (negsuc n) = suc n
 
--- A wish: the slave, and the reading that is wanted.
+-- The slave of a wish, and the reading that it wants.
 abbrev pub wantedBy : Wish → Wanted
 wantedBy w = record { slave = w .slave; reading = subℕ (w .above) (w .below) }
 
--- The rule and the limits that a hunt goes by, and so its question.
+-- The rule and the limits of a hunt, and the question that they make.
 abbrev pub ruleBy : Hunt → Rule
 ruleBy h =
     record {
@@ -43,13 +43,13 @@ limitsBy h = record { allowance = h .allowance; room = h .room }
 abbrev pub questionBy : Hunt → Question
 questionBy h = record { rule = ruleBy h; limits = limitsBy h }
 
--- A wish whose sums fit the machine.
+-- A wish whose slave is in range and whose reading is not too large, so that the sums of the code fit.
 pub record Fair (w : Wish) : Type 0 where
   pub slave : inRange (w .slave) ≡ true
   pub above : w .above ≤ mostReading
   pub below : w .below ≤ mostReading
 
--- A hunt that the tests of a search have passed.
+-- A hunt that has passed the tests of a search.
 pub record Ready (h : Hunt) : Type 0 where
   pub master : inRange (h .master) ≡ true
   pub a : Fair (h .a)
@@ -62,7 +62,7 @@ pub record OnChart (k side : ℕ) (p : Place) : Type 0 where
   pub east : p .easting + side ≤ mostEasting + 1
   pub north : p .northing + side ≤ mostNorthing + 1
 
--- A tally and a list hold where a walk stands: the list begins with its places.
+-- The tally t and the list l represent the state s of a walk: the list begins with its places.
 pub record Holds (s : Standing) (t : Tally) (l : List ℕ) : Type 0 where
   pub stop : t .stop ≡ s .stop
   pub visits : t .visits ≡ s .visits

@@ -20,17 +20,17 @@ pub record Limits : Type 0 where
   pub allowance : ℕ
   pub room : ℕ
 
--- A question is both. What matches, which squares are dropped and how many visits they take is the rule's; where a walk ends
--- is the limits' too.
+-- A question has both. What matches, which squares are dropped and how many visits they take depends on the rule alone; where a
+-- walk ends depends on the limits too.
 pub record Question : Type 0 where
   pub rule : Rule
   pub limits : Limits
 
--- The rule of readings, one for each slave.
+-- The rule for a chain, with one reading for each slave.
 abbrev pub ruleOf : Chain → List ℤ → ℕ → Rule
 ruleOf c readings tolerance = record { chain = c; wanted = wantedOf c readings; tolerance = tolerance }
 
--- The limits of a list of so many entries. Two entries are a place; half a place is no room (01, Numbers of refusal).
+-- The limits for a list of `entries` entries. Two entries are a place; half a place is no room (01, Numbers of refusal).
 abbrev pub limitsOf : ℕ → ℕ → Limits
 limitsOf allowance entries = record { allowance = allowance; room = entries / 2 }
 

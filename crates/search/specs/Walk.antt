@@ -8,7 +8,7 @@ use Rattle.chart.specs.declared.Place.{Place}
 use Rattle.search.specs.Windows.{east, north, northEast}
 use Rattle.search.specs.Questions.{Question, matches, isKept}
 
--- Where a walk stands: the refusal that stopped it, 0 while it goes on; the places listed so far; the visits made.
+-- The state of a walk: the refusal that stopped it, 0 while it goes on; the places listed so far; the visits made.
 pub record Standing : Type 0 where
   pub stop : ℕ
   pub places : List Place
@@ -18,12 +18,12 @@ pub record Standing : Type 0 where
 abbrev pub start : Standing
 start = record { stop = 0; places = []; visits = 0 }
 
--- One of two ways on: the other is not worked out.
+-- One of two steps, chosen by a test. The other is not worked out.
 abbrev pub either : Bool → (Standing → Standing) → (Standing → Standing) → Standing → Standing
 either true f g s = f s
 either false f g s = g s
 
--- The steps of a walk: nothing, a stop with a refusal, a visit counted, a place listed behind the others.
+-- The steps of a walk: nothing, a stop with a refusal, a visit counted, a place listed after the others.
 abbrev pub unchanged : Standing → Standing
 unchanged s = s
 
@@ -36,8 +36,8 @@ counted s = record { stop = s .stop; places = s .places; visits = s .visits + 1 
 abbrev pub listed : Place → Standing → Standing
 listed p s = record { stop = s .stop; places = s .places ++ (p ∷ []); visits = s .visits }
 
--- A visit: none after a stop; before it the allowance is looked at, which stops the walk with 10 if it is used up; it costs
--- one; then whatever is done inside.
+-- A visit. After a stop nothing happens. If the allowance is used up, the walk stops with 10. Otherwise the visit is counted, and
+-- then `inside` says what is done.
 unfoldable pub visited : ℕ → (Standing → Standing) → Standing → Standing
 visited allowance inside s =
     either (eqb (s .stop) 0)

@@ -31,6 +31,6 @@ pub record IsCellOf (k : ℕ) (p o : Place) : Type 0 where
   pub from-south : p .northing ≤ o .northing
   pub to-north : o .northing < p .northing + 2 ^ k
 
--- The same of a window.
+-- The same for a window.
 abbrev pub IsCellIn : Window → Place → Type 0
 IsCellIn w o = IsCellOf (w .k) (w .corner) o

@@ -43,14 +43,14 @@ pub struct SearchFigures {
     pub visits: u64,
 }
 
-// A slave and the reading that is wanted for it: how far that lies above 0, and how far below.
+// A slave and the reading that is wanted for it, split into how far it is above 0 and how far below.
 struct Wish {
     slave: Place,
     above: u64,
     below: u64,
 }
 
-// What a walk goes by, the same at every visit.
+// What a walk uses at every visit. It stays the same during the walk.
 struct Hunt {
     master: Place,
     a: Wish,
@@ -60,7 +60,7 @@ struct Hunt {
     room: usize,
 }
 
-// Where a walk stands: the refusal that stopped it, 0 while it goes on; the places listed; the visits made.
+// The state of a walk: the refusal that stopped it, 0 while it goes on; the count of places listed; the visits made.
 struct Tally {
     stop: u32,
     count: usize,
@@ -91,8 +91,8 @@ pub fn is_window(w: Window) -> bool
     chart::in_range(north_east(w.corner, last))
 }
 
-// The places of the window that match the readings, easting and northing in turn, in chart order; zeros behind them, and
-// nothing but zeros on a refusal.
+// Lists the places of the window that match the readings, in chart order, each as easting and northing. The rest of the list
+// becomes zero, and on a refusal all of it.
 pub fn search(
     list: &mut [u32],
     c: Chain,
@@ -142,7 +142,7 @@ pub fn search(
     )
 }
 
-// An answer as figures.
+// An answer of `search` as figures.
 pub fn as_figures(a: Answer) -> SearchFigures
     ensures { λ r. ⌜ r ≡ searchFigures a ⌝ }
 {
@@ -196,7 +196,7 @@ fn wished(slave: Place, reading: i64) -> Wish
     }
 }
 
-// 2^k.
+// The side of a square of exponent k: 2^k.
 fn side_of(k: u32) -> u32
     requires { ⌜ k ≤ 24 ⌝ }
     ensures { λ r. ⌜ r ≡ 2 ^ k ⌝ }
@@ -235,7 +235,7 @@ fn north_east(p: Place, d: u32) -> Place
     }
 }
 
-// Every entry from a place on becomes zero.
+// Every entry of the list from index `from` on becomes zero.
 pub fn clear_entries(list: &mut [u32], from: usize)
     ensures { λ _. ⌜ now (list .exit) ≡ take from (now (list .entry)) ++ replicate (length (now (list .entry)) - from) 0 ⌝ }
 {
@@ -246,7 +246,7 @@ pub fn clear_entries(list: &mut [u32], from: usize)
     }
 }
 
-// The walk from its start to its end. What the list held where no place was put is cleared at the end.
+// The walk from its start to its end. At the end, every entry of the list that holds no place of the answer is cleared.
 fn walked(list: &mut [u32], h: Hunt, w: Window) -> Answer
     requires { ⌜ Ready h × (isWindow w ≡ true) × (2 * h .room ≤ length (now list)) ⌝ }
     ensures answer { λ r. ⌜ r ≡ ended (walk.visit (questionBy h) (w .k) (w .corner) start) .answer ⌝ }
@@ -283,8 +283,8 @@ fn walked(list: &mut [u32], h: Hunt, w: Window) -> Answer
     Answer::Places { count, visits }
 }
 
-// The square of side 2^k at p. The guess is the master's distance at the middle of the square around it: near enough that one
-// step of Newton's mostly finds this one's.
+// Visits the square of side 2^k at p. The guess is the master's distance from the middle of the enclosing square. It is near
+// enough that one of Newton's steps mostly finds the distance that is needed here.
 fn visit(list: &mut [u32], h: Hunt, k: u32, side: u32, p: Place, guess: u64, t: Tally) -> Tally
     requires { ⌜ Ready h × OnChart k side p × (2 * h .room ≤ length (now list)) ⌝ }
     ensures { λ r. ⌜ ((s : Standing) → Holds s t (now (list .entry)) → Holds (walk.visit (questionBy h) k p s) r (now (list .exit))) ⌝ }
@@ -321,7 +321,7 @@ fn visit(list: &mut [u32], h: Hunt, k: u32, side: u32, p: Place, guess: u64, t: 
     visit(list, h, k - 1, half, middle, m, nw)
 }
 
-// A cell that matches goes to the list.
+// Tests a cell. One that matches goes into the list, or stops the walk with 9 if the list is full.
 fn cell(list: &mut [u32], h: Hunt, p: Place, guess: u64, t: Tally) -> Tally
     requires { ⌜ Ready h × (inRange p ≡ true) × (2 * h .room ≤ length (now list)) ⌝ }
     ensures { λ r. ⌜ ((s : Standing) → Holds s t (now (list .entry)) → Holds (walk.cell (questionBy h) p s) r (now (list .exit))) ⌝ }
@@ -349,7 +349,7 @@ fn cell(list: &mut [u32], h: Hunt, p: Place, guess: u64, t: Tally) -> Tally
     }
 }
 
-// Whether every slave's reading at p is as wanted, give or take slack, where m is the master's distance.
+// Whether every slave's reading at p differs from the wanted one by at most slack. m is the master's distance from p.
 fn near(h: Hunt, p: Place, m: u64, slack: u64) -> bool
     requires { ⌜ Ready h × (inRange p ≡ true) × (m ≡ distanceOf p (h .master)) × (m < 2 ^ 30) × (slack < 2 ^ 28) ⌝ }
     ensures { λ r. ⌜ r ≡ within slack (ruleBy h .chain) (ruleBy h .wanted) p ⌝ }
@@ -360,8 +360,8 @@ fn near(h: Hunt, p: Place, m: u64, slack: u64) -> bool
     agrees(h.b, p, m, slack)
 }
 
-// The same of one slave. Its distance is the root of y, and a root lies from low to high exactly if the number lies from low²
-// to below (high + 1)²: so no root is taken.
+// The same for one slave. Its distance is the root of y, and this root is at least low and at most high exactly if y is at least
+// low² and below (high + 1)²; so no root is computed.
 fn agrees(w: Wish, p: Place, m: u64, slack: u64) -> bool
     requires { ⌜ Fair w × (inRange p ≡ true) × (m < 2 ^ 30) × (slack < 2 ^ 28) ⌝ }
     ensures { λ r. ⌜ r ≡ leb (differ (subℕ (distanceOf p (w .slave)) m) (subℕ (w .above) (w .below))) slack ⌝ }
@@ -382,7 +382,7 @@ fn agrees(w: Wish, p: Place, m: u64, slack: u64) -> bool
     low * low <= y
 }
 
-// How far p lies from a station, by a guess of it.
+// The distance of p from a station, computed from a guess of it.
 fn distance(p: Place, station: Place, guess: u64) -> u64
     requires { ⌜ (inRange p ≡ true) × (inRange station ≡ true) ⌝ }
     ensures { λ r. ⌜ (r ≡ distanceOf p station) × (r < 2 ^ 30) ⌝ }

@@ -1,4 +1,4 @@
--- Text that is shown lies within the buffer that it was put into: the buffer then begins with it.
+-- A text that is shown fits into its buffer, since the buffer then begins with it.
 use Prim.Native.Nat.{ℕ, _≤_}
 use mathlib.Core.List.{List}
 use mathlib.Core.Path.{_≡_, ap}

@@ -1,4 +1,4 @@
--- Texts that are put where there is room, how long they are, and what is answered of them.
+-- Texts that are put if there is room for them, how long they are, and what is returned for them.
 use Prim.Native.Nat.{ℕ, _+_, _-_, _*_, _/_, _≤_, _<_}
 use mathlib.Core.Path.{_≡_, refl, sym, ap, _∙_, subst}
 use mathlib.Core.Bool.{Bool, true, false, true≢false}
@@ -25,14 +25,14 @@ use Rattle.shown.specs.Fields.{hexText, refusedText, signText, decimalTe
 use Rattle.shown.specs.Expected.{byChain, byTable, writtenText}
 use Rattle.shown.specs.Rooms.{Reply, Says, lineFor, bufferFor, hasLineRoom, inRoom, Puts}
 
--- No text, and the same text.
+-- Putting no text, and putting an equal text.
 pub puts-none : (o : List ℕ) (at : ℕ) → Puts o at [] o at
 puts-none o at room = put-none o at (omega (arith, room))
 
 pub puts-as : {o : List ℕ} {at : ℕ} {x y o′ : List ℕ} {end : ℕ} → x ≡ y → Puts o at x o′ end → Puts o at y o′ end
 puts-as {o} {at} {x} {y} {o′} {end} e p = subst (λ (z : List ℕ). Puts o at z o′ end) e p
 
--- Bytes in hexadecimal, none and some.
+-- Bytes in hexadecimal: when there are none, and when there are some.
 pub hex-none : (s : List ℕ) → length s ≡ 0 → hexText s ≡ []
 unfolding hexText
 hex-none [] h = refl
@@ -43,14 +43,14 @@ unfolding hexText
 hex-some [] h = absurd (h refl)
 hex-some (b ∷ bs) h = refl
 
--- A field put into a buffer that it fills is its bytes.
+-- A field that is put into a buffer of the field's width leaves exactly its bytes there.
 pub put-filled : (width : ℕ) (s : List ℕ) (n : ℕ) → length s ≡ width → putAt width s 0 n ≡ bytesOf width n
 put-filled width s n h =
     put-inside width s 0 n (le-leb (0 + width) (length s) (omega (arith, h)))
     ∙ ap (λ (rest : List ℕ). bytesOf width n ++ rest) (drop-of-length-le s {i = 0 + width} (omega (arith, h)))
     ∙ append-nil (bytesOf width n)
 
--- The readings by the table that was counted: a place out of range, and one in range.
+-- The readings when the table is accepted: for a place out of range, and for one in range.
 pub far-away : (n : ℕ) (table : List ℕ) (chain : ℕ) (p : Place) → inRange p ≡ false → NoneFor 4 ≡ byTable (Chains n) table chain p
 unfolding byTable
 far-away n table chain p e = rw (e)
@@ -59,7 +59,7 @@ pub on-grid : (n : ℕ) (table : List ℕ) (chain : ℕ) (p : Place) → inRange
 unfolding byTable
 on-grid n table chain p e = rw (e)
 
--- Centimetres as metres, by the sign.
+-- Centimetres as metres: below 0, and otherwise.
 pub metres-below : (z : ℤ) → ltZ z (pos 0) ≡ true → 45 ∷ decimalText (natAbs z) ≡ metresText z
 unfolding signText bytesIn
 metres-below (pos n) e = absurd (omega (arith, ltb-true n 0 e))
@@ -79,7 +79,7 @@ pub written-told : (z : ℤ) → natAbs z ≤ mostCentimetres → (32 ∷ metres
 unfolding writtenText
 written-told z h = rw (le-leb (natAbs z) mostCentimetres h)
 
--- Room for two bytes each, without a product.
+-- The test for room with a half in place of a product, as the code makes it.
 pub half-room : (bytes count : ℕ) → 192 ≤ bytes → leb count ((bytes - 192) / 2) ≡ hasLineRoom bytes count
 half-room bytes count h = go (leb count ((bytes - 192) / 2)) refl
   where
@@ -87,7 +87,7 @@ half-room bytes count h = go (leb count ((bytes - 192) / 2)) refl
     go true e = sym (le-leb (192 + 2 * count) bytes (omega (arith, h, leb-true count ((bytes - 192) / 2) e)))
     go false e = sym (lt-leb (192 + 2 * count) bytes (omega (arith, h, leb-false count ((bytes - 192) / 2) e)))
 
--- What stands behind a record that is not refused, and behind one that is.
+-- What follows the fields of a record that is not refused, and of one that is.
 pub refused-none : (number : ℕ) (s : List ℕ) → number ≡ 0 → [] ≡ refusedText number s
 unfolding refusedText
 refused-none number s h = rw (eq-eqb number 0 h)
@@ -97,7 +97,7 @@ unfolding refusedText figuresText
 refused-some number s h =
     rw (ne-eqb number 0 h) (ap (λ (x : List ℕ). bytesIn " REFUSED" ++ (x ++ hexText s)) (append-nil (spaced number)))
 
--- A line in its room, and without.
+-- What is returned with room for the line, and without.
 pub with-room : (bytes count : ℕ) (reply : Reply) → hasLineRoom bytes count ≡ true → reply ≡ inRoom bytes count reply
 with-room bytes count reply room = rw (room)
 

@@ -18,12 +18,12 @@ use Rattle.writing.specs.Writing.{metresBytes}
 use Rattle.text.specs.Texts.{wholeText, hexOf, bytesIn}
 use Rattle.shown.specs.Fields.{metresText}
 
--- By the chain that was named: its readings, or why there is none.
+-- The readings for the chain that was named, or the number of its refusal.
 unfoldable pub byChain : NamedChain → Place → Expectation
 byChain (named.Chain c) p = expectedAt c p
 byChain (named.Refused number) p = NoneFor number
 
--- By the count of chains: 1 where the table is none, then 4 for the place, then 5 for the chain.
+-- The refusals in their order: 1 for the table, then 4 for the place, then 5 for the chain. If none applies, the readings.
 unfoldable pub byTable : ChainCount → List ℕ → ℕ → Place → Expectation
 byTable (count.Refused number) table chain p = NoneFor number
 byTable (count.Chains n) table chain p = unless (inRange p) (NoneFor 4) (byChain (chainOf table chain) p)
@@ -31,16 +31,16 @@ byTable (count.Chains n) table chain p = unless (inRange p) (NoneFor 4) (byChain
 abbrev pub expectedIn : List ℕ → ℕ → Place → Expectation
 expectedIn table chain p = byTable (chainCountOf table) table chain p
 
--- A reading in metres, and the bytes that a log record has for it; 3 where it cannot be written.
+-- A reading in metres, and the bytes that a log record has for it; refusal 3 if it is too large to be written.
 unfoldable pub writtenText : ℤ → List ℕ
 writtenText z =
     cond (leb (natAbs z) mostCentimetres) ((32 ∷ metresText z) ++ (32 ∷ hexOf (metresBytes z))) (bytesIn " REFUSED 3")
 
--- The line of a slave, by its letter.
+-- The line of a slave: its letter, and its reading in centimetres, in metres and in bytes.
 abbrev pub slaveLine : ℕ → ℤ → List ℕ
 slaveLine letter z = letter ∷ ((32 ∷ wholeText z) ++ (writtenText z ++ bytesIn "\n"))
 
--- A line for each reading, the slaves lettered on from the first.
+-- One line for each reading. The slaves have the letters from `letter` on.
 abbrev pub slaveLines : ℕ → List ℤ → List ℕ
 slaveLines letter [] = []
 slaveLines letter (z ∷ zs) = slaveLine letter z ++ slaveLines (suc letter) zs

@@ -24,7 +24,7 @@ use Rattle.shown.specs.Fields.{centimetresText, refusedText}
 abbrev pub lineWith : List ℕ → List ℕ → ℕ → List ℕ → List ℕ
 lineWith word fields number s = word ++ (fields ++ (refusedText number s ++ bytesIn "\n"))
 
--- The job. Here and below, bytes that are not as many have no fields.
+-- The job. Here and below, bytes that do not have the record's length have no fields.
 abbrev pub jobFigures : Job → List ℕ
 jobFigures j = j .window .corner .easting ∷ j .window .corner .northing ∷ j .window .k ∷ j .tolerance ∷ j .allowance ∷ []
 
@@ -38,7 +38,7 @@ jobText s = jobFields (rawJobOf s)
 unfoldable pub jobLine : List ℕ → List ℕ
 jobLine s = lineWith (bytesIn "JOB") (jobText s) (jobRefusal (jobOf s)) s
 
--- A chain, by its number in the table. Bytes that are not as many are no chain, whatever table they are.
+-- A chain, with its number in the table. Bytes that are not 24 are refused with 1, even if they are a table of several chains.
 abbrev pub stationFigures : Chain → List ℕ
 stationFigures c =
     c .master .easting ∷ c .master .northing ∷ c .a .easting ∷ c .a .northing ∷ c .b .easting ∷ c .b .northing ∷ []

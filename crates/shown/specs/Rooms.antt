@@ -1,4 +1,4 @@
--- What is answered of a text that is put at the start of a buffer, and what the buffer then holds.
+-- What is returned when a text is put at the start of a buffer, and what the buffer then holds.
 use Prim.Native.Nat.{ℕ, _+_, _*_, _≤_}
 use mathlib.Core.Bool.{Bool, cond}
 use mathlib.Core.List.{List, _++_}
@@ -15,7 +15,7 @@ pub data Reply : Type 0 where
   Says : List ℕ → Reply
   Refuses : ℕ → Reply
 
--- The text as it is answered: its length. Behind it the buffer is as it was; so is all of it on a refusal.
+-- The answer for a text is its length. After the text the buffer is unchanged; on a refusal all of it is unchanged.
 unfoldable pub lineFor : Reply → Line
 lineFor (Says text) = line.Text (length text)
 lineFor (Refuses number) = line.Refused number
@@ -24,12 +24,12 @@ unfoldable pub bufferFor : List ℕ → Reply → List ℕ
 bufferFor out (Says text) = text ++ drop (length text) out
 bufferFor out (Refuses number) = out
 
--- How many bytes of text an answer tells of.
+-- How many bytes of text there are, according to an answer.
 abbrev pub textOf : Line → ℕ
 textOf (line.Text n) = n
 textOf (line.Refused number) = 0
 
--- The room for any line of so many bytes, with those in hexadecimal; in a buffer that has less, 9.
+-- Room for the line of any record of `count` bytes, with these bytes in hexadecimal. For a buffer that has less the answer is 9.
 abbrev pub lineRoom : ℕ → ℕ
 lineRoom count = 192 + 2 * count
 
@@ -39,7 +39,7 @@ hasLineRoom bytes count = leb (lineRoom count) bytes
 abbrev pub inRoom : ℕ → ℕ → Reply → Reply
 inRoom bytes count reply = cond (hasLineRoom bytes count) reply (Refuses 9)
 
--- All that is left of a text put into a buffer: what is answered, and every byte of the buffer.
+-- All that putting a text into a buffer leaves: the answer, and every byte of the buffer.
 pub record Shown : Type 0 where
   pub answer : Line
   pub buffer : List ℕ

@@ -1,4 +1,4 @@
-// What the files hold, a line of text a record, and the readings expected at a place.
+// Puts into text what the files hold, one line for each record, and the readings expected at a place.
 ghost use mathlib.Core.Path.{_≡_};
 ghost use mathlib.Core.List.{_++_, _∷_, []};
 ghost use Prim.Native.Nat.{_+_, _*_, _≤_};
@@ -29,11 +29,11 @@ pub enum Line {
     Refused(u32),
 }
 
-// The room for the longest line, beside its bytes in hexadecimal.
+// Room for the longest line, without the record's bytes in hexadecimal.
 pub const LINE_ROOM: usize = 192;
 
-// Puts the line of a job at the start of a buffer. Here and below, a buffer that has not room for 192 bytes and two for each
-// that is shown is refused with 9.
+// Puts the line of a job at the start of a buffer. Here and below, the buffer must have room for 192 bytes, and for two more for
+// each byte of `s`; else the answer is 9.
 pub fn job(out: &mut [u8], s: &[u8]) -> Line
     ensures answer { λ r. ⌜ r ≡ shownIn (now (out .entry)) (length (now (s .entry))) (Says (jobLine (now (s .entry)))) .answer ⌝ }
     ensures out { λ _. ⌜ now (out .exit) ≡ shownIn (now (out .entry)) (length (now (s .entry))) (Says (jobLine (now (s .entry)))) .buffer ⌝ }
@@ -47,7 +47,7 @@ pub fn job(out: &mut [u8], s: &[u8]) -> Line
     Line::Text(put_end(out, b, number, s))
 }
 
-// The line of a chain, by its number in a table, from its 24 bytes.
+// Puts the line of a chain, from its number in the table and its 24 bytes.
 pub fn chain(out: &mut [u8], number: u32, s: &[u8]) -> Line
     ensures answer { λ r. ⌜ r ≡ shownIn (now (out .entry)) (length (now (s .entry))) (Says (chainLine number (now (s .entry)))) .answer ⌝ }
     ensures out { λ _. ⌜ now (out .exit) ≡ shownIn (now (out .entry)) (length (now (s .entry))) (Says (chainLine number (now (s .entry)))) .buffer ⌝ }
@@ -61,7 +61,7 @@ pub fn chain(out: &mut [u8], number: u32, s: &[u8]) -> Line
     Line::Text(put_end(out, b, refusal, s))
 }
 
-// The line of a log record.
+// Puts the line of a log record.
 pub fn record(out: &mut [u8], s: &[u8]) -> Line
     ensures answer { λ r. ⌜ r ≡ shownIn (now (out .entry)) (length (now (s .entry))) (Says (recordLine (now (s .entry)))) .answer ⌝ }
     ensures out { λ _. ⌜ now (out .exit) ≡ shownIn (now (out .entry)) (length (now (s .entry))) (Says (recordLine (now (s .entry)))) .buffer ⌝ }
@@ -75,7 +75,7 @@ pub fn record(out: &mut [u8], s: &[u8]) -> Line
     Line::Text(put_end(out, b, number, s))
 }
 
-// The readings expected at a place for the chain of a number in a table: a line for each slave.
+// Puts the readings expected at a place, for the chain with this number in the table: one line for each slave.
 pub fn expected(out: &mut [u8], table: &[u8], chain: u32, place: Place) -> Line
     ensures answer { λ r. ⌜ r ≡ shownIn (now (out .entry)) 0 (replyOf (expectedIn (now (table .entry)) chain place)) .answer ⌝ }
     ensures out { λ _. ⌜ now (out .exit) ≡ shownIn (now (out .entry)) 0 (replyOf (expectedIn (now (table .entry)) chain place)) .buffer ⌝ }
@@ -130,7 +130,7 @@ fn entry_refusal(s: &[u8]) -> u32
     }
 }
 
-// The readings, or why there are none: first the table, then the place, then the chain.
+// The readings, or why there are none. The table is tested first, then the place, then the chain.
 fn readings(table: &[u8], chain: u32, place: Place) -> Expected
     ensures { λ r. ⌜ saidBy r ≡ expectedIn (now (table .entry)) chain place ⌝ }
 {
@@ -216,7 +216,7 @@ fn put_raw(out: &mut [u8], at: usize, r: RawRecord) -> usize
     put_centimetres(out, b, second)
 }
 
-// A number of metres in centimetres, or a dash.
+// Puts a number of metres in centimetres, or a dash if it is refused.
 fn put_centimetres(out: &mut [u8], at: usize, x: f64) -> usize
     ensures text { λ r. ⌜ Puts (now (out .entry)) at (centimetresText x) (now (out .exit)) r ⌝ }
     ensures few { λ _. ⌜ length (centimetresText x) ≤ 21 ⌝ }
@@ -228,7 +228,7 @@ fn put_centimetres(out: &mut [u8], at: usize, x: f64) -> usize
     }
 }
 
-// Numbers, each behind a space. Here and below, a text is put where there is room for it.
+// Puts numbers, each with a space before it. Every private function that puts a text promises it only if there is room for it.
 fn put_figures(out: &mut [u8], at: usize, ns: &[u64]) -> usize
     ensures text { λ r. ⌜ Puts (now (out .entry)) at (figuresText (now (ns .entry))) (now (out .exit)) r ⌝ }
     ensures few { λ _. ⌜ length (figuresText (now (ns .entry))) ≤ 21 * length (now (ns .entry)) ⌝ }
@@ -243,7 +243,7 @@ fn put_figures(out: &mut [u8], at: usize, ns: &[u64]) -> usize
     end
 }
 
-// Why a record is refused, if it is, and the newline.
+// Puts the refusal, if the record is refused, and the newline.
 fn put_end(out: &mut [u8], at: usize, number: u32, s: &[u8]) -> usize
     ensures text { λ r. ⌜ Puts (now (out .entry)) at (refusedText number (now (s .entry)) ++ bytesIn "\n") (now (out .exit)) r ⌝ }
     ensures few { λ _. ⌜ length (refusedText number (now (s .entry)) ++ bytesIn "\n") ≤ 31 + 2 * length (now (s .entry)) ⌝ }
@@ -275,7 +275,7 @@ fn put_hex(out: &mut [u8], at: usize, s: &[u8]) -> usize
     text::put_bytes(out, a, s)
 }
 
-// The lines of the slaves.
+// Puts the lines of slaves A and B.
 fn put_slaves(out: &mut [u8], a: i64, b: i64) -> usize
     ensures text { λ r. ⌜ Puts (now (out .entry)) 0 (expectedText (a ∷ b ∷ [])) (now (out .exit)) r ⌝ }
     ensures few { λ _. ⌜ length (expectedText (a ∷ b ∷ [])) ≤ 192 ⌝ }
@@ -284,7 +284,7 @@ fn put_slaves(out: &mut [u8], a: i64, b: i64) -> usize
     put_slave(out, end, b'B', b)
 }
 
-// The line of a slave, by its letter.
+// Puts the line of a slave: its letter and its reading.
 fn put_slave(out: &mut [u8], at: usize, letter: u8, z: i64) -> usize
     ensures text { λ r. ⌜ Puts (now (out .entry)) at (slaveLine letter z) (now (out .exit)) r ⌝ }
     ensures few { λ _. ⌜ length (slaveLine letter z) ≤ 96 ⌝ }
@@ -296,7 +296,7 @@ fn put_slave(out: &mut [u8], at: usize, letter: u8, z: i64) -> usize
     text::put(out, d, b"\n")
 }
 
-// A reading in metres, and in the bytes of a log record.
+// Puts a reading in metres, and the bytes that a log record has for it; refusal 3 if it is too large to be written.
 fn put_written(out: &mut [u8], at: usize, z: i64) -> usize
     ensures text { λ r. ⌜ Puts (now (out .entry)) at (writtenText z) (now (out .exit)) r ⌝ }
     ensures few { λ _. ⌜ length (writtenText z) ≤ 73 ⌝ }
@@ -310,7 +310,7 @@ fn put_written(out: &mut [u8], at: usize, z: i64) -> usize
     put_number_bytes(out, c, z)
 }
 
-// Centimetres as metres with two decimals.
+// Puts centimetres as metres with two decimals.
 fn put_metres(out: &mut [u8], at: usize, z: i64) -> usize
     ensures text { λ r. ⌜ Puts (now (out .entry)) at (metresText z) (now (out .exit)) r ⌝ }
     ensures few { λ _. ⌜ length (metresText z) ≤ 24 ⌝ }
@@ -331,7 +331,7 @@ fn put_decimal(out: &mut [u8], at: usize, n: u64) -> usize
     text::put(out, b, &[48 + (n / 10 % 10) as u8, 48 + (n % 10) as u8])
 }
 
-// The bytes of a number in metres, in hexadecimal.
+// Puts, in hexadecimal, the eight bytes that a log record has for `z` centimetres.
 fn put_number_bytes(out: &mut [u8], at: usize, z: i64) -> usize
     ensures text { λ r. ⌜ Puts (now (out .entry)) at (hexOf (metresBytes z)) (now (out .exit)) r ⌝ }
     ensures few { λ _. ⌜ length (hexOf (metresBytes z)) ≤ 16 ⌝ }

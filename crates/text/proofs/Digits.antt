@@ -1,5 +1,5 @@
--- A number in decimal: one digit, or the digits of its tenth and one more; so its length, and its value read back.
--- The bound of `lastDigits` has no part in it once it is greater than the number, and a tenth is less than its number.
+-- A number in decimal is one digit, or the digits of its tenth and one more. From this follow its length, and its value read back.
+-- The bound of `lastDigits` does not matter once it is greater than the number, and a tenth of a number is less than the number.
 use Prim.Native.Nat.{ℕ, zero, suc, _+_, _-_, _*_, _/_, _%_, _^_, _≤_, _<_}
 use mathlib.Core.Path.{_≡_, refl, sym, ap, _∙_}
 use mathlib.Core.Bool.{Bool, true, false}
@@ -12,7 +12,7 @@ use lib.Seq.{getD-at}
 use borrow.Author.Tests.{ltb-true, ltb-false, leb-true, leb-false, le-leb, lt-leb}
 use Rattle.text.specs.Texts.{lastDigits, digitsOf, numeralFrom, numeral}
 
--- By at most so many digits, of which there is at least one.
+-- With a bound of at least one: a number below 10 is one digit, and any other is the last digits of its tenth and one more.
 last-few : (most n : ℕ) → n < 10 → lastDigits (suc most) n ≡ (48 + n) ∷ []
 unfolding lastDigits
 last-few most n h = rw (lt-leb 10 n h, mod-eq-of-lt h)
@@ -51,7 +51,7 @@ digits-more n h =
 pub digits-longer : (n : ℕ) → 10 ≤ n → length (digitsOf n) ≡ length (digitsOf (n / 10)) + 1
 digits-longer n h = ap length (digits-more n h) ∙ length-append (digitsOf (n / 10)) _
 
--- A number below a power of ten has no more digits than the power says.
+-- A number below 10^d, where d is at least 1, has at most d digits.
 pub digits-within : (places n : ℕ) → n < 10 ^ suc places → length (digitsOf n) ≤ suc places
 digits-within zero n h = omega (arith, ap length (digits-few n h))
 digits-within (suc places) n h =
@@ -68,7 +68,7 @@ digits-32 n h = digits-within 9 n (omega arith)
 pub digits-64 : (n : ℕ) → n < 2 ^ 64 → length (digitsOf n) ≤ 20
 digits-64 n h = digits-within 19 n (omega arith)
 
--- What holds below 10, and of a number if of its tenth, holds of every number.
+-- Induction over digits: what holds below 10, and for a number if it holds for its tenth, holds for every number.
 up-to : (P : ℕ → Type 0) → ((n : ℕ) → n < 10 → P n) → ((n : ℕ) → 10 ≤ n → P (n / 10) → P n) → (bound n : ℕ) → n < bound → P n
 up-to P few more zero n h = absurd (omega arith)
 up-to P few more (suc bound) n h = go (leb 10 n) refl (λ (f : 10 ≤ n). up-to P few more bound (n / 10) (omega arith))
@@ -92,7 +92,7 @@ unfolding numeralFrom
 numeral-last before [] b = refl
 numeral-last before (c ∷ bs) b = numeral-last (10 * before + (c - 48)) bs b
 
--- The digits of a number have its value.
+-- Read back, the digits of a number give the number.
 pub reads-back : (n : ℕ) → numeral (digitsOf n) ≡ n
 unfolding numeral numeralFrom
 reads-back =
@@ -100,7 +100,7 @@ reads-back =
     (λ n h. rw (digits-few n h) (omega arith))
     (λ n h tenth. rw (digits-more n h, numeral-last) (omega arith))
 
--- The first digit of a number is no zero, but for 0 itself.
+-- The first digit of a number is not zero, except for 0 itself.
 pub no-spare-zero : (n : ℕ) → 0 < n → 48 < getD (digitsOf n) 0 0
 no-spare-zero =
     by-digits (λ (n : ℕ). 0 < n → 48 < getD (digitsOf n) 0 0)
@@ -114,7 +114,7 @@ pub record IsDigit (b : ℕ) : Type 0 where
   pub low : 48 ≤ b
   pub high : b ≤ 57
 
--- One more digit behind digits.
+-- Digits with one more digit after them are all digits.
 digit-behind : (bs : List ℕ) (b : ℕ) → ((i : ℕ) → i < length bs → IsDigit (getD bs i 0)) → IsDigit b →
     (i : ℕ) → i < length (bs ++ (b ∷ [])) → IsDigit (getD (bs ++ (b ∷ [])) i 0)
 digit-behind bs b before last i h = go (ltb i (length bs)) refl
@@ -123,7 +123,7 @@ digit-behind bs b before last i h = go (ltb i (length bs)) refl
     go true e = let l = ltb-true i (length bs) e in rw (List·getD-append bs (b ∷ []) 0 i l) (before i l)
     go false e = rw (getD-at bs b [] 0 i (omega (arith, length-append bs (b ∷ []), ltb-false i (length bs) e))) last
 
--- All the bytes are digits.
+-- All the bytes of a number in decimal are digits.
 pub all-digits : (n i : ℕ) → i < length (digitsOf n) → IsDigit (getD (digitsOf n) i 0)
 all-digits =
     by-digits (λ (n : ℕ). (i : ℕ) → i < length (digitsOf n) → IsDigit (getD (digitsOf n) i 0))

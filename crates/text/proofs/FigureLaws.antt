@@ -1,4 +1,4 @@
--- Numbers, each behind a space: one more.
+-- Numbers, each with a space before it: how the text grows by one more number.
 use Prim.Native.Nat.{ℕ, _+_, _<_}
 use mathlib.Core.Path.{_≡_, sym, ap, _∙_}
 use mathlib.Core.List.{List, [], _∷_, _++_, append-nil, append-assoc}

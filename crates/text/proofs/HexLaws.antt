@@ -1,4 +1,4 @@
--- Bytes in hexadecimal: two digits each, and those of a list behind another behind the other's.
+-- Bytes in hexadecimal: two digits each; the digits of two lists joined are the digits of the first, then those of the second.
 use Prim.Native.Nat.{ℕ, _+_, _*_, _/_, _%_, _≤_, _<_}
 use mathlib.Core.Path.{_≡_, refl, sym, ap, _∙_}
 use mathlib.Core.List.{List, [], _∷_, _++_}
@@ -28,7 +28,7 @@ unfolding hexOf
 hex-behind [] t = refl
 hex-behind (b ∷ s) t = ap (λ (x : List ℕ). hexDigit (b / 16) ∷ hexDigit (b % 16) ∷ x) (hex-behind s t)
 
--- One byte more.
+-- The digits of the first `i` bytes, then those of the next byte.
 pub hex-more : (s : List ℕ) (i : ℕ) → i < length s → hexOf (take i s) ++ hexOf (getD s i 0 ∷ []) ≡ hexOf (take (i + 1) s)
 hex-more s i h =
     hex-behind (take i s) (getD s i 0 ∷ [])

@@ -1,4 +1,4 @@
--- What follows from the definitions of text and of putting it.
+-- What follows from the definitions of text and of putting it into a buffer.
 pub mod Digits
 pub mod WholeLaws
 pub mod HexLaws

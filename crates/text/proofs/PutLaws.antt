@@ -12,7 +12,7 @@ use Rattle.text.specs.Texts.{digitsOf}
 use Rattle.text.specs.Puts.{roomFor, endAfter, withText, Put}
 use Rattle.text.proofs.Digits.{digits-32}
 
--- What stands before the end of a text that was put.
+-- How many bytes there are up to the end of a text that was put.
 front : (o : List ℕ) (at : ℕ) (x : List ℕ) → at + length x ≤ length o → length (take at o ++ x) ≡ at + length x
 front o at x h = length-append (take at o) x ∙ ap (λ (n : ℕ). n + length x) (length-take-le at o (omega arith))
 
@@ -23,14 +23,14 @@ put-length {o} {at} {x} {o′} {end} p =
     ap length (p .now-is ∙ sym (append-assoc (take at o) x rest))
     ∙ omega (arith, length-append (take at o ++ x) rest, front o at x (p .fits), length-drop (at + length x) o, p .fits)
 
--- What stands before its end then.
+-- What the buffer then holds up to the end of the text.
 pub put-front : {o : List ℕ} {at : ℕ} {x o′ : List ℕ} {end : ℕ} → Put o at x o′ end → take end o′ ≡ take at o ++ x
 put-front {o} {at} {x} {o′} {end} p =
     let rest = drop (at + length x) o in
     ap (take end) (p .now-is ∙ sym (append-assoc (take at o) x rest))
     ∙ take-at (take at o ++ x) rest end (front o at x (p .fits) ∙ sym (p .end-is))
 
--- One text behind another is both.
+-- Putting one text and then another after it is putting both together.
 pub put-then : {o : List ℕ} {at : ℕ} {x o′ : List ℕ} {end : ℕ} {y o″ : List ℕ} {end′ : ℕ} → Put o at x o′ end → Put o′ end y o″ end′ → Put o at (x ++ y) o″ end′
 put-then {o} {at} {x} {o′} {end} {y} {o″} {end′} p q =
     let rest = drop (at + length x) o in
@@ -53,7 +53,7 @@ put-then {o} {at} {x} {o′} {end} {y} {o″} {end′} p q =
           ∙ ap (λ (z : List ℕ). take at o ++ z) (sym (append-assoc x y tail));
     }
 
--- Two texts that are put where there is room for each are put where there is room for both.
+-- If each of two texts is put when there is room for it, both are put when there is room for both.
 pub put-both : {o : List ℕ} {at : ℕ} {x o′ : List ℕ} {end : ℕ} {y o″ : List ℕ} {end′ : ℕ} →
     (at + length x ≤ length o → Put o at x o′ end) → (end + length y ≤ length o′ → Put o′ end y o″ end′) →
     at + length (x ++ y) ≤ length o → Put o at (x ++ y) o″ end′
@@ -61,7 +61,7 @@ put-both {o} {at} {x} {o′} {end} {y} first second room =
     let p = first (omega (arith, length-append x y)) in
     put-then p (second (omega (arith, p .end-is, put-length p, length-append x y)))
 
--- It ends no farther on than the text is long.
+-- A text of at most `most` bytes ends at most `most` bytes after `at`.
 pub end-within : {o : List ℕ} {at : ℕ} {x o′ : List ℕ} {end most : ℕ} → Put o at x o′ end → length x ≤ most → end ≤ at + most
 end-within p h = omega (arith, p .end-is, h)
 
@@ -69,7 +69,7 @@ end-within p h = omega (arith, p .end-is, h)
 pub room-32 : (at room : ℕ) {n : ℕ} → n < 2 ^ 32 → at + 10 ≤ room → at + length (digitsOf n) ≤ room
 room-32 at room {n} small h = omega (arith, digits-32 n small, h)
 
--- No text.
+-- Putting no text.
 pub put-none : (o : List ℕ) (at : ℕ) → at ≤ length o → Put o at [] o at
 put-none o at h =
     let here : at ≡ at + 0 = omega arith in
@@ -79,7 +79,7 @@ put-none o at h =
       now-is = sym (take-append-drop at o) ∙ ap (λ (n : ℕ). take at o ++ drop n o) here;
     }
 
--- One byte.
+-- Putting one byte.
 pub put-one : (o : List ℕ) (at b : ℕ) → at < length o → Put o at (b ∷ []) (set o at b) (at + 1)
 put-one o at b h =
     record {
@@ -96,15 +96,15 @@ put-more o at s o′ i h p room =
     subst (λ (n : ℕ). Put o at (take (i + 1) s) (set o′ (at + i) (getD s i 0)) n) behind
     (subst⁻¹ (λ (x : List ℕ). Put o at x (set o′ (at + i) (getD s i 0)) (at + i + 1)) all (put-then p (put-one o′ (at + i) (getD s i 0) room)))
 
--- Text that is the same is put the same.
+-- If a text was put, so was any equal text.
 pub put-as : {o : List ℕ} {at : ℕ} {x y o′ : List ℕ} {end : ℕ} → x ≡ y → Put o at x o′ end → Put o at y o′ end
 put-as {o} {at} {x} {y} {o′} {end} e p = subst (λ (z : List ℕ). Put o at z o′ end) e p
 
--- What a function that puts a text promises of its answer and its buffer.
+-- What a function that puts a text promises about its answer and its buffer.
 abbrev pub Promised : List ℕ → ℕ → List ℕ → List ℕ → ℕ → Type 0
 Promised o at x o′ end = (end ≡ endAfter (length o) at x) × (o′ ≡ withText o at x)
 
--- Where there is the room, that is that the text was put.
+-- If there is room for the text, this promise says that the text was put.
 pub put-from : {o : List ℕ} {at : ℕ} {x o′ : List ℕ} {end : ℕ} → Promised o at x o′ end → at + length x ≤ length o → Put o at x o′ end
 unfolding endAfter withText
 put-from {o} {at} {x} {o′} {end} p h =
@@ -117,18 +117,18 @@ put-promised {o} {at} {x} {o′} {end} p =
     let room : roomFor (length o) at x ≡ true = le-leb (at + length x) (length o) (p .fits) in
     (rw room (p .end-is), rw room (p .now-is))
 
--- Where there is none, that nothing changed.
+-- If there is no room for it, the promise says that nothing changed.
 pub nothing-promised : (o : List ℕ) (at : ℕ) (x : List ℕ) → length o < at + length x → Promised o at x o at
 unfolding endAfter withText
 nothing-promised o at x h =
     let none : roomFor (length o) at x ≡ false = lt-leb (at + length x) (length o) h in
     (rw none, rw none)
 
--- Text that is the same is promised the same.
+-- The promise for a text is the promise for any equal text.
 pub promised-as : (o : List ℕ) (at : ℕ) {x y o′ : List ℕ} {end : ℕ} → x ≡ y → Promised o at x o′ end → Promised o at y o′ end
 promised-as o at {x} {y} {o′} {end} e p = subst (λ (z : List ℕ). Promised o at z o′ end) e p
 
--- The buffer keeps its length, with the room or without.
+-- The buffer keeps its length, whether or not there is room.
 pub with-length : (o : List ℕ) (at : ℕ) (x : List ℕ) → length (withText o at x) ≡ length o
 with-length o at x = go (roomFor (length o) at x) refl
   where
@@ -136,7 +136,7 @@ with-length o at x = go (roomFor (length o) at x) refl
     go true e = put-length (put-from {o = o} {at = at} {x = x} (refl, refl) (leb-true (at + length x) (length o) e))
     go false e = ap length (sym (nothing-promised o at x (leb-false (at + length x) (length o) e) .1))
 
--- So a text that starts in it ends in it.
+-- A text that starts inside the buffer ends inside it, whether or not there is room.
 pub ends-inside : (bytes at : ℕ) (x : List ℕ) → at ≤ bytes → endAfter bytes at x ≤ bytes
 unfolding endAfter
 ends-inside bytes at x h = go (roomFor bytes at x) refl

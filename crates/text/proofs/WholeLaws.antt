@@ -1,4 +1,4 @@
--- A whole number in decimal: the digits of its size, behind a minus sign where it is below 0.
+-- A whole number in decimal: the digits of its size, after a minus sign if it is below 0.
 use Prim.Native.Nat.{_+_, _^_, _≤_}
 use mathlib.Core.Path.{_≡_, refl}
 use mathlib.Core.Bool.{true, false, true≢false}

@@ -1,4 +1,4 @@
--- Texts worked out by the definitions: whole numbers at the ends of 64 bits and at 0, and bytes in hexadecimal.
+-- Texts computed by the definitions: the least and the greatest whole number of 64 bits, -5 and 0, and bytes in hexadecimal.
 use mathlib.Core.Path.{_≡_, refl}
 use mathlib.Core.List.{[], _∷_}
 use lib.IntN.{pos, negsuc}

@@ -8,30 +8,30 @@ use Prim.Native.Char.{code}
 use Prim.Native.String.{String, [] as ε, _∷_ as _∷ˢ_}
 use Rattle.fields.specs.Choices.{whereSo}
 
--- The last digits of a number, at most so many, and none in front of its first.
+-- The last digits of `n`: at most as many as the first argument says, and none before the first digit of `n`.
 unfoldable pub lastDigits : ℕ → ℕ → List ℕ
 lastDigits zero n = []
 lastDigits (suc most) n = whereSo (leb 10 n) [] (λ _. lastDigits most (n / 10)) ++ ((48 + n % 10) ∷ [])
 
--- A number in decimal without spare zeros. It has fewer digits than one more than itself.
+-- A number in decimal without spare zeros: `n + 1` digits always suffice.
 unfoldable pub digitsOf : ℕ → List ℕ
 digitsOf n = lastDigits (suc n) n
 
--- A number behind a space.
+-- A space, then a number.
 abbrev pub spaced : ℕ → List ℕ
 spaced n = 32 ∷ digitsOf n
 
--- Numbers, each behind a space.
+-- Numbers, each with a space before it.
 unfoldable pub figuresText : List ℕ → List ℕ
 figuresText [] = []
 figuresText (n ∷ ns) = spaced n ++ figuresText ns
 
--- A whole number in decimal: one below 0 has a minus sign in front.
+-- A whole number in decimal, with a minus sign if it is below 0.
 unfoldable pub wholeText : ℤ → List ℕ
 wholeText (pos n) = digitsOf n
 wholeText (negsuc n) = 45 ∷ digitsOf (suc n)
 
--- The value of decimal digits, behind the value of those before them.
+-- The value of decimal digits that follow others, where `before` is the value of those others.
 unfoldable pub numeralFrom : ℕ → List ℕ → ℕ
 numeralFrom before [] = before
 numeralFrom before (b ∷ bs) = numeralFrom (10 * before + (b - 48)) bs
@@ -43,7 +43,7 @@ numeral bs = numeralFrom 0 bs
 unfoldable pub hexDigit : ℕ → ℕ
 hexDigit n = cond (ltb n 10) (48 + n) (87 + n)
 
--- Bytes in hexadecimal: two digits a byte, the high half first.
+-- Bytes in hexadecimal: two digits for each byte, the high half first.
 unfoldable pub hexOf : List ℕ → List ℕ
 hexOf [] = []
 hexOf (b ∷ bs) = hexDigit (b / 16) ∷ hexDigit (b % 16) ∷ hexOf bs

@@ -1,5 +1,5 @@
-// Text put into a buffer: bytes as they are, numbers in decimal, bytes in hexadecimal. Each function answers where the text
-// ends. Without room for all of it nothing is put, and the answer is where it would have begun.
+// Puts text into a buffer: bytes as they are, numbers in decimal, bytes in hexadecimal. Each public function returns where the
+// text ends. Without room for all of it, nothing is put, and the function returns where the text would have begun.
 ghost use mathlib.Core.Path.{_≡_};
 ghost use mathlib.Core.List.{_∷_, []};
 ghost use Prim.Native.Nat.{_+_, _*_, _≤_, _<_};
@@ -45,7 +45,7 @@ pub fn put_bytes(out: &mut [u8], at: usize, s: &[u8]) -> usize
     ensures end { λ r. ⌜ r ≡ endAfter (length (now (out .entry))) at (hexOf (now (s .entry))) ⌝ }
     ensures out { λ _. ⌜ now (out .exit) ≡ withText (now (out .entry)) at (hexOf (now (s .entry))) ⌝ }
 {
-    // Half of the digits, then the other: twice the length of s may be too large for a usize.
+    // Room for one half of the digits, then for the other: twice the length of `s` may be too large for a usize.
     let half = s.len();
     if !fields::lies_inside(out.len(), at, half) {
         return at;
@@ -81,7 +81,7 @@ fn digit_count(n: u64) -> usize
     count
 }
 
-// A number in decimal, its first digits first.
+// Puts a number in decimal, starting with its first digit.
 fn put_digits(out: &mut [u8], at: usize, n: u64) -> usize
     requires { ⌜ at + length (digitsOf n) ≤ length (now out) ⌝ }
     ensures { λ r. ⌜ Put (now (out .entry)) at (digitsOf n) (now (out .exit)) r ⌝ }
@@ -93,7 +93,7 @@ fn put_digits(out: &mut [u8], at: usize, n: u64) -> usize
     put_one(out, a, 48 + (n % 10) as u8)
 }
 
-// A number behind a minus sign.
+// Puts a minus sign, then a number.
 fn put_below(out: &mut [u8], at: usize, size: u64) -> usize
     ensures end { λ r. ⌜ r ≡ endAfter (length (now (out .entry))) at (45 ∷ digitsOf size) ⌝ }
     ensures out { λ _. ⌜ now (out .exit) ≡ withText (now (out .entry)) at (45 ∷ digitsOf size) ⌝ }
@@ -118,7 +118,7 @@ fn put_hex(out: &mut [u8], at: usize, s: &[u8]) -> usize
     end
 }
 
-// The two digits of a byte.
+// Puts the two hexadecimal digits of a byte.
 fn put_pair(out: &mut [u8], at: usize, b: u8) -> usize
     requires { ⌜ at + 2 ≤ length (now out) ⌝ }
     ensures { λ r. ⌜ Put (now (out .entry)) at (hexOf (b ∷ [])) (now (out .exit)) r ⌝ }

@@ -1,4 +1,4 @@
--- What all writes share: what a buffer holds.
+-- What a buffer holds after a write, for all three writers.
 use Prim.Native.Nat.{ℕ}
 use mathlib.Core.Path.{_≡_, refl, ap, _∙_}
 use mathlib.Core.Bool.{Bool, true, false}
@@ -17,7 +17,7 @@ pub left-zero : (bytes refusal : ℕ) (written : List ℕ) → (refusal ≡ 0 �
 unfolding leftIn
 left-zero bytes refusal written n = rw (ne-eqb refusal 0 n)
 
--- A write that fills its buffer where it is not refused never changes its length.
+-- If every write that is not refused fills its buffer, then no write changes the length of its buffer.
 pub left-length : (bytes refusal : ℕ) (written : List ℕ) → (refusal ≡ 0 → length written ≡ bytes) → length (leftIn bytes refusal written) ≡ bytes
 left-length bytes refusal written fills = go (eqb refusal 0) refl
   where

@@ -1,4 +1,4 @@
--- The tests of the writer of chains, one after the other, what each comes to, and the bytes that it puts.
+-- The tests of the writer of chains, one after the other, what follows from each, and the bytes that it puts.
 use Prim.Native.Nat.{ℕ}
 use mathlib.Core.Path.{_≡_, refl, sym, _∙_}
 use mathlib.Core.Bool.{true, false}
@@ -31,7 +31,7 @@ pub chain-fills : (bytes : ℕ) (c : Chain) → chainRefusalOf bytes c ≡ 0 →
 unfolding chainRefusalOf
 chain-fills bytes c e = eqb-true bytes chainBytes (passed _ (λ f. omega arith) e .0)
 
--- Put one after the other into zeros, the places are the chain.
+-- Put one after the other into zeros, the places are the bytes of the chain.
 pub places-together : (c : Chain) → putPlaceAt (putPlaceAt (putPlaceAt (replicate chainBytes 0) 0 (c .master)) 8 (c .a)) 16 (c .b) ≡ bytesOfChain c
 unfolding putAt bytesOf bytesOfChain
 places-together c = refl
@@ -50,7 +50,7 @@ pub chain-zero : (bytes : ℕ) (c : Chain) → (chainRefusalOf bytes c ≡ 0 →
 unfolding chainBufferOf
 chain-zero bytes c n = left-zero bytes (chainRefusalOf bytes c) (bytesOfChain c) n
 
--- Neither has changed its length.
+-- In both cases the buffer keeps its length.
 pub chain-same-length : (bytes : ℕ) (c : Chain) → length (chainBufferOf bytes c) ≡ bytes
 unfolding chainBufferOf
 chain-same-length bytes c =

@@ -1,5 +1,5 @@
 -- A job that is written is read back, field by field.
--- The entries of its bytes stand at their places by computation, so each field is the bytes that were put there.
+-- The checker computes where each byte lies, so each field is read from the bytes that were put there.
 use Prim.Native.Nat.{_^_, _≤_, _<_}
 use mathlib.Core.Path.{_≡_, subst⁻¹}
 use mathlib.Core.Bool.{true}
@@ -41,7 +41,7 @@ module _ (j : Job) (window : isWindow (j .window) ≡ true) (few : j .tolerance 
         value-bytes 8 (j .allowance) small,
       )
 
-  -- So does the job: the bytes that must be zero are, and its window and tolerance pass their tests.
+  -- So does the job: the bytes that must be zero are zero, and its window and tolerance pass their tests.
   pub job-back : jobOf (bytesOfJob j) ≡ answer.Job j
   unfolding jobOf acceptedJob formedJobOf bytesOfJob bytesOf allZero
   job-back =

@@ -1,4 +1,4 @@
--- The tests of the writer of jobs, one after the other, what each comes to, and the bytes that it puts.
+-- The tests of the writer of jobs, one after the other, what follows from each, and the bytes that it puts.
 use Prim.Native.Nat.{ℕ, _≤_, _<_}
 use mathlib.Core.Path.{_≡_, refl}
 use mathlib.Core.Bool.{true, false}
@@ -35,7 +35,7 @@ module _ (bytes : ℕ) (j : Job) (whole : bytes ≡ jobBytes) where
   unfolding jobRefusalOf
   job-accepted w t = rw (eq-eqb bytes jobBytes whole, w, le-leb (j .tolerance) mostTolerance t)
 
--- What a job that is not refused has passed: only a buffer of 32 bytes is written, with a window and a tolerance.
+-- A job that is not refused has passed the tests: the buffer has 32 bytes, and the window and the tolerance are allowed.
 pub job-passed : (bytes : ℕ) (j : Job) → jobRefusalOf bytes j ≡ 0 → (bytes ≡ jobBytes) × (isWindow (j .window) ≡ true) × (j .tolerance ≤ mostTolerance)
 unfolding jobRefusalOf
 job-passed bytes j e =
@@ -43,11 +43,11 @@ job-passed bytes j e =
     let window = passed (isWindow (j .window)) (λ f. omega arith) (whole .1) in
     (eqb-true bytes jobBytes (whole .0), window .0, leb-true _ _ (passed (leb (j .tolerance) mostTolerance) (λ f. omega arith) (window .1) .0))
 
--- Its exponent fits a byte.
+-- The exponent of its window fits a byte.
 pub small-k : (j : Job) → isWindow (j .window) ≡ true → j .window .k < 256
 small-k j w = omega (arith, window-says (j .window) w .0)
 
--- Put one after the other into zeros, the fields are the job.
+-- Put one after the other into zeros, the fields are the bytes of the job.
 pub fields-together : (j : Job) → putAt 8 (putAt 4 (set (putPlaceAt (replicate jobBytes 0) 0 (j .window .corner)) 8 (j .window .k)) 12 (j .tolerance)) 16 (j .allowance) ≡ bytesOfJob j
 unfolding putAt bytesOf bytesOfJob
 fields-together j = refl

@@ -1,5 +1,5 @@
 -- What is written is read back, field by field and kind by kind.
--- The entries of a record stand at their places by computation, so each field is the bytes that were put there.
+-- The checker computes where each byte lies, so each field is read from the bytes that were put there.
 use Prim.Native.Nat.{ℕ, zero, suc, _^_, _<_}
 use mathlib.Core.Path.{_≡_, refl, ap, ap₂, _∙_}
 use mathlib.Core.Bool.{Bool, true, false, cond, _&&_}
@@ -30,7 +30,7 @@ use Rattle.writing.specs.declared.Draft.{Draft}
 use Rattle.writing.specs.Writing.{refusalOf, usedOf, inMetres, metresBytes, recordBytes, rawFor, entryFor}
 use Rattle.writing.proofs.WriteLaws.{known-kind}
 
--- binary64 holds the metres of every number of centimetres: a quotient, or plus zero for one that is not written.
+-- The metres of every number of centimetres fit binary64: they are a quotient, or plus zero for a number that is not written.
 length-fits : (t : Bool) (z : ℤ) → T (fits binary64 (lengthFigures (cond t (Metres (hundredthOf z)) Refused) .metres))
 unfolding lengthFigures hundredthOf fits
 length-fits true z = div-fits binary64 (ofInt binary64 z) (ofInt binary64 (pos 100))
@@ -46,7 +46,7 @@ metres-back z =
     ap numberOf (value-bytes 8 (patternOf (inMetres z)) (toBits-lt binary64 (inMetres z) (metres-fit z)))
     ∙ number-back (inMetres z) (metres-fit z)
 
--- Two numbers of centimetres that are written come back from theirs, and what they give with them.
+-- Two numbers of centimetres that are written come back from their bytes, and so does the entry that they give.
 pair-back : (give : ℤ → ℤ → LogEntry) (x y : ℤ) → (leb (natAbs x) mostCentimetres && leb (natAbs y) mostCentimetres) ≡ true →
     withPair give (pairOf (centimetresOf (numberOf (valueOf (metresBytes x)))) (centimetresOf (numberOf (valueOf (metresBytes y))))) ≡ give x y
 pair-back give x y h =
@@ -93,6 +93,6 @@ by-kind (suc (suc (suc zero))) chain line x y e = hold-back line
 by-kind (suc (suc (suc (suc kind)))) chain line x y e =
     absurd (omega (arith, known-kind (suc (suc (suc (suc kind)))) (passed _ (λ f. omega arith) e .0)))
 
--- The same at any draft.
+-- The same for any draft.
 pub entry-back : (d : Draft) → refusalOf 32 d ≡ 0 → logEntryOf (recordBytes (usedOf d)) ≡ entryFor (usedOf d)
 entry-back d e = by-kind (d .kind) (d .chain) (d .line) (d .x) (d .y) e

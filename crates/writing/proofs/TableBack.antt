@@ -1,5 +1,5 @@
--- Chains that are written one behind the other are read back, each from its own 24 bytes.
--- The first chain's bytes stand at their places by computation, and those of the chains behind it 24 bytes farther.
+-- Chains that are written one after the other are read back, each from its own 24 bytes.
+-- The checker computes where the bytes of the first chain lie; those of the chains after it lie 24 bytes farther on.
 use Prim.Native.Nat.{ℕ, zero, suc, _+_, _*_, _%_, _^_, _≤_, _<_}
 use mathlib.Core.Path.{_≡_, refl, sym, ap, _∙_, subst⁻¹}
 use mathlib.Core.Bool.{true}
@@ -43,7 +43,7 @@ chain-first c rest sound =
       value-bytes 4 (c .b .northing) (b .1),
     )
 
--- A field lies as far behind a place as it does in what is left from there on, and so does a chain.
+-- The field at `at + more` of s is the field at `more` of what is left of s from `at` on; so it is with a chain.
 field-from : (s : List ℕ) (at more from : ℕ) → from ≡ at + more → fieldAt 4 s from ≡ fieldAt 4 (drop at s) more
 field-from s at more from e = ap (fieldAt 4 s) e ∙ ap (λ (l : List ℕ). valueOf (take 4 l)) (sym (drop-drop more at s))
 
@@ -58,14 +58,14 @@ chain-from s at =
       field-from s at 20 (at + 16 + 4) (omega arith),
     )
 
--- So a chain behind others is where it would be without them, as much farther as they are long.
+-- So with more bytes before it, a chain lies farther on by the length of these bytes.
 chain-behind : (front rest : List ℕ) (at : ℕ) → chainAt (front ++ rest) (length front + at) ≡ chainAt rest at
 chain-behind front rest at =
     chain-from (front ++ rest) (length front + at)
     ∙ ap (λ (l : List ℕ). chainAt l 0) (drop-append-add front rest at)
     ∙ sym (chain-from rest at)
 
--- Every chain has 24 bytes of the table, whether it was written or refused.
+-- Every chain takes 24 bytes of the table, whether it was written or refused.
 table-length : (cs : List Chain) → length (tableOf cs) ≡ chainBytes * length cs
 unfolding tableOf
 table-length [] = refl
@@ -94,7 +94,7 @@ sound-there [] i other sound h = absurd (omega arith)
 sound-there (c ∷ cs) zero other sound h = both (isSound c) (allSound cs) sound .0
 sound-there (c ∷ cs) (suc i) other sound h = sound-there cs i other (both (isSound c) (allSound cs) sound .1) (omega arith)
 
--- The table has as many chains as were written, and is one if they are 1 to 16.
+-- The table has as many chains as were written, and it is accepted as a table if they are 1 to 16.
 module _ (cs : List Chain) where
   pub chains-there : chainsIn (tableOf cs) ≡ length cs
   chains-there = omega (arith, table-length cs)

@@ -1,5 +1,6 @@
 -- Demand 2, the writers: what they accept is read back, and a refused write leaves zeros.
--- `write`, `write_chain` and `write_job` are proved to answer by the definitions; these theorems say what those are worth.
+-- `write`, `write_chain` and `write_job` are proved to answer by the definitions; these theorems say what the definitions
+-- guarantee.
 use Prim.Native.Nat.{ℕ, _-_, _^_, _≤_, _<_}
 use mathlib.Core.Path.{_≡_, refl, sym, ap, _∙_, subst⁻¹}
 use mathlib.Core.Bool.{true}
@@ -61,7 +62,7 @@ unfolding bufferOf
 same-length bytes d =
     left-length bytes (refusalOf bytes d) (recordBytes (usedOf d)) (λ e. record-length (usedOf d) ∙ sym (written-bytes bytes d e))
 
--- A write has the refusals 1 to 5, by 01's numbers, with 0 for none.
+-- A write can be refused with 1 to 5, by 01's numbers, with 0 for none.
 pub write-refusals : (bytes : ℕ) (d : Draft) → isAmong (refusalOf bytes d) (0 ∷ 1 ∷ 2 ∷ 3 ∷ 4 ∷ 5 ∷ []) ≡ true
 unfolding refusalOf isAmong
 write-refusals bytes d =
@@ -70,14 +71,14 @@ write-refusals bytes d =
     (unless-either among (isKind (d .kind)) refl
     (unless-either among (numbersFit d) refl (unless-either among (placeFits d) refl (unless-either among (chainFits d) refl refl))))
 
--- The writer of chains accepts each of a list of sound ones, by its number. `other` is what would stand past the last, where
--- no number goes.
+-- The writer of chains accepts each chain of a list of sound ones. `other` is what `getD` gives past the end of the list, which
+-- no number here reaches.
 pub chains-written : (cs : List Chain) (number : ℕ) (other : Chain) → allSound cs ≡ true →
     1 ≤ number → number ≤ length cs → chainRefusalOf chainBytes (getD cs (number - 1) other) ≡ 0
 chains-written cs number other sound first last =
     chain-accepted chainBytes (getD cs (number - 1) other) refl (sound-there cs (number - 1) other sound (omega arith))
 
--- 1 to 16 chains that are written one behind the other are a table of as many.
+-- 1 to 16 chains that are written one after the other are a table of that many chains.
 pub chains-counted : (cs : List Chain) → 1 ≤ length cs → length cs ≤ mostChains → chainCountOf (tableOf cs) ≡ count.Chains (length cs)
 chains-counted cs some few = table-counted (tableOf cs) (is-table cs some few) ∙ ap count.Chains (chains-there cs)
 
@@ -91,7 +92,7 @@ chains-read-back cs number other sound few first last =
     (ap isSound same ∙ sound-there cs (number - 1) other sound (omega arith))
     ∙ ap named.Chain same
 
--- The writer of jobs accepts every window, with a tolerance up to 100,000 and any allowance.
+-- The writer of jobs accepts every allowed window, with a tolerance up to 100,000 and any allowance.
 pub window-written : (j : Job) → isWindow (j .window) ≡ true → j .tolerance ≤ mostTolerance → jobRefusalOf jobBytes j ≡ 0
 window-written j window few = job-accepted jobBytes j refl window few
 
@@ -108,7 +109,7 @@ refused-chain-zeros bytes c refused = chain-zero bytes c refused
 pub refused-job-zeros : (bytes : ℕ) (j : Job) → (jobRefusalOf bytes j ≡ 0 → ⊥) → jobBufferOf bytes j ≡ replicate bytes 0
 refused-job-zeros bytes j refused = job-zero bytes j refused
 
--- A chain has the refusals 1 and 5, and a job 1, 6 and 7, with 0 for none.
+-- A chain can be refused with 1 or 5, and a job with 1, 6 or 7, with 0 for none.
 pub chain-write-refusals : (bytes : ℕ) (c : Chain) → isAmong (chainRefusalOf bytes c) (0 ∷ 1 ∷ 5 ∷ []) ≡ true
 unfolding chainRefusalOf isAmong
 chain-write-refusals bytes c =

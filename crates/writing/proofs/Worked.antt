@@ -1,4 +1,4 @@
--- 01's log of three records, its chain and its job, written: the bytes that stand in docs/FORMATS.md.
+-- 01's log of three records, its chain and its job as they are written: the bytes that docs/FORMATS.md shows.
 use mathlib.Core.Path.{_≡_, refl}
 use mathlib.Core.List.{[], _∷_}
 use lib.IntN.{pos, negsuc}

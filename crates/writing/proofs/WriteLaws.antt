@@ -1,4 +1,4 @@
--- The tests of the writer, one after the other, what each comes to, and the bytes that it puts.
+-- The tests of the writer of log records, one after the other, what follows from each, and the bytes that it puts.
 use Prim.Native.Nat.{ℕ, _≤_, _<_}
 use mathlib.Core.Path.{_≡_, refl}
 use mathlib.Core.Bool.{Bool, true, false, not, cond, _||_}
@@ -18,7 +18,7 @@ use Rattle.writing.specs.declared.Draft.{Draft}
 use Rattle.writing.specs.Writing.{isKind, numbersFit, placeFits, chainFits, refusalOf, usedOf, inMetres, recordBytes, bufferOf}
 use Rattle.writing.proofs.BufferLaws.{left-written, left-zero}
 
--- The numbers, of every kind but a hold.
+-- The numbers are tested for every kind but a hold.
 pub hold-fits : (d : Draft) → d .kind ≡ 3 → numbersFit d ≡ true
 hold-fits d e = rw (eq-eqb (d .kind) 3 e)
 
@@ -28,14 +28,14 @@ first-too-large d n h = rw (ne-eqb (d .kind) 3 n, lt-leb (natAbs (d .x)) mostCen
 pub by-second : (d : Draft) → (d .kind ≡ 3 → ⊥) → natAbs (d .x) ≤ mostCentimetres → numbersFit d ≡ leb (natAbs (d .y)) mostCentimetres
 by-second d n h = rw (ne-eqb (d .kind) 3 n, le-leb (natAbs (d .x)) mostCentimetres h)
 
--- The place, of a grid record alone.
+-- The place is tested for a grid record only.
 pub no-place : (d : Draft) → (d .kind ≡ 2 → ⊥) → placeFits d ≡ true
 no-place d n = rw (ne-eqb (d .kind) 2 n)
 
 pub by-place : (d : Draft) → d .kind ≡ 2 → placeFits d ≡ isPlace (d .x) (d .y)
 by-place d e = rw (eq-eqb (d .kind) 2 e)
 
--- The chain, of a hyperbolic record alone.
+-- The chain number is tested for a hyperbolic record only.
 pub no-chain : (d : Draft) → (d .kind ≡ 1 → ⊥) → chainFits d ≡ true
 no-chain d n = rw (ne-eqb (d .kind) 1 n)
 
@@ -81,7 +81,7 @@ pub used-grid : (d : Draft) → (d .kind ≡ 1 → ⊥) → (d .kind ≡ 3 → �
 unfolding usedOf
 used-grid d n m = rw (ne-eqb (d .kind) 1 n, ne-eqb (d .kind) 3 m)
 
--- Put one after the other into zeros, the fields are the record.
+-- Put one after the other into zeros, the fields are the bytes of the record.
 pub put-together : (d : Draft) → putNumberAt (putNumberAt (putAt 4 (set (set (replicate 32 0) 0 (d .kind)) 1 (d .chain)) 4 (d .line)) 8 (inMetres (d .x))) 16 (inMetres (d .y)) ≡ recordBytes d
 unfolding putAt bytesOf recordBytes
 put-together d = refl

@@ -5,7 +5,7 @@ use mathlib.Core.List.{List}
 use lib.Dec.{eqb}
 use lib.ListN.{replicate}
 
--- What a buffer of so many bytes holds, by the number of the refusal: what was to be written where it is 0, for none, and
--- else nothing but zeros.
+-- What a buffer of `bytes` bytes holds after a write: what was to be written if the refusal number is 0, which means none; else
+-- only zeros.
 unfoldable pub leftIn : ℕ → ℕ → List ℕ → List ℕ
 leftIn bytes refusal written = cond (eqb refusal 0) written (replicate bytes 0)

@@ -1,4 +1,4 @@
--- The writer of chains: why it refuses one, and the bytes that it makes of one (01, The records).
+-- The writer of chains: which chains it refuses, and the bytes that it makes from a chain (01, The records).
 use Prim.Native.Nat.{ℕ, _+_}
 use mathlib.Core.Bool.{Bool, true, _&&_}
 use mathlib.Core.List.{List, [], _∷_, _++_}
@@ -23,15 +23,15 @@ putPlaceAt s at p = putAt 4 (putAt 4 s at (p .easting)) (at + 4) (p .northing)
 unfoldable pub bytesOfChain : Chain → List ℕ
 bytesOfChain c = bytesOfPlace (c .master) ++ (bytesOfPlace (c .a) ++ bytesOfPlace (c .b))
 
--- Why a chain is not written into a buffer of so many bytes, by the number of the refusal: 1 for the buffer, then 5 for a
--- chain that is not sound; and 0 where it is written.
+-- The refusal number of a chain for a buffer of `bytes` bytes: 1 for the buffer, then 5 for a chain that is not sound, and 0 if
+-- it is written.
 unfoldable pub chainRefusalOf : ℕ → Chain → ℕ
 chainRefusalOf bytes c =
     unless (eqb bytes chainBytes) 1
     (unless (isSound c) 5
     0)
 
--- What a buffer of so many bytes holds after a chain.
+-- What a buffer of `bytes` bytes holds after a chain was written or refused.
 unfoldable pub chainBufferOf : ℕ → Chain → List ℕ
 chainBufferOf bytes c = leftIn bytes (chainRefusalOf bytes c) (bytesOfChain c)
 
@@ -40,7 +40,7 @@ unfoldable pub allSound : List Chain → Bool
 allSound [] = true
 allSound (c ∷ cs) = isSound c && allSound cs
 
--- The table made of chains that are written one behind the other, each into a buffer of 24 bytes.
+-- The table made of chains that are written one after the other, each into a buffer of 24 bytes.
 unfoldable pub tableOf : List Chain → List ℕ
 tableOf [] = []
 tableOf (c ∷ cs) = chainBufferOf chainBytes c ++ tableOf cs

@@ -1,4 +1,4 @@
--- The writer of jobs: why it refuses one, and the bytes that it makes of one (01, The records).
+-- The writer of jobs: which jobs it refuses, and the bytes that it makes from a job (01, The records).
 use Prim.Native.Nat.{ℕ}
 use mathlib.Core.List.{List, _∷_, _++_}
 use lib.Dec.{leb, eqb}
@@ -18,8 +18,8 @@ bytesOfJob j =
     bytesOfPlace (j .window .corner)
     ++ (j .window .k ∷ 0 ∷ 0 ∷ 0 ∷ (bytesOf 4 (j .tolerance) ++ (bytesOf 8 (j .allowance) ++ replicate 8 0)))
 
--- Why a job is not written into a buffer of so many bytes, by the number of the refusal: 1 for the buffer, then 6 for the
--- window and 7 for the tolerance; and 0 where it is written.
+-- The refusal number of a job for a buffer of `bytes` bytes: 1 for the buffer, then 6 for the window, then 7 for the tolerance,
+-- and 0 if it is written.
 unfoldable pub jobRefusalOf : ℕ → Job → ℕ
 jobRefusalOf bytes j =
     unless (eqb bytes jobBytes) 1
@@ -27,6 +27,6 @@ jobRefusalOf bytes j =
     (unless (leb (j .tolerance) mostTolerance) 7
     0))
 
--- What a buffer of so many bytes holds after a job.
+-- What a buffer of `bytes` bytes holds after a job was written or refused.
 unfoldable pub jobBufferOf : ℕ → Job → List ℕ
 jobBufferOf bytes j = leftIn bytes (jobRefusalOf bytes j) (bytesOfJob j)

@@ -1,4 +1,4 @@
--- The writer: why it refuses a draft, and the bytes that it makes of one (01, The records).
+-- The writer of log records: which drafts it refuses, and the bytes that it makes from a draft (01, The records).
 use Prim.Native.Nat.{ℕ}
 use mathlib.Core.Path.{_≡_}
 use mathlib.Core.Bool.{Bool, not, cond, _&&_, _||_}
@@ -24,7 +24,7 @@ use Rattle.writing.specs.Buffers.{leftIn}
 abbrev pub isKind : ℕ → Bool
 isKind kind = oneTo 3 kind
 
--- The numbers that the draft's kind uses are not beyond the size that is written. A hold uses none.
+-- The numbers that the draft's kind uses are not too large to be written. A hold uses none.
 abbrev pub numbersFit : Draft → Bool
 numbersFit d = eqb (d .kind) 3 || (leb (natAbs (d .x)) mostCentimetres && leb (natAbs (d .y)) mostCentimetres)
 
@@ -36,7 +36,7 @@ placeFits d = not (eqb (d .kind) 2) || isPlace (d .x) (d .y)
 abbrev pub chainFits : Draft → Bool
 chainFits d = not (eqb (d .kind) 1) || oneTo mostChains (d .chain)
 
--- Why a draft is not written into a buffer of so many bytes, by the number of the refusal, and 0 where it is written.
+-- The refusal number of a draft for a buffer of `bytes` bytes, and 0 if it is written.
 unfoldable pub refusalOf : ℕ → Draft → ℕ
 refusalOf bytes d =
     unless (eqb bytes logBytes) 1
@@ -57,7 +57,7 @@ usedOf d =
       y = cond (eqb (d .kind) 3) (pos 0) (d .y);
     }
 
--- A number of centimetres as metres in eight bytes. 0 is plus zero, and its bytes are zero.
+-- A number of centimetres in metres, and its eight bytes. 0 becomes plus zero, whose bytes are all zero.
 abbrev pub inMetres : ℤ → Float
 inMetres z = lengthFigures (metresOf z) .metres
 
@@ -70,7 +70,7 @@ recordBytes d =
     d .kind ∷ d .chain ∷ 0 ∷ 0
     ∷ (bytesOf 4 (d .line) ++ (metresBytes (d .x) ++ (metresBytes (d .y) ++ replicate 8 0)))
 
--- What a buffer of so many bytes holds after a draft.
+-- What a buffer of `bytes` bytes holds after a draft was written or refused.
 unfoldable pub bufferOf : ℕ → Draft → List ℕ
 bufferOf bytes d = leftIn bytes (refusalOf bytes d) (recordBytes (usedOf d))
 
@@ -94,7 +94,7 @@ entryFor d =
     (cond (eqb (d .kind) 2) (entry.Place (record { easting = natAbs (d .x); northing = natAbs (d .y) }))
     entry.Hold)
 
--- Bytes that read as a draft says: the same kind, chain number, line number and centimetres.
+-- The bytes s read as the draft says: the same kind, chain number, line number and centimetres.
 pub record ReadsAs (d : Draft) (s : List ℕ) : Type 0 where
   pub raw : rawRecordOf s ≡ raw.Record (rawFor d)
   pub entry : logEntryOf s ≡ entryFor d

@@ -1,4 +1,4 @@
-// Log records, chains and jobs written: each is tested, and its bytes are put into a buffer.
+// The writers of log records, chains and jobs: each is tested, then its bytes are put into a buffer.
 ghost use mathlib.Core.Path.{_≡_};
 ghost use Prim.Native.Nat.{_+_, _≤_, _<_};
 ghost use lib.ListN.{length, replicate};
@@ -16,7 +16,7 @@ use records::Job;
 use records::LOG_BYTES;
 use records::MOST_CHAINS;
 
-// What a log record is to say. x and y are readings A and B, or easting and northing, in centimetres.
+// The content of a log record to be written. x and y are readings A and B, or easting and northing, in centimetres.
 pub struct Draft {
     pub kind: u32,
     pub chain: u32,
@@ -68,7 +68,7 @@ pub fn write_job(buffer: &mut [u8], j: Job) -> u32
     0
 }
 
-// Why a draft is not written into a buffer of so many bytes, or 0.
+// The refusal number of a draft for a buffer of `bytes` bytes, 0 for none.
 fn refusal_of(bytes: usize, d: Draft) -> u32
     ensures { λ r. ⌜ r ≡ refusalOf bytes d ⌝ }
 {
@@ -151,7 +151,7 @@ fn used(d: Draft) -> Draft
     }
 }
 
-// Every byte of a buffer becomes zero.
+// Makes every byte of a buffer zero.
 pub fn clear_buffer(buffer: &mut [u8])
     ensures { λ _. ⌜ now (buffer .exit) ≡ replicate (length (now (buffer .entry))) 0 ⌝ }
 {
@@ -162,7 +162,7 @@ pub fn clear_buffer(buffer: &mut [u8])
     }
 }
 
-// The bytes of a record in a buffer that is clear.
+// Puts the bytes of a record into a buffer that is all zeros.
 fn put(buffer: &mut [u8], d: Draft)
     requires { ⌜ (now buffer ≡ replicate logBytes 0) × (d .kind < 256) × (d .chain < 256) ⌝ }
     ensures { λ _. ⌜ now (buffer .exit) ≡ recordBytes d ⌝ }
@@ -183,7 +183,7 @@ fn in_metres(c: i64) -> f64
     f.metres
 }
 
-// Why a chain is not written into a buffer of so many bytes, or 0.
+// The refusal number of a chain for a buffer of `bytes` bytes, 0 for none.
 fn chain_refusal(bytes: usize, c: Chain) -> u32
     ensures { λ r. ⌜ r ≡ chainRefusalOf bytes c ⌝ }
 {
@@ -196,7 +196,7 @@ fn chain_refusal(bytes: usize, c: Chain) -> u32
     0
 }
 
-// Why a job is not written into a buffer of so many bytes, or 0.
+// The refusal number of a job for a buffer of `bytes` bytes, 0 for none.
 fn job_refusal(bytes: usize, j: Job) -> u32
     ensures { λ r. ⌜ r ≡ jobRefusalOf bytes j ⌝ }
 {
@@ -212,7 +212,7 @@ fn job_refusal(bytes: usize, j: Job) -> u32
     0
 }
 
-// The bytes of a chain in a buffer that is clear.
+// Puts the bytes of a chain into a buffer that is all zeros.
 fn put_chain(buffer: &mut [u8], c: Chain)
     requires { ⌜ now buffer ≡ replicate chainBytes 0 ⌝ }
     ensures { λ _. ⌜ now (buffer .exit) ≡ bytesOfChain c ⌝ }
@@ -222,7 +222,7 @@ fn put_chain(buffer: &mut [u8], c: Chain)
     put_place(buffer, 16, c.b);
 }
 
-// The bytes of a job in a buffer that is clear.
+// Puts the bytes of a job into a buffer that is all zeros.
 fn put_job(buffer: &mut [u8], j: Job)
     requires { ⌜ (now buffer ≡ replicate jobBytes 0) × (j .window .k < 256) ⌝ }
     ensures { λ _. ⌜ now (buffer .exit) ≡ bytesOfJob j ⌝ }

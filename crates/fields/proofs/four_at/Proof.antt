@@ -1,4 +1,4 @@
--- `fields::four_at` meets its contract: what is outside is told so, and what is inside is gathered.
+-- `fields::four_at` meets its contract: a field outside the slice answers `Outside`, and one inside is read by `gathered`.
 use Prim.Native.Nat.{_+_}
 use mathlib.Core.Path.{_≡_, sym, ap, _∙_}
 use mathlib.Core.Bool.{true}

@@ -1,4 +1,4 @@
--- `fields::gathered` meets its contract: the bytes from i up to the width are held, and i falls to 0.
+-- `fields::gathered` meets its contract: n holds the bytes from i up to the width, and i falls to 0.
 use native.Mathlib.Omega.{arith}
 use borrow.Author.Needs.{needs}
 use Rattle.fields.proofs.Gathering.{Held, held-none, held-more, held-room, held-all}

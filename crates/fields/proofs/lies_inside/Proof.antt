@@ -1,4 +1,5 @@
--- `fields::lies_inside` meets its contract: at + width is at most bytes exactly if width is and at is at most the rest.
+-- `fields::lies_inside` meets its contract: at + width is at most bytes exactly if width is at most bytes and at is at most
+-- bytes - width.
 use Prim.Native.Nat.{ℕ, _+_, _-_, _≤_}
 use mathlib.Core.Path.{_≡_, refl, sym, _∙_}
 use mathlib.Core.Bool.{Bool, true, false}

@@ -1,4 +1,4 @@
--- `fields::put` meets its contract: nothing changes where the field is outside, and inside it is filled.
+-- `fields::put` meets its contract: nothing changes if the field is outside the slice, and a field inside is filled.
 use mathlib.Core.Path.{_≡_, sym, _∙_}
 use mathlib.Core.Bool.{true, false}
 use borrow.Author.Needs.{needs}

@@ -1,4 +1,4 @@
--- `fields::scatter` meets its contract: after i bytes the buffer is filled so far, and i rises to the width.
+-- `fields::scatter` meets its contract: after i turns the first i bytes are in the buffer, and i rises to the width.
 use Prim.Native.Nat.{_-_}
 use native.Mathlib.Omega.{arith}
 use Rattle.fields.proofs.Scattering.{Filling, filling-none, filling-more, filling-all}

@@ -1,4 +1,4 @@
--- `files::joined` ends: the arguments that are left fall. The line holds as many words as have been put.
+-- `files::joined` ends: each turn leaves one argument fewer. The line holds as many words as have been put.
 use Prim.Native.Nat.{ℕ, _+_, _-_, _≤_, max}
 use borrow.Author.Needs.{needs}
 use lib.ListN.{length, take}

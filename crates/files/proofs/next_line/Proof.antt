@@ -1,4 +1,4 @@
--- `files::next_line` answers with what is there, or with what more is read. Text that stops beyond the buffer stops where the buffer does.
+-- `files::next_line` answers from the text that is there, or from what is read after it. A `to` beyond the buffer is its end.
 use mathlib.Core.Logic.{inl, inr}
 use mathlib.Core.Path.{sym, _∙_, subst}
 use native.Mathlib.Omega.{arith}
@@ -45,7 +45,7 @@ read-more-requires c κs = search needs
 same-length-3 : tie.Need-same-length-3
 same-length-3 c = search needs
 
--- A line is the first of four, and none of the three others.
+-- A line is the first of the four variants of `Input`, so it is none of the three others.
 no-line : OneOf (1 ∷ 2 ∷ 3 ∷ []) 0 → ⊥
 no-line (inl e) = omega arith
 no-line (inr (inl e)) = omega arith

@@ -1,4 +1,4 @@
--- `files::no_arguments` answers with a line of a byte at most, as long as what it lends.
+-- `files::no_arguments` answers with a line of at most one byte, since the buffer that it lends has one byte.
 use borrow.Author.Needs.{needs}
 use Rattle.files.proofs.WordLaws.{is-spare}
 use Rattle.files.proofs.no_arguments.Statement.{statement}

@@ -1,4 +1,4 @@
--- `files::none_given` goes on where the line of the arguments is empty; else it tells them.
+-- `files::none_given` is true if the line of the arguments is empty, and false in every other case.
 use borrow.Author.Needs.{needs}
 use mathlib.Core.Bool.{false}
 use mathlib.Core.Path.{_≡_, sym, ap, _∙_}

@@ -1,4 +1,4 @@
--- `files::one_more` puts a word behind those that are there: the space takes one byte of what is left.
+-- `files::one_more` puts a word after those that are there: the space before it takes one byte of what is left.
 use borrow.Author.Needs.{needs}
 use mathlib.Core.Path.{_∙_}
 use native.Mathlib.Omega.{arith}

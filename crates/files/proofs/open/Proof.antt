@@ -1,4 +1,4 @@
--- `files::open` answers with a descriptor that is not below 0, by what opening answered.
+-- `files::open` gives a file only with a descriptor that is not below 0, whatever the system call returned.
 use borrow.Author.Needs.{needs}
 use mathlib.Core.Path.{subst⁻¹}
 use mir.Syntax.{w32}

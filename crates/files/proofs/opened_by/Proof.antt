@@ -1,4 +1,4 @@
--- `files::opened_by` tests what opening answered, and then the error.
+-- `files::opened_by` tests what opening returned, and then the error.
 use borrow.Author.Needs.{needs}
 use mathlib.Core.Path.{_≡_, sym, ap, _∙_}
 use lib.IntN.{pos}
@@ -16,7 +16,7 @@ returns c =
     let same = toZ-ofZ w32 (c .before .before .args .file) (c .before .before .fits .file) in
     ap opened.File same ∙ is-file (c .before .before .args .file) (c .before .before .args .error) (rw same at (c .if1 .taken))
 
--- What opening answered is no descriptor.
+-- What opening returned is not a descriptor.
 not-file : (c : tie.Else1) → notOpened (c .before .before .args .error) ≡ openedBy (c .before .before .args .file) (c .before .before .args .error)
 not-file c =
     let same = toZ-ofZ w32 (c .before .before .args .file) (c .before .before .fits .file) in

@@ -1,4 +1,4 @@
--- `files::put_argument` answers with a line only where the argument is a word.
+-- `files::put_argument` answers with a line only if the argument is a word.
 use borrow.Author.Needs.{needs}
 use Prim.Native.Nat.{_-_}
 use mathlib.Core.Path.{sym, _∙_}

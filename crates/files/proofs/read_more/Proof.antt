@@ -1,4 +1,4 @@
--- `files::read_more` keeps the text at the front, and what comes next goes by the buffer after the read.
+-- `files::read_more` keeps the text at the front, and what comes next depends on the buffer after the read.
 use Prim.Native.Nat.{_+_, _≤_}
 use mathlib.Core.Path.{ap, refl}
 use native.Mathlib.Omega.{arith}
@@ -48,7 +48,7 @@ returns c =
     let call = c .before .before .before .before .before .before .before .before .before .front in
     is-read (a .buffer .now) (a .from) (a .to) (call .result) (call .last .0) _ (call .ensures .0) (call .ensures .1) (same-length c) (failed refl)
 
--- The text stops in the buffer.
+-- The text ends within the buffer.
 inside : (c : tie.After-next-in-arg) → c .before .before .before .before .before .before .before .before .before .before .before .front .result + c .before .before .more .given .0 .0 ≤ length (c .before .before .before .before .before .before .before .before .before .before .before .before .before .before .args .buffer .now)
 inside c =
     omega (

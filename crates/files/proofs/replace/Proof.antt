@@ -1,4 +1,4 @@
--- `files::replace` answers true only where there are bytes.
+-- `files::replace` returns true only if there are bytes.
 use native.Mathlib.Omega.{arith}
 use borrow.Author.Needs.{needs}
 use Rattle.files.proofs.replace.Statement.{statement}

@@ -1,4 +1,4 @@
--- `files::same` ends: what is left of the texts falls. They have one length.
+-- `files::same` ends: each turn leaves one byte fewer to compare. Both texts have the same length.
 use Prim.Native.Nat.{_-_}
 use borrow.Author.Needs.{needs}
 use lib.ListN.{length}

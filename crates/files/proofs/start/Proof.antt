@@ -1,4 +1,4 @@
--- `files::start` has no more bytes than the buffer, however opening the file went.
+-- `files::start` gives no more bytes than the buffer has, whether or not the file could be opened.
 use borrow.Author.Needs.{needs}
 use Rattle.files.proofs.OpenLaws.{started-room}
 use Rattle.files.proofs.start.Statement.{statement}

@@ -1,4 +1,4 @@
--- `files::start_of` answers by how opening the file went.
+-- `files::start_of` answers according to how opening the file went.
 use borrow.Author.Needs.{needs}
 use mathlib.Core.Path.{subst⁻¹}
 use lib.ListN.{length}

@@ -1,4 +1,4 @@
--- `files::words_of` has no line where help is asked for.
+-- `files::words_of` gives no line if help is asked for.
 use borrow.Author.Needs.{needs}
 use Prim.Native.Nat.{_-_}
 use mathlib.Core.Bool.{Bool}

@@ -1,4 +1,4 @@
--- `files::write` answers true of no bytes: where it failed, there are some.
+-- `files::write` returns true if there are no bytes to write: if it failed, there are some.
 use native.Mathlib.Omega.{arith}
 use borrow.Author.Needs.{needs}
 use Rattle.files.proofs.write.Statement.{statement}

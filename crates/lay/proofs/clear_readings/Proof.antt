@@ -1,4 +1,4 @@
--- `lay::clear_readings` meets its contract: each turn makes one reading more zero.
+-- `lay::clear_readings` meets its contract: each turn sets one more reading to zero.
 use Prim.Native.Nat.{ℕ, _-_}
 use mathlib.Core.Path.{ap, _∙_}
 use native.Mathlib.Omega.{arith}

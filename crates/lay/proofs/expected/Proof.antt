@@ -1,4 +1,4 @@
--- `lay::expected` meets its contract, case by case, over a list that is clear.
+-- `lay::expected` meets its contract, case by case, over a list that has been cleared.
 use Prim.Native.Nat.{ℕ}
 use mathlib.Core.Path.{_≡_, sym, ap, _∙_}
 use lib.IntN.{pos}
@@ -13,7 +13,7 @@ use Rattle.lay.proofs.expected.Tie as tie
 clear-readings-requires : tie.Need-clear-readings-requires
 clear-readings-requires c κs = search needs
 
--- Clear, the list has as many readings as before.
+-- When it has been cleared, the list has as many readings as before.
 same-count : (c : tie.After-clear-readings) → length (c .clear-readings .last .0) ≡ length (c .before .before .args .readings .now)
 same-count c = ap length (c .clear-readings .ensures) ∙ length-replicate _ (pos 0)
 

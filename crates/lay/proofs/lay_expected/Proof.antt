@@ -1,4 +1,4 @@
--- `lay::lay_expected` meets its contract: what `expected` promises of the chain in the bytes.
+-- `lay::lay_expected` meets its contract: it is what `expected` promises for the chain in the bytes.
 use mathlib.Core.Path.{ap, _∙_}
 use denote.Ref.{now}
 use lib.ListN.{length}

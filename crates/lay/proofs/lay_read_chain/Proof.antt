@@ -1,4 +1,4 @@
--- `lay::lay_read_chain` meets its contract: what `read_chain` promises of the chain in the bytes.
+-- `lay::lay_read_chain` meets its contract: it is what `read_chain` promises for the chain in the bytes.
 use mathlib.Core.Path.{ap, _∙_}
 use denote.Ref.{now}
 use lib.ListN.{length}

@@ -1,4 +1,4 @@
--- `lay::lay_write_record` meets its contract: what `write` promises.
+-- `lay::lay_write_record` meets its contract: it is what `write` promises.
 use mathlib.Core.Path.{_≡_, ap, ap₂, _∙_}
 use borrow.Author.Needs.{needs}
 use mir.Syntax.{w64}

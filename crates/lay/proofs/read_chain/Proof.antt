@@ -1,4 +1,4 @@
--- `lay::read_chain` meets its contract, case by case, over a list that is clear.
+-- `lay::read_chain` meets its contract, case by case, over a list that has been cleared.
 use Prim.Native.Nat.{ℕ}
 use mathlib.Core.Path.{_≡_, sym, ap, _∙_}
 use native.Mathlib.Nat.{sub-zero}
@@ -13,7 +13,7 @@ use Rattle.lay.proofs.read_chain.Tie as tie
 clear-entries-requires : tie.Need-clear-entries-requires
 clear-entries-requires c κs = search needs
 
--- What the list holds once it is clear, and that it has as many entries as before.
+-- What the list holds when it has been cleared, and that it has as many entries as before.
 cleared : (c : tie.After-clear-entries) → c .clear-entries .last .0 ≡ replicate (length (c .before .before .before .args .stations .now)) 0
 cleared c = c .clear-entries .ensures ∙ ap (λ (n : ℕ). replicate n 0) (sub-zero (length (c .before .before .before .args .stations .now)))
 

@@ -1,4 +1,4 @@
--- `laychain::accepted` is true where every line was accepted before and this one is.
+-- `laychain::accepted` is true if every line before was accepted and this one is too.
 use borrow.Author.Needs.{needs}
 use mathlib.Core.Bool.{Bool, true, false, _&&_, and-true, and-false}
 use mathlib.Core.Path.{_≡_, sym, ap, _∙_}

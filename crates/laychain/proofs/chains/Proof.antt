@@ -1,4 +1,4 @@
--- `laychain::chains` counts the lines where every one was accepted.
+-- `laychain::chains` returns the number of lines if every one was accepted, and 0 if not.
 use borrow.Author.Needs.{needs}
 use Prim.Native.Nat.{ℕ}
 use mathlib.Core.Bool.{Bool, true, false, cond}

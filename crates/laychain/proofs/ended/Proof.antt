@@ -1,4 +1,4 @@
--- `laychain::ended` goes by what comes next.
+-- `laychain::ended` answers according to what comes next.
 use borrow.Author.Needs.{needs}
 use mathlib.Core.Bool.{cond}
 use mathlib.Core.Path.{sym, ap, _∙_}

@@ -1,4 +1,4 @@
--- `laychain::put_chain` lends the 24 bytes of the chain's place, where there is one.
+-- `laychain::put_chain` lends `write_chain` the 24 bytes of the chain's place in the table, if there is one.
 use borrow.Author.Needs.{needs}
 use Prim.Native.Nat.{_+_, _-_, _*_}
 use mathlib.Core.Path.{_≡_, _∙_}

@@ -1,4 +1,4 @@
--- `laychain::put_line` goes by the chain of the line.
+-- `laychain::put_line` answers according to the chain in the line.
 use borrow.Author.Needs.{needs}
 use mathlib.Core.Path.{_≡_, refl, sym, _∙_, subst⁻¹}
 use Rattle.parsing.specs.declared.ParsedChain.{ParsedChain}

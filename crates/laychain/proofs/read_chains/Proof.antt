@@ -1,5 +1,5 @@
--- `laychain::read_chains` ends: the lines that a table may have, and one more, are counted. Each line that is accepted puts one
--- chain behind the others.
+-- `laychain::read_chains` ends: it takes at most one line more than a table may have chains. Each line that is accepted puts one
+-- chain after the others.
 use Prim.Native.Nat.{_-_, _*_, _≤_}
 use mathlib.Core.Bool.{true, cond}
 use mathlib.Core.Path.{_≡_, sym, _∙_, subst, subst⁻¹}
@@ -49,7 +49,7 @@ returns c =
     (holds-at-end (HoldsChains (l .table)) (c .before .before .before .before .next-line .result) (cond (l .well) (l .count) 0) 0
     (held-if (l .table) (l .count) (l .well) (l .inv .1 .1 .1)) (no-chains (l .table)))
 
--- The line that comes next.
+-- The line that comes next is within the buffer.
 found : (c : tie.After-input Inv-loop μ-loop) → IsLine (c .before .before .before .before .next-line .last .0) (c .input .given .0 .0) (c .input .given .0 .1 .0) (c .input .given .0 .1 .1 .0)
 found c =
     let l = c .before .before .before .before .before .before .before .loop in

@@ -1,4 +1,4 @@
--- `layexpect::answer` hands on no more of the table than was read.
+-- `layexpect::answer` passes on only the bytes of the table that were read.
 use mathlib.Core.Path.{ap}
 use native.Mathlib.Omega.{arith}
 use borrow.Author.Needs.{needs}

@@ -1,4 +1,4 @@
--- `layexpect::print_expected` prints no more than was shown.
+-- `layexpect::print_expected` prints only the text that `shown::expected` put into the buffer.
 use mathlib.Core.Path.{sym, _∙_}
 use native.Mathlib.Omega.{arith}
 use borrow.Author.Needs.{needs}

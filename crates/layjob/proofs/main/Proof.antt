@@ -1,4 +1,4 @@
--- `layjob::main` hands on no more of the line than the arguments fill.
+-- `layjob::main` passes on only the part of the line that the arguments fill.
 use native.Mathlib.Omega.{arith}
 use borrow.Author.Needs.{needs}
 use Rattle.files.proofs.WordLaws.{line-inside}

@@ -1,4 +1,4 @@
--- `laylist::by_job` hands on no more of the buffer than was read to it, and a job that is accepted.
+-- `laylist::by_job` hands on only the bytes of the table that were read, and only a job that is accepted.
 use mathlib.Core.Path.{sym, ap, _∙_}
 use native.Mathlib.Omega.{arith}
 use borrow.Author.Tests.{not-false}

@@ -1,4 +1,4 @@
--- `laylist::by_table` lists the log by a table that is accepted.
+-- `laylist::by_table` lists the log only if the table is accepted.
 use mathlib.Core.Path.{sym, _∙_}
 use borrow.Author.Needs.{needs}
 use Rattle.laylist.proofs.by_table.Statement.{statement}

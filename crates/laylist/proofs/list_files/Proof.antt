@@ -1,4 +1,4 @@
--- `laylist::list_files` hands on no more of the buffer than was read to it.
+-- `laylist::list_files` hands on only the bytes of the job that were read.
 use mathlib.Core.Path.{ap}
 use native.Mathlib.Omega.{arith}
 use borrow.Author.Needs.{needs}

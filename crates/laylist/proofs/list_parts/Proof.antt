@@ -1,5 +1,5 @@
--- `laylist::list_parts` goes on from the place of the whole stretch: the place behind it is always that behind what is left of it, from
--- the place carried. It ends: what is left falls.
+-- `laylist::list_parts` returns the place that the whole stretch carries on: at each turn this is the place that the rest, starting
+-- from the place carried so far, carries on. It ends, since each turn leaves fewer bytes.
 use Prim.Native.Nat.{_-_, _≤_}
 use mathlib.Core.Path.{_≡_, sym, _∙_}
 use borrow.Author.Needs.{needs}

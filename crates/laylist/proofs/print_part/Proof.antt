@@ -1,4 +1,4 @@
--- `laylist::print_part` prints the listing of a part, no more and no less, and goes on from its place.
+-- `laylist::print_part` prints the listing of a part, no more and no less, and returns the place that it carries on.
 use mathlib.Core.Path.{sym}
 use native.Mathlib.Omega.{arith}
 use borrow.Author.Needs.{needs}

@@ -1,5 +1,5 @@
--- `layshow::put_chains` puts the lines of all chains, numbered from 1: those so far are put, and those of the rest are behind them. It ends:
--- what is left of the table falls.
+-- `layshow::put_chains` puts the lines of all chains, numbered from 1: at each turn those so far are put, and those of the rest
+-- follow. It ends, since each turn leaves fewer bytes of the table.
 use Prim.Native.Nat.{_+_, _-_, _≤_}
 use native.Mathlib.Omega.{arith}
 use borrow.Author.Needs.{needs}

@@ -1,4 +1,4 @@
--- `layshow::put_files` puts the lines of the table behind that of the job.
+-- `layshow::put_files` puts the line of the job, then the lines of the table.
 use borrow.Author.Needs.{needs}
 use Rattle.text.proofs.PutLaws.{put-then}
 use Rattle.layshow.proofs.put_files.Statement.{statement}

@@ -1,5 +1,5 @@
--- `layshow::put_records` puts the lines of all records, in their order: those so far are put, and those of the rest are behind them. It ends:
--- what is left of the log falls.
+-- `layshow::put_records` puts the lines of all records, in their order: at each turn those so far are put, and those of the rest
+-- follow. It ends, since each turn leaves fewer bytes of the log.
 use Prim.Native.Nat.{ℕ, _+_, _-_, _≤_}
 use native.Mathlib.Omega.{arith}
 use borrow.Author.Needs.{needs}

@@ -1,4 +1,4 @@
--- `layshow::show` hands on no more of a buffer than was read to it.
+-- `layshow::show` hands on only the bytes of job and table that were read.
 use mathlib.Core.Path.{ap}
 use native.Mathlib.Omega.{arith}
 use borrow.Author.Needs.{needs}

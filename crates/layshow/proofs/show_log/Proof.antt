@@ -1,4 +1,4 @@
--- `layshow::show_log` ends: the turns that are left fall. The buffer keeps its length.
+-- `layshow::show_log` ends, since the number of turns left falls. The buffer keeps its length.
 use mathlib.Core.Path.{_≡_}
 use borrow.Author.Needs.{needs}
 use lib.ListN.{length}

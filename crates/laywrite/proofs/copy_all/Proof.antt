@@ -1,4 +1,4 @@
--- `laywrite::copy_all` ends: the turns that are left fall.
+-- `laywrite::copy_all` ends: it counts its turns down.
 use borrow.Author.Needs.{needs}
 use Rattle.laywrite.proofs.copy_all.Statement.{statement}
 use Rattle.laywrite.proofs.copy_all.Tie as tie

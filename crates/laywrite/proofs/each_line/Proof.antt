@@ -1,4 +1,4 @@
--- `laywrite::each_line` ends: the lines are counted. What waits are records of accepted drafts, line by line.
+-- `laywrite::each_line` ends: it counts the lines up to a limit. After each line, what waits are records of accepted drafts.
 use Prim.Native.Nat.{_-_, _^_}
 use mathlib.Core.Path.{_≡_, subst, subst⁻¹}
 use native.Mathlib.Omega.{arith}
@@ -45,7 +45,7 @@ returns c =
     let l = c .before .before .before .before .before .before .before .loop in
     subst⁻¹ (HoldRecords (l .out)) (c .ended .ensures) (holds-at-end (HoldRecords (l .out)) (c .before .before .before .before .next-line .result) (l .records) allDropped (l .inv .0) tt)
 
--- The line that comes next.
+-- The line that comes next is within the buffer.
 found : (c : tie.After-input Inv-loop μ-loop) → IsLine (c .before .before .before .before .next-line .last .0) (c .input .given .0 .0) (c .input .given .0 .1 .0) (c .input .given .0 .1 .1 .0)
 found c =
     let l = c .before .before .before .before .before .before .before .loop in

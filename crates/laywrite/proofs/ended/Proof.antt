@@ -1,4 +1,4 @@
--- `laywrite::ended` goes by what comes next.
+-- `laywrite::ended` answers according to what comes next.
 use borrow.Author.Needs.{needs}
 use Rattle.files.proofs.LineLaws.{not-at-end}
 use Rattle.laywrite.specs.Waiting.{allDropped}

@@ -1,4 +1,4 @@
--- `laywrite::keep` puts a record behind those that wait, or alone, by the room.
+-- `laywrite::keep` puts a record after those that wait, or alone if there is no room for both.
 use borrow.Author.Needs.{needs}
 use native.Mathlib.Omega.{arith}
 use lib.ListN.{take}

@@ -1,4 +1,4 @@
--- `laywrite::put` puts all of the bytes, as `text::put` does where there is room.
+-- `laywrite::put` puts all of the bytes, as `text::put` does if there is room.
 use borrow.Author.Needs.{needs}
 use native.Mathlib.Omega.{arith}
 use Rattle.text.proofs.PutLaws.{put-from, put-front, put-length}

@@ -1,4 +1,4 @@
--- `laywrite::read_records` writes no more records than wait.
+-- `laywrite::read_records` writes only the bytes that wait, and these are within the buffer.
 use borrow.Author.Needs.{needs}
 use mathlib.Core.Path.{subst}
 use native.Mathlib.Omega.{arith}

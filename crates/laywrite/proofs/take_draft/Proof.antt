@@ -1,4 +1,4 @@
--- `laywrite::take_draft` keeps the record of a draft that is accepted, where nothing was dropped.
+-- `laywrite::take_draft` keeps the record of a draft that is accepted, if nothing was dropped before.
 use borrow.Author.Needs.{needs}
 use Prim.Native.Nat.{ℕ}
 use mathlib.Core.List.{List}

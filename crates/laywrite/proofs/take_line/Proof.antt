@@ -1,4 +1,4 @@
--- `laywrite::take_line` goes by the draft of the line.
+-- `laywrite::take_line` answers according to the draft in the line.
 use borrow.Author.Needs.{needs}
 use mathlib.Core.Path.{sym, _∙_, subst⁻¹}
 use Rattle.parsing.specs.declared.ParsedDraft.{ParsedDraft}

@@ -1,4 +1,4 @@
--- `listing::answer` meets its contract, by the entry of the record.
+-- `listing::answer` meets its contract, for each kind of entry.
 use mathlib.Core.Path.{sym, ap, _∙_}
 use borrow.Author.Needs.{needs}
 use mir.Syntax.{w64}

@@ -1,4 +1,4 @@
--- `listing::chain_byte` meets its contract: past the end of a list stands 0.
+-- `listing::chain_byte` meets its contract: a byte past the end of a list counts as 0.
 use mathlib.Core.Path.{sym}
 use native.Mathlib.Omega.{arith}
 use lib.ListN.{List·getD-eq-default}

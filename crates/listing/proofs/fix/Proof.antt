@@ -1,4 +1,4 @@
--- `listing::fix` meets its contract: what refuses the chain, or the search with the program's list.
+-- `listing::fix` meets its contract: the refusal of the chain, or the search with the program's list.
 use mathlib.Core.Path.{sym, ap, _∙_}
 use borrow.Author.Needs.{needs}
 use mir.Syntax.{w64}

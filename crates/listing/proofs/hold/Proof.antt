@@ -1,4 +1,4 @@
--- `listing::hold` meets its contract, by what was carried to it.
+-- `listing::hold` meets its contract, whether a place was carried to it or nothing.
 use mathlib.Core.Path.{sym, ap}
 use borrow.Author.Needs.{needs}
 use Rattle.listing.specs.Answers.{holdOf}

@@ -1,4 +1,4 @@
--- `listing::list` meets its contract: 9 without the room, else the job's refusal or the listing by the job.
+-- `listing::list` meets its contract: 9 without room, else the job's refusal or the listing with the job.
 use mathlib.Core.Path.{sym, _∙_}
 use native.Mathlib.Omega.{arith}
 use borrow.Author.Needs.{needs}

@@ -1,4 +1,4 @@
--- `listing::notice` meets its contract: the four pieces of its line, one behind the other.
+-- `listing::notice` meets its contract: the four pieces of its line, one after the other.
 use Prim.Native.Nat.{_+_}
 use mathlib.Core.Path.{_≡_, refl}
 use native.Mathlib.Omega.{arith}

@@ -1,4 +1,4 @@
--- `listing::put_line` meets its contract: its six pieces, one behind the other.
+-- `listing::put_line` meets its contract: its six pieces, one after the other.
 use native.Mathlib.Omega.{arith}
 use borrow.Author.Needs.{needs}
 use Rattle.text.specs.Texts.{bytesIn}
@@ -13,7 +13,7 @@ put-head-requires c κs = search needs
 put-word-requires : tie.Need-put-word-requires
 put-word-requires c κs = search needs
 
--- The pieces before each other.
+-- From what is known after a piece, what was known after the piece before it.
 abbrev started : tie.After-put-head → tie.Start
 started c = c .before .before .before .before .before
 

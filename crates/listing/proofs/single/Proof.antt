@@ -1,4 +1,4 @@
--- `listing::single` meets its contract: the place stands first in the list.
+-- `listing::single` meets its contract: the place is the first in the list.
 use mathlib.Core.Path.{refl}
 use native.Mathlib.Omega.{arith}
 use borrow.Author.Needs.{needs}

@@ -1,4 +1,4 @@
--- `metres::centimetres`: the hundredfold is exact, so its rounding is that of the number.
+-- `metres::centimetres` meets its contract: the hundredfold is exact, so rounding it gives the centimetres of the number.
 use Prim.Native.Nat.{ℕ, _<_, _^_}
 use mathlib.Core.Path.{ap, _∙_, subst, subst⁻¹}
 use mathlib.Core.Bool.{Bool}
@@ -20,7 +20,7 @@ times-hundred-requires c κs = search needs
 enum-known-minus : tie.Need-enum-known-minus
 enum-known-minus c = search needs
 
--- What the call said, at the arm of the exact hundredfold.
+-- What the call of `times_hundred` promised, if it answered `Exact`.
 module _ (c : tie.After-minus) where
   abbrev x : Float
   x = c .before .before .before .args .x

@@ -1,4 +1,4 @@
--- `metres::is_plus_zero`: the test on the pattern is the definition.
+-- `metres::is_plus_zero` meets its contract: the test on the pattern is the definition.
 use Prim.Native.Nat.{ℕ}
 use mathlib.Core.Path.{ap}
 use lib.Dec.{eqb}

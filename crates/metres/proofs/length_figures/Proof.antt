@@ -1,4 +1,4 @@
--- `metres::length_figures`: the definition, case by case.
+-- `metres::length_figures` meets its contract, case by case.
 use mathlib.Core.Path.{_≡_, refl, sym, ap, _∙_}
 use lib.Ieee.{Float, binary64, ofBits}
 use borrow.Author.Needs.{needs}

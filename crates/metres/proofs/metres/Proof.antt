@@ -1,4 +1,4 @@
--- `metres::metres`: the cast is exact, the one division is the definition's, and the way back is its law.
+-- `metres::metres` meets its contract: the cast is exact, the one division is the definition's, and reading back is its law.
 use Prim.Native.Nat.{_^_, _≤_, _<_}
 use mathlib.Core.Path.{_≡_, refl, sym, ap, ap₂, _∙_, subst⁻¹}
 use native.Mathlib.Omega.{arith}
@@ -30,7 +30,7 @@ divided : (y z : ℤ) → y ≡ z → div binary64 (ofInt binary64 y) (ofBits bi
 unfolding hundredthOf
 divided y z e = ap₂ (λ (n : ℤ) (x : Float). div binary64 (ofInt binary64 n) x) e hundred-is
 
--- The answer settles both promises.
+-- An answer that keeps the first promise keeps both.
 settled : (z : ℤ) (l : Length) → l ≡ metresOf z → (l ≡ metresOf z) × ReadsBack z l
 settled z l e = (e, subst⁻¹ (ReadsBack z) e (way-back z))
 

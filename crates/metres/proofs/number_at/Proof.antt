@@ -1,4 +1,4 @@
--- `metres::number_at`: the eight bytes as a pattern, and the pattern as a number.
+-- `metres::number_at` meets its contract: the eight bytes are read as a pattern, and the pattern as a number.
 use mathlib.Core.Path.{sym, ap, _∙_}
 use denote.Ref.{now}
 use borrow.Author.Needs.{needs}

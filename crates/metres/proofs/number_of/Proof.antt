@@ -1,4 +1,4 @@
--- `metres::number_of`: what the test lets by is no pattern of NaN, and what it stops is one, as 0.0 / 0.0 is NaN.
+-- `metres::number_of` meets its contract: a pattern that passes the test is not one of NaN; any other is, and 0.0 / 0.0 is NaN.
 use Prim.Native.Nat.{_%_, _^_}
 use mathlib.Core.Path.{_≡_, refl, sym, _∙_, subst⁻¹}
 use mathlib.Core.Bool.{Bool, not}

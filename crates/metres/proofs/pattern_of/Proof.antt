@@ -1,4 +1,4 @@
--- `metres::pattern_of`: NaN alone differs from itself, and its pattern is the definition's.
+-- `metres::pattern_of` meets its contract: only NaN differs from itself, and its pattern is the definition's.
 use mathlib.Core.Path.{_≡_, refl, sym, ap, _∙_, subst⁻¹}
 use lib.Dec.{T}
 use lib.Ieee.{nan, toBits}

@@ -1,4 +1,4 @@
--- `metres::power`: the shifted 1 does not pass the width.
+-- `metres::power` meets its contract: the shifted 1 stays within 64 bits.
 use native.Mathlib.Nat.{one-mul}
 use native.Mathlib.Omega.{arith}
 use mathlib.Core.Path.{_∙_}

@@ -1,4 +1,4 @@
--- `metres::put_number`: the pattern is put, and a number that binary64 holds comes back from its pattern.
+-- `metres::put_number` meets its contract: the pattern is put, and a number that binary64 holds comes back from its pattern.
 use mathlib.Core.Path.{ap, _∙_, subst⁻¹}
 use lib.Dec.{T}
 use mathlib.Core.List.{List}

@@ -1,4 +1,4 @@
--- `metres::rounded`: the quotient, moved up where the remainder says so, is near, and only one number is.
+-- `metres::rounded` meets its contract: the quotient, or the next number if the remainder asks for it, is near, and no other is.
 use Prim.Native.Nat.{ℕ, _+_, _/_, _%_, _*_, _^_, _<_, _≤_}
 use mathlib.Core.Path.{_≡_, ap, _∙_, subst⁻¹}
 use native.Mathlib.Nat.{le-antisymm, mod-lt, div-add-mod', div-le-self, zero-mul}
@@ -9,7 +9,7 @@ use Rattle.metres.proofs.Rounding.{Near, less-than-half, rest-less, res
 use Rattle.metres.proofs.rounded.Statement.{statement}
 use Rattle.metres.proofs.rounded.Tie as tie
 
--- Below 2 ^ 60 parts of at least 2 ^ 62 are less than a half.
+-- Fewer than 2 ^ 60 parts, of which at least 2 ^ 62 make one, are less than a half.
 none : (parts halvings : ℕ) → parts < 2 ^ 60 → 62 ≤ halvings → 0 ≡ closest parts (2 ^ halvings)
 none parts halvings few many =
     let big : 2 ^ 62 ≤ 2 ^ halvings = pow-mono many in

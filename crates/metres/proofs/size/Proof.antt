@@ -1,4 +1,4 @@
--- `metres::size` meets its contract: a number below 0 goes by its neighbour, and any other is its own size.
+-- `metres::size` meets its contract: a number below 0 has 1 added before its sign is turned; any other is its own size.
 use Prim.Native.Nat.{_+_, _^_, _≤_}
 use mathlib.Core.Path.{_≡_, sym, ap, _∙_, subst⁻¹}
 use native.Mathlib.Omega.{arith}
@@ -34,7 +34,7 @@ sub-result c = subst⁻¹ (λ (z : ℤ). SFits w64 (pos 0 -ℤ z)) (neighbour c)
 turned : (c : tie.Then1) → toZ w64 (ofZ w64 (pos 0 -ℤ toZ w64 (ofZ w64 (toZ w64 (ofZ w64 (c .before .args .c)) +ℤ pos 1)))) ≡ pos 0 -ℤ (c .before .args .c +ℤ pos 1)
 turned c = toZ-ofZ w64 _ (sub-result c) ∙ ap (λ (z : ℤ). pos 0 -ℤ z) (neighbour c)
 
--- One more than the turned number's size is the size, and at most 2 ^ 63.
+-- The size is at most 2 ^ 63, so the sum that makes it fits.
 small : (c : tie.Then1) → natAbs (c .before .args .c) ≤ 2 ^ 63
 small c = natAbs-le (c .before .args .c) (c .before .fits .c .sfits)
 

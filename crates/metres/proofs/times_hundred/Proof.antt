@@ -1,4 +1,4 @@
--- `metres::times_hundred`: what is refused by its comparisons, and what the fields of the pattern say of the rest.
+-- `metres::times_hundred` meets its contract: its comparisons refuse what they must, and the fields of the pattern give the rest.
 use mathlib.Core.Path.{subst⁻¹}
 use native.Mathlib.Omega.{arith}
 use lib.Dec.{T, lit≤}
@@ -19,7 +19,7 @@ returns-3 : tie.Need-returns-3
 unfolding ofBits neg
 returns-3 c = refused-below _ _ (c .before .before .before .args .x) (lit≤ tt) (c .if3 .taken)
 
--- What is left when all three tests are passed.
+-- What holds when all three tests are passed.
 module _ (c : tie.Else3) where
   abbrev x : Float
   x = c .before .before .before .args .x

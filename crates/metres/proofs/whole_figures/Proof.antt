@@ -1,4 +1,4 @@
--- `metres::whole_figures`: the definition, case by case.
+-- `metres::whole_figures` meets its contract, case by case.
 use mathlib.Core.Path.{sym, ap, _∙_}
 use lib.IntN.{ℤ}
 use mir.Syntax.{w64}

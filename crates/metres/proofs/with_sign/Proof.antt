@@ -1,4 +1,4 @@
--- `metres::with_sign`: a size below 2 ^ 62 has its negative among the numbers of 64 bits.
+-- `metres::with_sign` meets its contract: the negative of a size below 2 ^ 62 is a signed number of 64 bits.
 use mathlib.Core.Path.{ap, _∙_, sym}
 use mathlib.Core.Bool.{Bool}
 use native.Mathlib.Omega.{arith}

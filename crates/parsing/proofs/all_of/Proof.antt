@@ -1,4 +1,4 @@
--- `parsing::all_of` meets its contract: the bytes of the class at its start are all of it.
+-- `parsing::all_of` meets its contract: all bytes are of the class if the run at the start is the whole text.
 use mathlib.Core.Path.{_≡_}
 use native.Mathlib.Omega.{arith}
 use borrow.Author.Needs.{needs}

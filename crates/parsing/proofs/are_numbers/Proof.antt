@@ -1,4 +1,4 @@
--- `parsing::are_numbers` meets its contract: each turn finds one number more.
+-- `parsing::are_numbers` meets its contract: each turn of the loop finds one more number.
 use Prim.Native.Nat.{ℕ, _-_, _≤_}
 use mathlib.Core.Path.{_≡_, sym, ap, _∙_}
 use mathlib.Core.Bool.{true}

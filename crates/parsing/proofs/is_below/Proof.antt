@@ -1,4 +1,4 @@
--- `parsing::is_below` meets its contract: no word has no sign.
+-- `parsing::is_below` meets its contract: an empty word has no sign.
 use mathlib.Core.Path.{sym, ap}
 use native.Mathlib.Omega.{arith}
 use lib.ListN.{drop-of-length-le}

@@ -1,4 +1,4 @@
--- `parsing::is_draft` meets its contract: the first test that fails decides, and the last one otherwise.
+-- `parsing::is_draft` meets its contract: the first test that fails decides; if all others pass, the last one does.
 use mathlib.Core.Path.{_≡_, sym, ap, _∙_}
 use mathlib.Core.Bool.{true}
 use native.Mathlib.Omega.{arith}
@@ -17,7 +17,7 @@ are-numbers-requires c κs = search needs
 returns : tie.Need-returns
 returns c = rw (sym (c .before .are-numbers .ensures) ∙ not-true _ (c .if1 .taken))
 
--- What the tests before have left.
+-- What is known after the tests before.
 numbers : (c : tie.Else1) → areNumbers 3 (c .before .before .before .args .s .now) ≡ true
 numbers c = sym (c .before .are-numbers .ensures) ∙ not-false _ (c .if1 .left)
 

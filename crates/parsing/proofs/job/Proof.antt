@@ -23,7 +23,7 @@ returns : tie.Need-returns
 unfolding parsedJob
 returns c = rw (sym (c .before .is-line .ensures) ∙ not-true _ (c .if1 .taken))
 
--- What the test before has left, and what the next one tells.
+-- What is known after the test before, and what the next one says.
 is-line-there : (c : tie.Else1) → isLine 5 (c .before .before .before .before .args .line .now) ≡ true
 is-line-there c = sym (c .before .is-line .ensures) ∙ not-false _ (c .if1 .left)
 

@@ -1,4 +1,4 @@
--- `parsing::reading` meets its contract: a size of 63 bits has its negative among the numbers of 64.
+-- `parsing::reading` meets its contract: the negative of a size of 63 bits fits in 64 bits.
 use Prim.Native.Nat.{ℕ, _-_, _^_, _<_}
 use mathlib.Core.Path.{_≡_, sym, ap, ap₂, _∙_}
 use mathlib.Core.List.{List}

@@ -1,4 +1,4 @@
--- `parsing::scan` meets its contract: each turn passes one byte of the class.
+-- `parsing::scan` meets its contract: each turn of the loop passes one byte of the class.
 use Prim.Native.Nat.{_+_, _-_, _≤_}
 use mathlib.Core.Path.{_≡_, sym, _∙_}
 use native.Mathlib.Omega.{arith}

@@ -1,4 +1,4 @@
--- `parsing::size` meets its contract: a minus sign is passed.
+-- `parsing::size` meets its contract: a minus sign is skipped.
 use Prim.Native.Nat.{ℕ}
 use mathlib.Core.Path.{sym, ap, _∙_, subst}
 use mathlib.Core.List.{List}

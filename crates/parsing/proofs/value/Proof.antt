@@ -1,4 +1,4 @@
--- `parsing::value` meets its contract: each turn takes one digit more, up to the one with which the number has more than 64 bits.
+-- `parsing::value` meets its contract: each turn of the loop takes one more digit, until the number has more than 64 bits.
 use Prim.Native.Nat.{ℕ, _+_, _-_, _*_, _^_, _<_}
 use mathlib.Core.Path.{_≡_, sym, ap, _∙_}
 use native.Mathlib.Omega.{arith}

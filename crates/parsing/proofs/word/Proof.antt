@@ -1,4 +1,4 @@
--- `parsing::word` meets its contract: each turn passes one word.
+-- `parsing::word` meets its contract: each turn of the loop passes one word.
 use Prim.Native.Nat.{ℕ, _-_, _≤_}
 use mathlib.Core.Path.{_≡_, sym, ap, _∙_, subst}
 use mathlib.Core.List.{List}
@@ -27,7 +27,7 @@ scan-requires c κs = c .before .loop .inv .0
 scan-requires-2 : tie.Need-scan-requires-2 Inv-loop μ-loop
 scan-requires-2 c κs = omega (arith, c .scan .ensures, scan-within (isOf Blank) (c .before .before .before .before .args .s .now) (c .before .before .loop .at) (c .before .before .loop .inv .0))
 
--- The two scans of a turn, and those behind the last.
+-- The two scans of a turn, and the two after the last turn.
 turned : (c : tie.After-scan2 Inv-loop μ-loop) → Scanned (c .before .before .before .before .before .args .s .now) (c .before .before .before .loop .at) (c .before .scan .result) (c .scan2 .result)
 turned c = record { inside = c .before .before .before .loop .inv .0; to-start = c .before .scan .ensures; to-end = c .scan2 .ensures }
 

@@ -1,4 +1,4 @@
--- `records::chain_count` meets its contract: what is no table is refused, and else the chains are counted.
+-- `records::chain_count` meets its contract: bytes that are not a table are refused, else the chains are counted.
 use mathlib.Core.Path.{sym, _∙_}
 use borrow.Author.Tests.{not-true, not-false}
 use borrow.Author.Needs.{needs}

@@ -1,4 +1,4 @@
--- `records::four` meets its contract: the field is inside, so what stands there is its number.
+-- `records::four` meets its contract: the field lies inside the bytes, so what is read is its number.
 use mathlib.Core.Path.{sym, ap, _∙_}
 use borrow.Author.Needs.{needs}
 use Rattle.records.proofs.ReadLaws.{fourIn, four-inside}

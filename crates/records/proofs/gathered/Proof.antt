@@ -1,4 +1,4 @@
--- `records::gathered` meets its contract: each field is read where it stands.
+-- `records::gathered` meets its contract: each field is read from its own bytes.
 use borrow.Author.Needs.{needs}
 use Rattle.records.proofs.ReadLaws.{raw-same}
 use Rattle.records.proofs.gathered.Statement.{statement}

@@ -1,4 +1,5 @@
--- `records::is_hold` meets its contract: the kind, both numbers by their bits, then the bytes that the other kinds leave out too.
+-- `records::is_hold` meets its contract: the kind, both numbers by their bits, then the bytes that a grid record does not use
+-- either.
 use mathlib.Core.Path.{sym, _∙_}
 use native.Mathlib.Omega.{arith}
 use borrow.Author.Tests.{not-true, not-false}

@@ -14,7 +14,7 @@ use Rattle.records.proofs.GridLaws.{too-far-west, too-far-south, by-siz
 use Rattle.records.proofs.is_place.Statement.{statement}
 use Rattle.records.proofs.is_place.Tie as tie
 
--- The numbers, as the machine reads them back from their bits.
+-- The machine reads the numbers back from their bits.
 back-x : (o : tie.Start) → toZ w64 (ofZ w64 (o .args .x)) ≡ o .args .x
 back-x o = toZ-ofZ w64 (o .args .x) (o .fits .x)
 

@@ -1,4 +1,4 @@
--- `records::is_table` meets its contract: a rest of bytes is told first, then an empty table.
+-- `records::is_table` meets its contract: left-over bytes are tested first, then an empty table.
 use mathlib.Core.Path.{sym}
 use native.Mathlib.Omega.{arith}
 use Rattle.records.proofs.TableLaws.{bytes-over, no-bytes, whole-chains}

@@ -1,4 +1,4 @@
--- `records::job_of` meets its contract: what is well-formed is accepted or not.
+-- `records::job_of` meets its contract: a well-formed job is then accepted or refused.
 use mathlib.Core.Path.{sym, ap, _∙_}
 use borrow.Author.Needs.{needs}
 use Rattle.records.specs.Jobs.{acceptedJob, jobOf}

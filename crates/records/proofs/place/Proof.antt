@@ -1,4 +1,4 @@
--- `records::place` meets its contract: a place in range has small numbers, so they are its sizes.
+-- `records::place` meets its contract: the numbers of a place in range are small, so their sizes fit its fields.
 use Prim.Native.Nat.{ℕ, _≤_}
 use mathlib.Core.Path.{_≡_, sym, ap, ap₂, _∙_}
 use mathlib.Core.Bool.{true}
@@ -16,7 +16,7 @@ use Rattle.records.proofs.GridLaws.{place-small, placed-4, placed-there
 use Rattle.records.proofs.place.Statement.{statement}
 use Rattle.records.proofs.place.Tie as tie
 
--- The two numbers, also as the machine reads them back from their bits.
+-- The two numbers, and that the machine reads them back from their bits.
 abbrev first : tie.After-known-told → ℤ
 first c = c .before .p .given .0 .0
 

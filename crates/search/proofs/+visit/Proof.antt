@@ -1,5 +1,5 @@
--- `search::visit` meets its contract, by the exponent that falls at each call: what holds where the walk stands before a call
--- holds it after, so the four calls follow from each other.
+-- `search::visit` meets its contract, by induction on the exponent, which falls at each call: if tally and list represent the walk
+-- before a call, they represent it after the call, so the four calls follow one another.
 use Prim.Native.Nat.{ℕ, suc, _+_, _-_, _/_, _^_, _<_, _≤_}
 use mathlib.Core.Path.{_≡_, sym, ap, _∙_, subst⁻¹}
 use mathlib.Core.Bool.{true}
@@ -38,7 +38,7 @@ visit-at t = and 1 visit-kinds.ps (is 1 visit-kinds.ps μ-visit t) visit.Pre
 abbrev visit-below : ℕ → In 1 visit-kinds.ps
 visit-below t = and 1 visit-kinds.ps (falls 1 visit-kinds.ps _<_ μ-visit t) visit.Pre
 
--- What the calls ask and give.
+-- What the calls require and promise.
 abbrev claims : ℕ → lts.Claims
 claims t = (
   cell-reads.Asked,
@@ -81,11 +81,11 @@ test-is t c =
     c .near .ensures
     ∙ kept-is (a .k) (a .side) (a .p) (started t e .pre .1 .1) (e .if3 .left) (ruleBy (a .h)) _ (c .before .before .before .north-east .ensures)
 
--- Where the places of all four quarters are made.
+-- From the point where the corners of all four quarters are made, back to where the square is known to be larger than a cell.
 abbrev larger : (t : ℕ) → lts.After-north (claims t) (visit-at t) visit.Post → lts.Else3 (claims t) (visit-at t) visit.Post
 larger t n = n .before .before .before .before .before .before .before
 
--- How far the three lie from the corner.
+-- Where the other three corners lie.
 parts : (t : ℕ) (n : lts.After-north (claims t) (visit-at t) visit.Post) → let a = started t (larger t n) .args in let se = n .before .east .result in let nw = n .north .result in let ne = n .before .before .before .before .before .before .north-east .result in
     (se .easting ≡ a .p .easting + a .side / 2) × (se .northing ≡ a .p .northing) × (nw .easting ≡ a .p .easting) × (nw .northing ≡ a .p .northing + a .side / 2) × (ne .easting ≡ a .p .easting + a .side / 2) × (ne .northing ≡ a .p .northing + a .side / 2)
 parts t n =
@@ -96,7 +96,7 @@ parts t n =
     let ne = n .before .before .before .before .before .before .north-east .ensures in
     (ap easting se, ap northing se, ap easting nw, ap northing nw, ap easting ne, ap northing ne)
 
--- A square of half the side at most half a side from the corner lies on the chart.
+-- A square of half the side, whose corner is at most half a side east and north of p, lies on the chart.
 quarter : (t : ℕ) (n : lts.After-north (claims t) (visit-at t) visit.Post) (o : Place) → let a = started t (larger t n) .args in
     o .easting ≤ a .p .easting + a .side / 2 → o .northing ≤ a .p .northing + a .side / 2 → OnChart (a .k - 1) (a .side / 2) o
 quarter t n o e f =

@@ -1,4 +1,4 @@
--- `search::agrees` meets its contract: the tests are those of Agreeing, one after the other.
+-- `search::agrees` meets its contract: its tests are those of `Agreeing`, one after the other.
 use Prim.Native.Nat.{ℕ, _+_, _-_, _*_, _≤_}
 use mathlib.Core.Path.{_≡_, sym, ap, _∙_}
 use native.Mathlib.Omega.{arith}

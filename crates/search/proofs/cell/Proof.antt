@@ -1,4 +1,4 @@
--- `search::cell` meets its contract: the cell misses, finds the list full, or goes behind the others.
+-- `search::cell` meets its contract: the cell does not match, finds the list full, or is listed after the others.
 use mathlib.Core.Path.{sym, _∙_}
 use native.Mathlib.Omega.{arith}
 use borrow.Author.Needs.{needs}

@@ -1,5 +1,5 @@
--- `search::is_window` meets its contract: an exponent too large decides, then sums that 32 bits do not hold, which are far out
--- of range, and else the cell farthest north-east.
+-- `search::is_window` meets its contract: an exponent that is too large decides; then a sum that does not fit in 32 bits, which is
+-- far out of range; otherwise the cell farthest north-east decides.
 use Prim.Native.Nat.{ℕ, _-_}
 use mathlib.Core.Path.{sym, ap, _∙_}
 use native.Mathlib.Omega.{arith}

@@ -1,5 +1,5 @@
--- `search::near` meets its contract: a first slave that misses decides, and the second otherwise. What the code compares are
--- distances, which the ranges of the definition are.
+-- `search::near` meets its contract: if A's reading is not near, that decides, and otherwise B's reading decides. The code compares
+-- distances, and the ranges of the definition are distances.
 use Prim.Native.Nat.{ℕ}
 use mathlib.Core.Path.{_≡_, sym, ap₂, _∙_}
 use mathlib.Core.Bool.{and-true}
@@ -19,7 +19,7 @@ use Rattle.search.proofs.near.Tie as tie
 agrees-requires : tie.Need-agrees-requires
 agrees-requires c κs = search needs
 
--- The distances at hand make the definition's reading.
+-- The reading made from these distances is the definition's.
 by-distances : (chain : Chain) (slave p : Place) (m slack : ℕ) (wanted : ℤ) → m ≡ distanceOf p (chain .master) →
     leb (differ (subℕ (distanceOf p slave) m) wanted) slack ≡ leb (differ (readingOf chain slave p) wanted) slack
 unfolding readingOf

@@ -1,4 +1,4 @@
--- `search::none_too_large` meets its contract: a first reading too large decides, and the second otherwise.
+-- `search::none_too_large` meets its contract: if the first reading is too large, that decides, and otherwise the second decides.
 use mathlib.Core.Path.{_≡_, ap, _∙_}
 use mathlib.Core.Bool.{and-true}
 use borrow.Author.Needs.{needs}

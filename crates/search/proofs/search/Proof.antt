@@ -1,4 +1,4 @@
--- `search::search` meets its contract: the first test that fails is told with the list cleared, and else the walk's end.
+-- `search::search` meets its contract: it answers with the first test that fails, the list cleared, and else as the walk ends.
 use mathlib.Core.Path.{_≡_, refl, sym, ap, ap₂, _∙_, subst}
 use mathlib.Core.Bool.{true}
 use mathlib.Core.List.{[], _∷_}
@@ -120,7 +120,7 @@ wished-requires c κs = search needs
 wished-requires-2 : tie.Need-wished-requires-2
 wished-requires-2 c κs = search needs
 
--- After all tests.
+-- After all tests are passed.
 abbrev begun : tie.Else4 → tie.Start
 begun c = from (c .before .before .before .before)
 

@@ -1,4 +1,4 @@
--- `search::side_of` meets its contract: 1 moved up by k bits, of which none is lost.
+-- `search::side_of` meets its contract: 1 is shifted up by k bits, and no bit is lost.
 use mathlib.Core.Path.{_∙_}
 use native.Mathlib.Omega.{arith}
 use native.Mathlib.Nat.{one-mul}

@@ -1,4 +1,4 @@
--- `search::squared` meets its contract: in range both squares and their sum fit.
+-- `search::squared` meets its contract: for places in range both squares and their sum fit.
 use Prim.Native.Nat.{ℕ, _+_, _*_, _≤_}
 use mathlib.Core.Path.{ap₂}
 use native.Mathlib.Omega.{arith}

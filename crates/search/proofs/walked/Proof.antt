@@ -1,4 +1,4 @@
--- `search::walked` meets its contract: the walk starts with any list, and its end is told with the list cleared.
+-- `search::walked` meets its contract: the walk may start with any list, and its end is answered with the list cleared.
 use native.Mathlib.Omega.{arith}
 use borrow.Author.Needs.{needs}
 use Rattle.search.specs.Walk.{visit, start}
@@ -17,7 +17,7 @@ visit-requires c κs =
     let start = c .before .before .before in
     (start .pre .0, window-says (start .args .w) (start .pre .1) .1 _ _ (omega arith) (c .side-of .ensures), start .pre .2)
 
--- Where the walk stands when all is visited.
+-- The state of the walk when all is visited.
 held : (c : tie.After-visit) → let a = c .before .before .before .before .args in Holds (visit (questionBy (a .h)) (a .w .k) (a .w .corner) start) (c .visit .result) (c .visit .last .0)
 held c = c .visit .ensures start (start-holds _)
 

@@ -1,4 +1,4 @@
--- `search::wished` meets its contract: the size goes to the side of 0 on which the reading lies.
+-- `search::wished` meets its contract: the size goes to `below` if the reading is below 0, and to `above` if it is not.
 use Prim.Native.Nat.{ℕ}
 use mathlib.Core.Path.{_≡_, sym, ap, ap₂, _∙_}
 use borrow.Author.Needs.{needs}

@@ -1,4 +1,4 @@
--- `shown::put_number_bytes` meets its contract: a number that fills eight bytes is those bytes.
+-- `shown::put_number_bytes` meets its contract: a number put into eight bytes leaves exactly its own bytes there.
 use mathlib.Core.Path.{_≡_, ap, _∙_}
 use native.Mathlib.Omega.{arith}
 use mir.Syntax.{w64}
@@ -18,7 +18,7 @@ use borrow.Author.Needs.{needs}
 use Rattle.shown.proofs.put_number_bytes.Statement.{statement}
 use Rattle.shown.proofs.put_number_bytes.Tie as tie
 
--- The argument, as the machine reads it back from its bits.
+-- Read back from its 64 bits, the argument is the same.
 same : (c : tie.Start) → toZ w64 (ofZ w64 (c .args .z)) ≡ c .args .z
 same c = toZ-ofZ w64 (c .args .z) (c .fits .z)
 

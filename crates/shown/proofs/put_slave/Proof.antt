@@ -1,4 +1,4 @@
--- `shown::put_slave` meets its contract: its five pieces, one behind the other.
+-- `shown::put_slave` meets its contract: its five pieces, one after the other.
 use Prim.Native.Nat.{_≤_}
 use mathlib.Core.Path.{_≡_, ap, subst}
 use mathlib.Core.List.{_∷_, _++_}
@@ -18,7 +18,7 @@ use borrow.Author.Needs.{needs}
 use Rattle.shown.proofs.put_slave.Statement.{statement}
 use Rattle.shown.proofs.put_slave.Tie as tie
 
--- The argument, as the machine reads it back from its bits.
+-- Read back from its 64 bits, the argument is the same.
 same : (c : tie.Start) → toZ w64 (ofZ w64 (c .args .z)) ≡ c .args .z
 same c = toZ-ofZ w64 (c .args .z) (c .fits .z)
 

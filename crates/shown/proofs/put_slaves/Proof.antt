@@ -1,4 +1,4 @@
--- `shown::put_slaves` meets its contract: the one line behind the other.
+-- `shown::put_slaves` meets its contract: one line after the other.
 use Prim.Native.Nat.{_≤_}
 use mathlib.Core.Path.{ap, _∙_, sym, subst}
 use mathlib.Core.List.{[], _++_, append-nil}

@@ -17,7 +17,7 @@ use borrow.Author.Needs.{needs}
 use Rattle.shown.proofs.put_written.Statement.{statement}
 use Rattle.shown.proofs.put_written.Tie as tie
 
--- The argument, as the machine reads it back from its bits.
+-- Read back from its 64 bits, the argument is the same.
 same : (c : tie.Start) → toZ w64 (ofZ w64 (c .args .z)) ≡ c .args .z
 same c = toZ-ofZ w64 (c .args .z) (c .fits .z)
 

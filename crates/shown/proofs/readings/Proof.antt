@@ -1,4 +1,4 @@
--- `shown::readings` meets its contract: the table, the place, then the chain.
+-- `shown::readings` meets its contract: the table is tested first, then the place, then the chain.
 use mathlib.Core.Path.{_≡_, sym, ap, _∙_}
 use borrow.Author.Needs.{needs}
 use borrow.Author.Tests.{not-true, not-false}
@@ -31,7 +31,7 @@ returns c =
 enum-told : tie.Need-enum-told
 enum-told c = search needs
 
--- The table was counted.
+-- The table is accepted: its chains were counted.
 by-count : (c : tie.After-enum-told) → let a = c .before .before .before .before .before .args in byTable (Chains (c .enum-told .given .0 .0)) (a .table .now) (a .chain) (a .place) ≡ expectedIn (a .table .now) (a .chain) (a .place)
 by-count c =
     let a = c .before .before .before .before .before .args in

@@ -1,4 +1,5 @@
--- `text::put_digits` meets its contract, by the number that falls at each call: its tenth's digits, and one more.
+-- `text::put_digits` meets its contract: it puts the digits of a tenth of the number, and one more. It ends, since the number is
+-- smaller at each call.
 use Prim.Native.Nat.{ℕ, _<_}
 use mathlib.Core.Path.{sym, ap, _∙_}
 use native.Mathlib.Omega.{arith}
@@ -25,7 +26,7 @@ abbrev put-digits-below : ℕ → In 1 put-digits-kinds.ps
 put-digits-below t =
     and 1 put-digits-kinds.ps (falls 1 put-digits-kinds.ps _<_ μ-put-digits t) put-digits.Pre
 
--- What the calls ask and give.
+-- What each call requires and what it promises.
 abbrev claims : ℕ → lts.Claims
 claims t = (put-one-reads.Asked, put-one-reads.Learnt, put-digits-below t, put-digits.Post)
 

@@ -1,4 +1,4 @@
--- `text::digit_count` meets its contract: each turn counts one digit and goes on with the tenth.
+-- `text::digit_count` meets its contract: each turn counts one digit and goes on with a tenth of the number.
 use Prim.Native.Nat.{_+_}
 use mathlib.Core.Path.{_≡_, ap}
 use native.Mathlib.Omega.{arith}

@@ -27,7 +27,7 @@ returns c =
     leb-false _ _ (sym (c .before .lies-inside .ensures) ∙ not-true _ (c .if1 .taken)) in
     nothing-promised _ _ _ (omega (arith, few, count .digit-count .ensures .0))
 
--- The room for both.
+-- There is room for the sign and the digits.
 room : (c : tie.Else1) → let start = c .before .before .before .before in start .args .at + (1 + length (digitsOf (start .args .size))) ≤ length (start .args .out .now)
 room c =
     let count = c .before .before in

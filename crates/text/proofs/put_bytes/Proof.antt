@@ -1,4 +1,4 @@
--- `text::put_bytes` meets its contract: without room for two digits a byte nothing changes, and with it they are put.
+-- `text::put_bytes` meets its contract: without room for two digits for each byte nothing changes, and with it they are put.
 use Prim.Native.Nat.{_+_, _≤_, _<_}
 use mathlib.Core.Path.{sym, _∙_}
 use native.Mathlib.Omega.{arith}

@@ -1,4 +1,4 @@
--- `text::put_hex` meets its contract: each turn puts one byte more.
+-- `text::put_hex` meets its contract: each turn puts the digits of one more byte.
 use Prim.Native.Nat.{ℕ, _-_, _*_, _≤_}
 use mathlib.Core.Path.{_≡_, ap, _∙_}
 use mathlib.Core.List.{List}
@@ -18,7 +18,7 @@ Inv-loop out₀ at s end₀ i₀ out end i = Put out₀ at (hexOf (take i s)) ou
 abbrev μ-loop : tie.MeasureT-loop
 μ-loop out₀ at s end₀ i₀ out end i = length s - i
 
--- So many bytes have twice as many digits.
+-- The first `i` bytes have `2 * i` digits.
 twice : (s : List ℕ) (i : ℕ) → i ≤ length s → length (hexOf (take i s)) ≡ 2 * i
 twice s i h = length-hex (take i s) ∙ ap (λ (n : ℕ). 2 * n) (length-take-le i s h)
 

@@ -1,4 +1,4 @@
--- `text::put_whole` meets its contract: the size of the number, behind a minus sign if it is below 0.
+-- `text::put_whole` meets its contract: the size of the number, after a minus sign if it is below 0.
 use Prim.Native.Nat.{ℕ}
 use mathlib.Core.Path.{_≡_, sym, ap, _∙_}
 use mathlib.Core.Bool.{Bool}
@@ -15,7 +15,7 @@ use Rattle.text.proofs.PutLaws.{promised-as}
 use Rattle.text.proofs.put_whole.Statement.{statement}
 use Rattle.text.proofs.put_whole.Tie as tie
 
--- The argument, as the machine reads it back from its bits.
+-- Read back from its 64 bits, the argument is the same.
 same : (c : tie.Start) → toZ w64 (ofZ w64 (c .args .z)) ≡ c .args .z
 same c = toZ-ofZ w64 (c .args .z) (c .fits .z)
 

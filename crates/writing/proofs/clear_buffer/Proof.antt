@@ -1,4 +1,4 @@
--- `writing::clear_buffer` meets its contract: each turn makes one byte more zero.
+-- `writing::clear_buffer` meets its contract: each turn of the loop makes one more byte zero.
 use Prim.Native.Nat.{ℕ, _-_}
 use mathlib.Core.Path.{ap, _∙_}
 use native.Mathlib.Omega.{arith}

@@ -1,4 +1,4 @@
--- `writing::put_chain` meets its contract: three places put into zeros, one behind the other, are the chain.
+-- `writing::put_chain` meets its contract: three places put into zeros, one after the other, are the chain.
 use Prim.Native.Nat.{ℕ}
 use mathlib.Core.Path.{ap, _∙_}
 use mathlib.Core.List.{List}
