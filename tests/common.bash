@@ -1,9 +1,9 @@
-# What the tests share: counting, and running one of target/bin on this machine.
+# What the tests share: counting, and running a program of target/bin on this machine.
 set -euo pipefail
 . bin/program.bash
 passed=0
 
-# pass_if WORDS TEST...: counts the test where it holds, and ends with the words where it does not.
+# pass_if WORDS TEST...: counts the test if it holds, and else prints the words and ends.
 pass_if() {
     local words=$1
     shift

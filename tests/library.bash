@@ -1,20 +1,9 @@
-# How the tests ask the library for C: the harness lay.c over target/staticlib/liblay.a, built here where it is missing or
-# older than what it is made of. To be read behind common.bash.
-library=$repository/target/staticlib/liblay.a
+# How the tests ask the library for C: the harness lay.c over target/staticlib/liblay.a, both built here if they are missing or older
+# than what they are made of. To be read after common.bash.
+. tests/needs.bash
 asking=$repository/target/lay/lay
 
-# It is for x86-64, as the library is; on another machine the compiler has Debian's name for it.
-compiler=gcc
-[ "$(uname -m)" = x86_64 ] || compiler=x86_64-linux-gnu-gcc
-
-# older FILE SOURCE...: that the file is missing, or that something in the sources is newer
-older() {
-    local file=$1
-    shift
-    [ ! -e "$file" ] || [ -n "$(find "$@" -newer "$file" -print -quit)" ]
-}
-
-# quietly COMMAND...: what it says is told only where it fails
+# quietly COMMAND...: prints what it says only if it fails
 quietly() {
     local said
     said=$("$@" 2>&1) || {
@@ -26,12 +15,12 @@ quietly() {
 # One at a time, as two tests may come here at once. Linked statically, the harness needs no loader.
 build_harness() (
     set -e
+    ready_library
     cd "$repository"
     mkdir -p "$(dirname "$asking")"
     exec 9>"$asking.lock"
     flock 9
-    ! older "$library" crates/*/src || quietly rt staticlib lay
-    older "$asking" tests/lay.c crates/lay/lay.h "$library" || return 0
+    [ ! -e "$asking" ] || [ -n "$(find tests/lay.c crates/lay/lay.h "$library" -newer "$asking")" ] || return 0
     quietly "$compiler" -std=c11 -O2 -Wall -Wextra -static -I crates/lay -o "$asking.new" tests/lay.c "$library"
     mv "$asking.new" "$asking"
 )

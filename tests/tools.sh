@@ -1,6 +1,6 @@
 #!/usr/bin/env bash
-# What the desk's tools make of text, arguments and files, against docs/FORMATS.md and document 01, byte by byte, and against
-# the rule (tools.py, rule.py); what they tell where a file cannot be read or written; bin/; and the walk of README.md. A
+# Tests what the desk's tools make of text, arguments and files, against docs/FORMATS.md and document 01, byte by byte, and against
+# the rule (tools.py, rule.py); what they report if a file cannot be read or written; bin/; and the walk of README.md. A
 # seed other than the gate's may be given.
 cd "$(dirname "$0")/.." && . tests/common.bash
 export LC_ALL=C
@@ -47,15 +47,15 @@ ended_well() { [ "$status" -eq 0 ] && [ ! -s "$said" ]; }
 # prints LINES: that these were printed, to the byte, and no others
 prints() { ended_well && cmp -s "$printed" <(printf "${1:+%s\n}" "$1"); }
 
-# refused TOOL NUMBERS...: that these were told, a line each, and nothing was printed; LINE:NUMBER where a line is named
+# refused TOOL NUMBERS...: that these refusals were reported, a line each, and nothing was printed; LINE:NUMBER if a line is named
 refused() {
     local tool=$1 told
     told=$(sed -E "s/^$tool: line ([0-9]+) REFUSED ([0-9]+): [^ ].*/\1:\2/; s/^$tool: REFUSED ([0-9]+): [^ ].*/\1/" "$said")
     [ "$status" -eq 0 ] && [ ! -s "$printed" ] && [ "$told" = "$(printf '%s\n' "${@:2}")" ]
 }
 
-# tells NAME: that it told of NAME in one line, and of nothing else
-tells() { [ "$status" -eq 0 ] && [[ "$(<"$said")" == *"$1"*:?* ]] && [ "$(wc -l <"$said")" -eq 1 ]; }
+# reports NAME: that it reported NAME in one line, and nothing else
+reports() { [ "$status" -eq 0 ] && [[ "$(<"$said")" == *"$1"*:?* ]] && [ "$(wc -l <"$said")" -eq 1 ]; }
 
 # 01's example from text: the files are those of the example, and listed as 01 says.
 fresh
@@ -234,14 +234,14 @@ run laywrite < <(for i in {0..4999}; do echo $((1 + i % 3)) $((1 + i % 16)) $((i
 pass_if "a log of 5,000 records: $(head -n 3 "$said")" ended_well
 pass_if 'a large folder, shown and written again' shown_again
 
-# Help is the same whatever stands behind it.
+# Help is the same whatever comes after it.
 for tool in layjob laychain laywrite layexpect layshow laylist; do
     fresh
     run "$tool" --help </dev/null
     cp "$printed" "$folders/help"
     pass_if "$tool --help is printed" [ -s "$printed" ]
     run "$tool" --help 1 30000 '' </dev/null
-    pass_if "$tool --help with others behind it" cmp -s "$printed" "$folders/help"
+    pass_if "$tool --help with others after it" cmp -s "$printed" "$folders/help"
     pass_if "$tool --help does nothing else" holds
 done
 
@@ -260,13 +260,13 @@ fresh job.dat lay.dat
 run laychain < <(pieces '0 0 300' '00 0 0 4000' '0' $'\n')
 pass_if "a table in pieces: $(head -n 3 "$said")" holds "${files[@]}"
 
-# Files that cannot be read or written. A folder in place of one is told, nothing is printed of it, and nothing else changes.
+# Files that cannot be read or written. A folder in place of one is reported, nothing is printed for it, and nothing else changes.
 while read -r file mark words; do
     fresh "${files[@]}"
     rm "$folder/$file"
     mkdir "$folder/$file"
     give $words
-    pass_if "$words, with a folder $file, tells it: $(head -n 3 "$said")" tells "$file"
+    pass_if "$words, with a folder $file, is reported: $(head -n 3 "$said")" reports "$file"
     pass_if "$words, with a folder $file, prints nothing of it" [ -z "$(grep "^$mark" "$printed")" ]
     pass_if "$words: the folder $file stays" rmdir "$folder/$file"
     cp "$example/$file" "$folder"
@@ -286,7 +286,7 @@ while read -r file words; do
     fresh "${files[@]}"
     ln -sf /proc/self/mem "$folder/$file"
     give $words
-    pass_if "$words, with memory as $file, tells it: $(head -n 3 "$said")" tells "$file"
+    pass_if "$words, with memory as $file, is reported: $(head -n 3 "$said")" reports "$file"
 done <<'END'
 chain.dat layexpect 1 30000 40000
 job.dat layshow
@@ -298,13 +298,13 @@ END
 for tool in laychain laywrite; do
     fresh "${files[@]}"
     run "$tool" </
-    pass_if "$tool of a folder tells it: $(head -n 3 "$said")" tells 'standard input'
+    pass_if "$tool of a folder reports it: $(head -n 3 "$said")" reports 'standard input'
     pass_if "$tool of a folder: the files stay" holds "${files[@]}"
     run "$tool" <&-
     pass_if "$tool without standard input: the files stay" holds "${files[@]}"
 done
 
-# Without standard error nothing that would be told goes to a file instead.
+# Without standard error nothing that would be reported goes to a file instead.
 fresh "${files[@]}"
 (cd "$folder" && program laywrite 2>&- <<<'4 0 0 0 0') || true
 pass_if 'a line refused without standard error' holds "${files[@]}"
@@ -312,10 +312,10 @@ fresh chain.dat job.dat
 (cd "$folder" && program laywrite 2>&- <<<"$records") || true
 pass_if 'lines accepted without standard error' holds "${files[@]}"
 
-# Where no file can be made, as in /proc, that is told.
+# A folder in which no file can be made, as in /proc, is reported.
 while read -r file words; do
     folder=/proc give $words
-    pass_if "$words where no file can be made: $(head -n 3 "$said")" tells "$file"
+    pass_if "$words where no file can be made: $(head -n 3 "$said")" reports "$file"
 done <<'END'
 job.dat layjob 30000 40000 1 0 100
 chain.dat laychain 0 0 30000 0 0 40000
@@ -324,35 +324,35 @@ END
 
 # limited BLOCKS TOOL ARGUMENTS...: runs it where no file may have more than so many times 1,024 bytes
 limited() {
-    local told
+    local reported
     status=0
-    told=$(trap '' XFSZ && cd "$folder" && ulimit -f "$1" && program "${@:2}" 2>&1) || status=$?
-    echo "$told" >"$said"
+    reported=$(trap '' XFSZ && cd "$folder" && ulimit -f "$1" && program "${@:2}" 2>&1) || status=$?
+    echo "$reported" >"$said"
 }
 
-# A file that grows too large is told; job and table stay as they were, and a log is cut back to what it was.
+# A file that grows too large is reported; job and table stay as they were, and a log is cut back to what it was.
 fresh "${files[@]}"
 limited 0 layjob 30000 40000 0 0 1
-pass_if "a job that cannot be written is told: $(head -n 3 "$said")" tells job.dat
+pass_if "a job that cannot be written is reported: $(head -n 3 "$said")" reports job.dat
 limited 0 laychain < <(echo 1 0 30000 0 0 40000)
-pass_if "a table that cannot be written is told: $(head -n 3 "$said")" tells chain.dat
+pass_if "a table that cannot be written is reported: $(head -n 3 "$said")" reports chain.dat
 limited 0 laywrite < <(echo 3 0 3 0 0)
-pass_if "a log that cannot be written is told: $(head -n 3 "$said")" tells lay.dat
+pass_if "a log that cannot be written is reported: $(head -n 3 "$said")" reports lay.dat
 pass_if 'what cannot be written changes nothing' holds "${files[@]}"
 fresh
 head -c 992 /dev/zero >"$folder/lay.dat"
 limited 1 laywrite < <(echo "$records")
-pass_if "a log that ends at its limit is told: $(head -n 3 "$said")" tells lay.dat
+pass_if "a log that ends at its limit is reported: $(head -n 3 "$said")" reports lay.dat
 pass_if 'and has its old length' [ "$(wc -c <"$folder/lay.dat")" -eq 992 ]
 pass_if 'with nothing beside it' [ "$(ls -A "$folder")" = lay.dat ]
 
-# What cannot be printed is told as well.
+# What cannot be printed is reported as well.
 unprinted() {
     status=0
     (cd "$folder" && program "$@") >/dev/full 2>"$said" </dev/null || status=$?
-    pass_if "$* on a full device: $(head -n 3 "$said")" tells 'standard output'
+    pass_if "$* on a full device: $(head -n 3 "$said")" reports 'standard output'
     (cd "$folder" && program "$@" >&-) 2>"$said" </dev/null || status=$?
-    pass_if "$* with standard output closed: $(head -n 3 "$said")" tells 'standard output'
+    pass_if "$* with standard output closed: $(head -n 3 "$said")" reports 'standard output'
 }
 fresh "${files[@]}"
 unprinted layshow
@@ -367,7 +367,7 @@ by_bin() {
     (cd "$folder" && "${bin:-$repository/bin}/$1" "${@:2}") >"$printed" 2>"$said" || status=$?
 }
 
-# By bin/ they do the same, and end with 1 where something was told.
+# By bin/ they do the same, and end with 1 if something was reported.
 fresh
 by_bin layjob 30000 40000 1 0 100
 pass_if "bin/layjob: $(head -n 3 "$said")" prints ''
@@ -410,14 +410,14 @@ pass_if 'bin/layjob passes its arguments on as they are' [ "$status" -eq 1 ]
 by_bin laywrite < <(printf '4 0 0 0 0\n3 0 3 0')
 pass_if 'bin/laywrite ends with 1 where lines are refused' [ "$status" -eq 1 ]
 status=0
-pass_if "bin/laywrite tells each line: $(head -n 3 "$said")" refused laywrite 1:2 2:12
+pass_if "bin/laywrite reports each line: $(head -n 3 "$said")" refused laywrite 1:2 2:12
 pass_if 'refused by bin/, the files stay' holds "${files[@]}"
 
-# walk: takes the commands of a section of README.md and what it shows of each. Commands stand behind four spaces and `$ `, what
-# belongs to them behind four spaces and `> `, and what they print behind four spaces.
+# walk: writes a script of the commands of a section of README.md, and what it shows of each. Commands stand after four spaces and `$ `,
+# what belongs to them after four spaces and `> `, and what they print after four spaces.
 walk() {
     awk -v to="$walked" '
-        /^## / { inside = $0 == "## From text to places" }
+        /^##/ { inside = $0 == "### From text to places" }
         !inside { next }
         /^    \$ / { n++; print "exec >" to "/printed." n " 2>&1" >(to "/script"); print substr($0, 7) >(to "/script"); next }
         /^    >( |$)/ { print substr($0, 7) >(to "/script"); next }
@@ -426,12 +426,15 @@ walk() {
     ' README.md
 }
 walked=$folders/walked
-mkdir -p "$walked/folder"
+mkdir -p "$walked/folder" "$walked/temporary"
 steps=$(walk)
 pass_if 'README.md has a section "From text to places" with commands' [ "$steps" -gt 0 ]
-(cd "$walked/folder" && PATH=$PATH:$repository/bin bash ../script </dev/null)
-for ((n = 1; n <= steps; n++)); do
-    touch "$walked/shown.$n"
-    pass_if "command $n of README.md prints what it shows" diff "$walked/shown.$n" "$walked/printed.$n"
+for time in first second; do
+    (cd "$walked/folder" && TMPDIR=$walked/temporary PATH=$PATH:$repository/bin bash ../script </dev/null)
+    for ((n = 1; n <= steps; n++)); do
+        touch "$walked/shown.$n"
+        pass_if "the $time time, command $n of README.md prints what it shows" diff "$walked/shown.$n" "$walked/printed.$n"
+    done
 done
+pass_if 'nothing is left where it began' [ -z "$(ls -A "$walked/folder")" ]
 done_testing

@@ -1,9 +1,16 @@
 #!/usr/bin/env bash
-# What a reader relies on: the layout, no proof among the definitions, one meaning to a name, and for every public function a full
-# contract with one answer, its row in docs/CONTRACTS.md and its faults.
+# Tests what a reader relies on: the layout, a head in each file, no proof among the definitions, one meaning for a name; for every public
+# function a full contract with one answer, its row in docs/CONTRACTS.md and its faults; and that documents name what there is.
 cd "$(dirname "$0")/.." && . tests/common.bash
 
 pass_if 'every file is in the layout of rt fmt' rt fmt --check
+
+# headed FILE: that it begins with a comment, after a line `#!` if there is one
+headed() { awk '/^#!/ { next } { found = /^(--|\/\/|#|\/\*|""")/; exit } END { exit !found }' "$1"; }
+while read -r file; do
+    pass_if "$file has a head that says what it is for" headed "$file"
+done < <(find .ci bench bin crates crates.txt install second tests -type f -not -path '*/data/*' -not -path '*/target/*' \
+    -not -name stdin -not -name stdout -not -name args -not -name '*.md' -not -name Cargo.lock)
 
 # The words of a proof, outside comments.
 no_proof() { ! grep -vE '^ *--' "$1" | grep -nwE 'omega|refl|rw|simp|cc|subst|ap|absurd'; }
@@ -20,7 +27,7 @@ declared() {
     ' "$@" | sort
 }
 
-# none WORD...: that there is none; else they are told.
+# none WORD...: that there is none; else they are printed.
 none() { [ $# = 0 ] || { echo "$*"; false; }; }
 
 # A reader of a contract knows a definition by its name alone: it means one thing in the whole tree, and no law has it.
@@ -72,6 +79,17 @@ for crate in crates/*/; do
     for function in $rows $(cut -s -d ' ' -f 2- <<<"$there"); do
         pass_if "$name::$function is there" grep -qE "fn $function[(<]" "$crate"/src/*.rt
     done
+done
+
+# docs/ARCHITECTURE.md: two screens, a picture that agrees with crates.txt, and no function or definition that is not there.
+map=docs/ARCHITECTURE.md
+pass_if "$map has 150 lines at most" [ "$(wc -l <$map)" -le 150 ]
+pass_if "$map: the picture" [ "$(python3 tests/picture.py)" -eq "$(ls crates | wc -l)" ]
+for name in $(grep -ohE '\b[a-z_]+::[a-z_]+\b' $map docs/{FORMATS,LIBRARY,DECISIONS,PERFORMANCE}.md README.md | sort -u); do
+    pass_if "$name is there" grep -qE "fn ${name#*::}[(<]" "crates/${name%::*}/src/"*.rt
+done
+for name in $(sed -n 's/^      [|v]  .*  //p' $map | tr -d ',;'); do
+    pass_if "$map: $name is a definition" grep -qx "$name" <<<"$definitions"
 done
 
 # Links of the documents to files of the tree.
