@@ -124,6 +124,7 @@ build_library() {
     ! library_made || return 0
     began=$(date +%s.%N)
     prove_each lay || return
+    echo 'making the library, for which lay is proved once more'
     said=$(rt staticlib lay </dev/null 2>&1) || {
         echo "$said"
         return 1

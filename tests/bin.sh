@@ -14,9 +14,6 @@ run() {
 }
 listed() { [ "$status" -eq 0 ] && cmp -s "$printed" "$example/listing"; }
 
-# ended STATUS WORDS: that it ended so, printed nothing, and said one line with these words
-ended() { [ "$status" -eq "$1" ] && [ ! -s "$printed" ] && [ "$(wc -l <"$said")" -eq 1 ] && grep -qF -e "$2" "$said"; }
-
 # Links to a program, to its folder and to a link, each with a name of its own; copies are of no use, and say so.
 cd "$folders"
 ln -s "$repository/bin" programs

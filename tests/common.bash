@@ -3,6 +3,9 @@ set -euo pipefail
 . bin/program.bash
 passed=0
 
+# A test that is run by itself must not run a program that is older than its source.
+ready $(ls crates/*/src/main.rt | cut -d / -f 2)
+
 # pass_if WORDS TEST...: counts the test if it holds, and else prints the words and ends.
 pass_if() {
     local words=$1
@@ -13,5 +16,15 @@ pass_if() {
     fi
     passed=$((passed + 1))
 }
+
+# What a test may say of a run that left its output in the file $printed, its standard error in $said and its status in `status`:
+# ended_well: that it ended with 0 and said nothing; prints LINES: that it did so and printed exactly these lines;
+# ended STATUS WORDS: that it ended so, printed nothing, and said one line with these words
+ended_well() { [ "$status" -eq 0 ] && [ ! -s "$said" ]; }
+prints() { ended_well && cmp -s "$printed" <(printf "${1:+%s\n}" "$1"); }
+ended() { [ "$status" -eq "$1" ] && [ ! -s "$printed" ] && [ "$(wc -l <"$said")" -eq 1 ] && grep -qF -e "$2" "$said"; }
+
+# links PAGE: the files that a page of the documents links to
+links() { grep -oE '\]\([^)# ]+' "$1" | cut -c 3-; }
 
 done_testing() { echo "$passed passed"; }

@@ -21,11 +21,6 @@ on_desk() {
     status=0
     (cd "$work" && env -i PATH="$desk/bin:$commands" "$@") >"$printed" 2>"$said" || status=$?
 }
-ended_well() { [ "$status" -eq 0 ] && [ ! -s "$said" ]; }
-prints() { ended_well && cmp -s "$printed" <(printf "${1:+%s\n}" "$1"); }
-
-# ended STATUS WORDS: that it ended so, printed nothing, and said one line with these words
-ended() { [ "$status" -eq "$1" ] && [ ! -s "$printed" ] && [ "$(wc -l <"$said")" -eq 1 ] && grep -qF -e "$2" "$said"; }
 
 # Installed into an empty folder, and then moved, as a folder that is taken to another machine is.
 installs "$asked/new/desk"
@@ -77,7 +72,7 @@ quietly "$compiler" -static -I "$desk/include" -o "$asked/places" "$documents/ex
 pass_if 'the installed example in C prints P4' [ "$("${emulator[@]}" "$asked/places" | head -n 1)" = 'refusal 0, 2 places, 5 visits' ]
 pages=0
 while read -r page; do
-    for link in $(grep -oE '\]\([^)# ]+' "$page" | cut -c 3-); do
+    for link in $(links "$page"); do
         pass_if "installed: $page: $link is there" [ -e "$(dirname "$page")/$link" ]
     done
     pages=$((pages + 1))
@@ -117,16 +112,31 @@ pass_if "a full disk ends with 1: $(cat "$said")" [ "$status" -eq 1 ]
 pass_if 'it says that nothing was installed' grep -qxF 'install: nothing was installed, and what was there is unchanged' "$said"
 pass_if 'and the installation that was there stays' same_as_before
 
-# Killed while it puts things together, it leaves a folder that the next one asks about.
-mkdir "$asked/killing"
-printf '#!/bin/sh\nkill -9 $PPID\n' >"$asked/killing/cp"
-chmod +x "$asked/killing/cp"
-PATH=$asked/killing:$PATH installs "$desk"
-pass_if 'an installation that is killed' [ "$status" -eq 137 ]
-installs "$desk"
-pass_if "the next one asks: $(cat "$said")" ended 1 "$desk/.fustianook.new is there: another install is running, or one was cut off"
-rm -r "$desk/.fustianook.new"
-pass_if 'and the installation that was there stays' same_as_before
+# killed_at COMMAND NUMBER: an installation over the one that is there, killed in place of its command of that name and number
+killed_at() {
+    rm -rf "$asked/killing"
+    mkdir "$asked/killing"
+    printf '#!/bin/sh\necho >>"%s/calls"\n[ "$(wc -l <"%s/calls")" -lt %s ] || kill -9 $PPID\nexec "%s" "$@"\n' \
+        "$asked/killing" "$asked/killing" "$2" "$(command -v "$1")" >"$asked/killing/$1"
+    chmod +x "$asked/killing/$1"
+    PATH=$asked/killing:$PATH installs "$desk"
+    pass_if "an installation that is killed at $1 $2" [ "$status" -eq 137 ]
+    installs "$desk"
+    pass_if "the next one asks: $(cat "$said")" ended 1 "$desk/.fustianook.new is there: another install is running, or one was cut off"
+    rm -r "$desk/.fustianook.new"
+}
+
+# While it puts things together, what was there stays; while it moves them, it is whole again once it has been run again.
+for number in 1 5 9; do
+    killed_at cp $number
+    pass_if 'and the installation that was there stays' same_as_before
+done
+for number in 1 2 3 5 8 12; do
+    killed_at mv $number
+    installs "$desk"
+    pass_if "run again: $(cat "$said")" ended_well
+    pass_if 'everything is there' same_as_before
+done
 
 # A machine that is not x86-64: `uname` and the toolchain's folder are stand-ins, and so is the emulator, which just runs what it is given.
 if [ "$(uname -m)" = x86_64 ]; then

@@ -28,11 +28,6 @@ run() {
     (cd "$1" && program laylist) >"$printed" 2>"$said" || status=$?
 }
 
-ended_well() { [ "$status" -eq 0 ] && [ ! -s "$said" ]; }
-
-# prints LINES: tests that exactly these lines were printed, byte by byte, and that nothing went wrong
-prints() { ended_well && cmp -s "$printed" <(printf "${1:+%s\n}" "$1"); }
-
 # listed JOB TABLE LOG LINES: tests that a folder with these files has the listing LINES
 listed() {
     put "$1" "$2" "$3"

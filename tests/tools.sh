@@ -42,11 +42,6 @@ holds() {
     for file; do cmp -s "$folder/$file" "$example/$file" || return 1; done
 }
 
-ended_well() { [ "$status" -eq 0 ] && [ ! -s "$said" ]; }
-
-# prints LINES: that these were printed, to the byte, and no others
-prints() { ended_well && cmp -s "$printed" <(printf "${1:+%s\n}" "$1"); }
-
 # refused TOOL NUMBERS...: that these refusals were reported, a line each, and nothing was printed; LINE:NUMBER if a line is named
 refused() {
     local tool=$1 told

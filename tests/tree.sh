@@ -93,7 +93,6 @@ for name in $(sed -n 's/^      [|v]  .*  //p' $map | tr -d ',;'); do
 done
 
 # Links of the documents to files of the tree.
-links() { grep -oE '\]\([^)# ]+' "$1" | cut -c 3-; }
 while read -r page; do
     for link in $(links "$page"); do
         pass_if "$page: $link is there" [ -e "$(dirname "$page")/$link" ]
