@@ -97,13 +97,19 @@ installs "$desk" "$desk"
 pass_if 'and with two' [ "$status" -eq 2 ]
 installs --help
 pass_if 'help is printed' ended_well
+for name in $(ls "$desk/bin") liblay.a lay.h share/doc/fustianook lib/fustianook; do
+    pass_if "help names $name" grep -qwF -e "$name" "$printed"
+done
 installs "$asked/places"
 pass_if 'a file in place of the folder' ended 1 "$asked/places: this folder cannot be made"
-mkdir -p "$asked/other/bin"
-echo mine >"$asked/other/bin/laylist"
-installs "$asked/other"
-pass_if 'somebody else'"'"'s program of the same name' ended 1 "$asked/other/bin/laylist is there"
-pass_if 'which stays' [ "$(<"$asked/other/bin/laylist")" = mine ]
+for file in bin/laylist include/lay.h lib/liblay.a; do
+    rm -rf "$asked/other"
+    mkdir -p "$asked/other/$(dirname $file)"
+    echo mine >"$asked/other/$file"
+    installs "$asked/other"
+    pass_if "somebody else's $file" ended 1 "$asked/other/$file is there, and was not installed by this; remove it first"
+    pass_if 'which stays, with nothing beside it' [ "$(cd "$asked/other" && find . -type f -exec cat {} +)" = mine ]
+done
 
 # A full disk: no file may have more than 1,000 times 1,024 bytes, which the C library has.
 status=0
