@@ -2,11 +2,11 @@
 -- are refused exactly as the typed numbers would be, whatever their size; and every number that is written is the one that was
 -- typed.
 use Prim.Native.Nat.{ℕ, _+_, _^_, _<_}
-use mathlib.Core.Path.{_≡_, sym, ap, _∙_}
-use mathlib.Core.Bool.{true, _&&_, false≢true}
+use mathlib.Core.Path.{_≡_, refl, sym, ap, _∙_}
+use mathlib.Core.Bool.{Bool, true, false, cond, _&&_, _||_, false≢true}
 use mathlib.Core.List.{List}
 use native.Mathlib.Omega.{arith}
-use borrow.Author.Tests.{ltb-true, lt-ltb}
+use borrow.Author.Tests.{ltb-true}
 use Rattle.chart.specs.declared.Place.{Place}
 use Rattle.chart.specs.declared.Chain.{Chain}
 use Rattle.chart.specs.Places.{inRange}
@@ -14,6 +14,7 @@ use Rattle.chart.specs.Readings.{expectedAt}
 use Rattle.chart.proofs.PlaceLaws.{both}
 use Rattle.records.specs.Bytes.{unless}
 use Rattle.records.specs.declared.Job.{Job}
+use Rattle.records.specs.Jobs.{usualAllowance}
 use Rattle.records.specs.ChainTables.{chainOf}
 use Rattle.writing.specs.declared.Draft.{Draft}
 use Rattle.writing.specs.Writing.{refusalOf, usedOf}
@@ -24,22 +25,25 @@ use Rattle.parsing.specs.declared.ParsedJob.the-variants as job
 use Rattle.parsing.specs.declared.ParsedChain.the-variants as chain
 use Rattle.parsing.specs.declared.ParsedDraft.the-variants as draft
 use Rattle.parsing.specs.declared.ParsedQuestion.the-variants as question
-use Rattle.parsing.specs.Words.{wordAt}
-use Rattle.parsing.specs.Numbers.{isBelow, isReading, areNumbers, noWord, isLine, valueAt, fits, held, sizeAt, readingAt}
-use Rattle.parsing.specs.Parsed.{parsedJob, parsedChain, isDraft, parsedDraft, parsedQuestion}
+use Rattle.parsing.specs.declared.Form.the-variants as form
+use Rattle.parsing.specs.Words.{wordAt, noWord, isPassed}
+use Rattle.parsing.specs.Numbers.{isNumber, isBelow, fits, valueAt, lengthAt, held, sizeAt, readingAt}
+use Rattle.parsing.specs.Forms.{wordsOf, takenFor, isTaken, isForm}
+use Rattle.parsing.specs.Parsed.{allowanceIn, parsedJob, parsedChain, parsedDraft, parsedQuestion}
+use Rattle.parsing.proofs.Forms.{form-word}
 use Rattle.parsing.proofs.Held.{heldPlace, held-in-range, heldChain, held-signed}
 use Rattle.parsing.proofs.HeldRecords.{heldJob, job-refused, job-kept, chain-refused, chain-kept, heldDraft, draft-refused, used-kept, draft-kept, named-held, expected-held}
 
 -- What a line says, whatever the size of its numbers.
 abbrev pub placeTyped : List ℕ → ℕ → Place
-placeTyped s i = record { easting = valueAt s i; northing = valueAt s (i + 1) }
+placeTyped s i = record { easting = lengthAt s i; northing = lengthAt s (i + 1) }
 
 abbrev pub jobTyped : List ℕ → Job
 jobTyped s =
     record {
       window = record { corner = placeTyped s 0; k = valueAt s 2 };
-      tolerance = valueAt s 3;
-      allowance = valueAt s 4;
+      tolerance = lengthAt s 3;
+      allowance = allowanceIn s;
     }
 
 abbrev pub chainTyped : List ℕ → Chain
@@ -55,16 +59,28 @@ draftTyped s =
       y = readingAt s 4;
     }
 
--- The line number of a draft fits its field.
-line-fits : (s : List ℕ) → isDraft s ≡ true → valueAt s 2 < 2 ^ 32
+-- The line number of a draft and the allowance of a job fit their fields.
+line-fits : (s : List ℕ) → isForm form.Draft s ≡ true → valueAt s 2 < 2 ^ 32
+unfolding takenFor isTaken wordsOf
 line-fits s h =
-    let x = both (areNumbers 3 s) _ h .1 in
-    let y = both (isReading (wordAt 3 s)) _ x .1 in
-    let rest = both (isReading (wordAt 4 s)) _ y .1 in
-    ltb-true (valueAt s 2) (2 ^ 32) (both (noWord 5 s) (fits 32 (valueAt s 2)) rest .1)
+    let word = form-word form.Draft s 2 h (omega arith) in
+    ltb-true (valueAt s 2) (2 ^ 32) (both (isNumber (wordAt 2 s)) (fits 32 (valueAt s 2)) word .1)
+
+allowance-fits : (s : List ℕ) → isForm form.Job s ≡ true → allowanceIn s < 2 ^ 64
+unfolding takenFor isTaken wordsOf
+allowance-fits s h = go (noWord 4 s) (form-word form.Job s 4 h (omega arith))
+  where
+    go : (t : Bool) → (t || (isNumber (wordAt 4 s) && fits 64 (valueAt s 4))) ≡ true → cond t usualAllowance (valueAt s 4) < 2 ^ 64
+    go true e = omega arith
+    go false e = ltb-true (valueAt s 4) (2 ^ 64) (both (isNumber (wordAt 4 s)) (fits 64 (valueAt s 4)) e .1)
+
+-- A line that stands for something is not passed over.
+spoken : {A : Type 0} (p : Bool) {over rest r : A} → (over ≡ r → ⊥) → cond p over rest ≡ r → (p ≡ false) × (rest ≡ r)
+spoken true never e = absurd (never e)
+spoken false never e = (refl, e)
 
 -- A line's draft has the typed numbers as their fields hold them.
-pub draft-line : (s : List ℕ) → parsedDraft s ≡ unless (isDraft s) (draft.Refused 12) (draft.Draft (heldDraft (draftTyped s)))
+pub draft-line : (s : List ℕ) → parsedDraft s ≡ cond (isPassed s) draft.Passed (unless (isForm form.Draft s) (draft.Refused 12) (draft.Draft (heldDraft (draftTyped s))))
 unfolding parsedDraft
 draft-line s = rw (held-signed (isBelow (wordAt 3 s)) (sizeAt s 3), held-signed (isBelow (wordAt 4 s)) (sizeAt s 4))
 
@@ -74,9 +90,9 @@ pub job-as-typed : (bytes : ℕ) (s : List ℕ) (j : Job) → parsedJob s ≡ jo
     (jobRefusalOf bytes j ≡ jobRefusalOf bytes (jobTyped s)) × (jobRefusalOf bytes j ≡ 0 → j ≡ jobTyped s)
 unfolding parsedJob
 job-as-typed bytes s j e =
-    let form = passed (isLine 5 s && fits 64 (valueAt s 4)) (λ f. false≢true (cc)) e in
-    let same : j ≡ heldJob (jobTyped s) = cc (form .1) in
-    let small = ltb-true _ _ (both (isLine 5 s) (fits 64 (valueAt s 4)) (form .0) .1) in
+    let of = passed (isForm form.Job s) (λ f. false≢true (cc)) e in
+    let same : j ≡ heldJob (jobTyped s) = cc (of .1) in
+    let small = allowance-fits s (of .0) in
     let refused = ap (jobRefusalOf bytes) same ∙ job-refused bytes (jobTyped s) in
     (refused, λ accepted. same ∙ job-kept bytes (jobTyped s) small (sym refused ∙ accepted))
 
@@ -85,8 +101,9 @@ pub chain-as-typed : (bytes : ℕ) (s : List ℕ) (c : Chain) → parsedChain s 
     (chainRefusalOf bytes c ≡ chainRefusalOf bytes (chainTyped s)) × (chainRefusalOf bytes c ≡ 0 → c ≡ chainTyped s)
 unfolding parsedChain
 chain-as-typed bytes s c e =
-    let form = passed (isLine 6 s) (λ f. false≢true (cc)) e in
-    let same : c ≡ heldChain (chainTyped s) = cc (form .1) in
+    let said = spoken (isPassed s) (λ f. false≢true (cc)) e in
+    let of = passed (isForm form.Chain s) (λ f. false≢true (cc)) (said .1) in
+    let same : c ≡ heldChain (chainTyped s) = cc (of .1) in
     let refused = ap (chainRefusalOf bytes) same ∙ chain-refused bytes (chainTyped s) in
     (refused, λ accepted. same ∙ chain-kept bytes (chainTyped s) (sym refused ∙ accepted))
 
@@ -94,31 +111,31 @@ chain-as-typed bytes s c e =
 pub draft-as-typed : (bytes : ℕ) (s : List ℕ) (d : Draft) → parsedDraft s ≡ draft.Draft d →
     (refusalOf bytes d ≡ refusalOf bytes (draftTyped s)) × (refusalOf bytes d ≡ 0 → usedOf d ≡ usedOf (draftTyped s))
 draft-as-typed bytes s d e =
-    let form = passed (isDraft s) (λ f. false≢true (cc)) (sym (draft-line s) ∙ e) in
-    let same : d ≡ heldDraft (draftTyped s) = cc (form .1) in
+    let said = spoken (isPassed s) (λ f. false≢true (cc)) (sym (draft-line s) ∙ e) in
+    let of = passed (isForm form.Draft s) (λ f. false≢true (cc)) (said .1) in
+    let same : d ≡ heldDraft (draftTyped s) = cc (of .1) in
     let refused = ap (refusalOf bytes) same ∙ draft-refused bytes (draftTyped s) in
-    (refused, λ accepted. ap usedOf same ∙ draft-kept bytes (draftTyped s) (line-fits s (form .0)) (sym refused ∙ accepted))
+    (refused, λ accepted. ap usedOf same ∙ draft-kept bytes (draftTyped s) (line-fits s (of .0)) (sym refused ∙ accepted))
 
 -- The other way: a line of the right form whose numbers the writer accepts is read as these numbers; for a draft, as the
 -- numbers that its kind uses.
-pub job-taken : (bytes : ℕ) (s : List ℕ) → isLine 5 s ≡ true → valueAt s 4 < 2 ^ 64 → jobRefusalOf bytes (jobTyped s) ≡ 0 →
+pub job-taken : (bytes : ℕ) (s : List ℕ) → isForm form.Job s ≡ true → jobRefusalOf bytes (jobTyped s) ≡ 0 →
     parsedJob s ≡ job.Job (jobTyped s)
 unfolding parsedJob
-job-taken bytes s line small accepted =
-    rw (line, lt-ltb (valueAt s 4) (2 ^ 64) small) (ap job.Job (job-kept bytes (jobTyped s) small accepted))
+job-taken bytes s line accepted = rw line (ap job.Job (job-kept bytes (jobTyped s) (allowance-fits s line) accepted))
 
-pub chain-taken : (bytes : ℕ) (s : List ℕ) → isLine 6 s ≡ true → chainRefusalOf bytes (chainTyped s) ≡ 0 →
+pub chain-taken : (bytes : ℕ) (s : List ℕ) → isPassed s ≡ false → isForm form.Chain s ≡ true → chainRefusalOf bytes (chainTyped s) ≡ 0 →
     parsedChain s ≡ chain.Chain (chainTyped s)
 unfolding parsedChain
-chain-taken bytes s line accepted = rw line (ap chain.Chain (chain-kept bytes (chainTyped s) accepted))
+chain-taken bytes s said line accepted = rw (said, line) (ap chain.Chain (chain-kept bytes (chainTyped s) accepted))
 
-pub draft-taken : (bytes : ℕ) (s : List ℕ) (d : Draft) → isDraft s ≡ true → draftTyped s ≡ usedOf d → refusalOf bytes d ≡ 0 →
+pub draft-taken : (bytes : ℕ) (s : List ℕ) (d : Draft) → isPassed s ≡ false → isForm form.Draft s ≡ true → draftTyped s ≡ usedOf d → refusalOf bytes d ≡ 0 →
     parsedDraft s ≡ draft.Draft (usedOf d)
 unfolding usedOf
-draft-taken bytes s d form typed accepted =
+draft-taken bytes s d said of typed accepted =
     let line : valueAt s 2 ≡ d .line = ap (λ (e : Draft). e .line) typed in
     draft-line s
-    ∙ rw form (ap draft.Draft (ap heldDraft typed ∙ used-kept bytes d (omega (arith, line-fits s form)) accepted))
+    ∙ rw (said, of) (ap draft.Draft (ap heldDraft typed ∙ used-kept bytes d (omega (arith, line-fits s of)) accepted))
 
 -- A line that is read as a question: its number names the same chain of a table as the typed number, whatever its size; and at
 -- its place a chain has the same readings, or the same refusal, as at the typed place.
@@ -128,10 +145,10 @@ pub question-as-typed : (table s : List ℕ) (number : ℕ) (p : Place) → pars
     × ((c : Chain) → expectedAt c p ≡ expectedAt c (placeTyped s 1))
 unfolding parsedQuestion
 question-as-typed table s number p e =
-    let form = passed (isLine 3 s) (λ f. false≢true (cc)) e in
-    let n : number ≡ held 32 (valueAt s 0) = cc (form .1) in
-    let place : p ≡ heldPlace (placeTyped s 1) = cc (form .1) in (
+    let of = passed (isForm form.Question s) (λ f. false≢true (cc)) e in
+    let n : number ≡ held 32 (valueAt s 0) = cc (of .1) in
+    let place : p ≡ heldPlace (placeTyped s 1) = cc (of .1) in (
       ap (chainOf table) n ∙ named-held table (valueAt s 0),
-      ap inRange place ∙ held-in-range 32 (valueAt s 1) (valueAt s 2) (omega arith),
+      ap inRange place ∙ held-in-range 32 (lengthAt s 1) (lengthAt s 2) (omega arith),
       λ c. ap (expectedAt c) place ∙ expected-held c (placeTyped s 1),
     )

@@ -3,7 +3,11 @@ mod Scans
 mod Values
 mod Lines
 pub mod WordLaws
-pub mod NumberLaws
+mod NumberLaws
+pub mod Lengths
+pub mod Forms
+pub mod TypedLaws
 mod Held
 pub mod HeldRecords
+pub mod FaultLaws
 pub mod Fields

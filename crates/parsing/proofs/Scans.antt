@@ -8,9 +8,10 @@ use native.Mathlib.Numerals.{add-one}
 use lib.ListN.{length, getD, take, drop, drop-of-length-le, length-drop}
 use lib.Seq.{drop-cons, drop-drop}
 use Rattle.parsing.specs.declared.Class.the-variants as class
-use Rattle.parsing.specs.Words.{run, areAll, isInLine, isBlank, isInWord, fromWord, firstWord, behindWord, wordAt}
+use Rattle.parsing.specs.Words.{run, areAll, isInLine, isBlank, isInWord, fromWord, firstWord, behindWord, wordAt, startAt, Spans}
 use Rattle.parsing.specs.Numbers.{isDigit}
-use Rattle.parsing.specs.Scanning.{isOf, Spans}
+use Rattle.parsing.specs.Forms.{isNoPoint}
+use Rattle.parsing.specs.Scanning.{isOf}
 
 -- The run from i on is one longer than the run from i + 1 on if the byte at i passes the test. It is empty if the byte does
 -- not, or if the text has ended.
@@ -51,6 +52,10 @@ blank-class s = refl
 pub word-class : (s : List ℕ) → run (isOf class.InWord) s ≡ run isInWord s
 unfolding isOf
 word-class s = refl
+
+pub point-class : (s : List ℕ) → run (isOf class.NoPoint) s ≡ run isNoPoint s
+unfolding isOf
+point-class s = refl
 
 pub all-digits : (s : List ℕ) → areAll (isOf class.Digit) s ≡ areAll isDigit s
 unfolding isOf
@@ -103,6 +108,40 @@ pub word-next : (i : ℕ) (s : List ℕ) → 0 < i → wordAt i s ≡ wordAt (i 
 unfolding wordAt
 word-next zero s h = absurd (omega arith)
 word-next (suc i) s h = let one-less : i ≡ suc i - 1 = omega arith in ap (λ (n : ℕ). wordAt n (behindWord s)) one-less
+
+-- So is the place where it starts, after the bytes up to there.
+pub start-next : (i : ℕ) (s : List ℕ) → 0 < i → startAt i s ≡ (length s - length (behindWord s)) + startAt (i - 1) (behindWord s)
+unfolding startAt
+start-next zero s h = absurd (omega arith)
+start-next (suc i) s h =
+    let one-less : i ≡ suc i - 1 = omega arith in
+    ap (λ (n : ℕ). (length s - length (behindWord s)) + startAt n (behindWord s)) one-less
+
+pub start-first : (i : ℕ) (s : List ℕ) → i ≡ 0 → startAt i s ≡ run isBlank s
+unfolding startAt
+start-first zero s h = refl
+start-first (suc i) s h = absurd (omega arith)
+
+-- A turn of the scan over a word: the place where the word after `left` others starts, from `at` on and from `end` on.
+pub scanned-start-at : {s : List ℕ} {at start end : ℕ} (left : ℕ) → Scanned s at start end → 0 < left →
+    end + startAt (left - 1) (drop end s) ≡ at + startAt left (drop at s)
+scanned-start-at {s} {at} {start} {end} left h some =
+    let behind = scanned-behind h in
+    let next = start-next left (drop at s) some in
+    let rest : startAt (left - 1) (behindWord (drop at s)) ≡ startAt (left - 1) (drop end s) = ap (startAt (left - 1)) behind in
+    let shorter : length (behindWord (drop at s)) ≡ length (drop end s) = ap length behind in
+    omega (
+      arith,
+      next,
+      rest,
+      shorter,
+      length-drop at s,
+      length-drop end s,
+      scanned-end h,
+      h .to-start,
+      h .to-end,
+      h .inside,
+    )
 
 pub word-first : (i : ℕ) (s : List ℕ) → i ≡ 0 → wordAt i s ≡ firstWord s
 unfolding wordAt

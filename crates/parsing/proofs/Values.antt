@@ -37,6 +37,20 @@ sized-small n h = rw (lt-ltb n (2 ^ 64) h)
 pub sized-large : (n : ℕ) → 2 ^ 64 ≤ n → sizedOf n ≡ Large
 sized-large n h = rw (le-ltb n (2 ^ 64) h)
 
+pub sized-value : (n m : ℕ) → sizedOf n ≡ Value m → n ≡ m
+sized-value n m e = go (ltb n (2 ^ 64)) refl e
+  where
+    go : (t : Bool) → ltb n (2 ^ 64) ≡ t → sizedOf n ≡ Value m → n ≡ m
+    go true f e = let same : Value n ≡ Value m = rw f at e in cc same
+    go false f e = let never : Large ≡ Value m = rw f at e in absurd (let z : _≡_ {A = ℕ} 0 1 = cc never in omega arith)
+
+pub sized-over : (n : ℕ) → sizedOf n ≡ Large → 2 ^ 64 ≤ n
+sized-over n e = go (ltb n (2 ^ 64)) refl e
+  where
+    go : (t : Bool) → ltb n (2 ^ 64) ≡ t → sizedOf n ≡ Large → 2 ^ 64 ≤ n
+    go true f e = let never : Value n ≡ Large = rw f at e in absurd (let z : _≡_ {A = ℕ} 0 1 = cc never in omega arith)
+    go false f e = ltb-false n (2 ^ 64) f
+
 -- So a field of at most 64 bits holds the same of it as of the number itself.
 pub held-sized : (bits n : ℕ) → 2 ^ bits ≤ 2 ^ 64 → heldIn bits (sizedOf n) ≡ held bits n
 unfolding heldTo

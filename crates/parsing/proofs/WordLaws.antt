@@ -5,7 +5,7 @@ use mathlib.Core.Bool.{Bool, true, false}
 use mathlib.Core.List.{List, [], _∷_, _++_, append-nil, append-assoc}
 use native.Mathlib.Omega.{arith}
 use borrow.Author.Tests.{not-true}
-use lib.ListN.{length, getD, take, drop}
+use lib.ListN.{length, getD, take, drop, length-append}
 use lib.Seq.{take-at, drop-at}
 use Rattle.parsing.specs.Words.{run, isBlank, isInWord, fromWord, firstWord, behindWord, wordAt}
 
@@ -49,6 +49,14 @@ run-front such [] rest h = omega arith
 run-front such (b ∷ bs) rest h =
     let first = run-first such b bs h in
     rw (first .0) (omega (arith, run-front such bs rest (first .1)))
+
+-- A word and bytes that are no blanks, one after the other, are a word.
+pub word-joined : (w v : List ℕ) → IsWord w → run isInWord v ≡ length v → IsWord (w ++ v)
+word-joined w v h e =
+    record {
+      some = omega (arith, h .some, length-append w v);
+      whole = run-front isInWord w v (h .whole) ∙ omega (arith, e, length-append w v);
+    }
 
 pub run-all : (such : ℕ → Bool) (w : List ℕ) → ((i : ℕ) → i < length w → such (getD w i 0) ≡ true) → run such w ≡ length w
 unfolding run

@@ -1,13 +1,14 @@
 -- What a line stands for: a job, a chain, the draft of a log record, a question for expected readings (docs/FORMATS.md, Text).
 -- A line of another form is refused with 12, the number that 02 gives to such text.
 use Prim.Native.Nat.{ℕ, _+_}
-use mathlib.Core.Bool.{Bool, _&&_}
+use mathlib.Core.Bool.{cond}
 use mathlib.Core.List.{List}
 use Rattle.chart.specs.declared.Place.{Place}
 use Rattle.chart.specs.declared.Chain.{Chain}
 use Rattle.search.specs.declared.Window.{Window}
 use Rattle.records.specs.declared.Job.{Job}
 use Rattle.records.specs.Bytes.{unless}
+use Rattle.records.specs.Jobs.{usualAllowance}
 use Rattle.writing.specs.declared.Draft.{Draft}
 use Rattle.parsing.specs.declared.ParsedJob.{ParsedJob}
 use Rattle.parsing.specs.declared.ParsedJob.the-variants as job
@@ -17,37 +18,42 @@ use Rattle.parsing.specs.declared.ParsedDraft.{ParsedDraft}
 use Rattle.parsing.specs.declared.ParsedDraft.the-variants as draft
 use Rattle.parsing.specs.declared.ParsedQuestion.{ParsedQuestion}
 use Rattle.parsing.specs.declared.ParsedQuestion.the-variants as question
-use Rattle.parsing.specs.Words.{wordAt}
-use Rattle.parsing.specs.Numbers.{isReading, areNumbers, noWord, isLine, valueAt, fits, held, heldReading}
+use Rattle.parsing.specs.declared.Form.the-variants as form
+use Rattle.parsing.specs.Words.{noWord, isPassed}
+use Rattle.parsing.specs.Numbers.{valueAt, lengthAt, held, heldReading}
+use Rattle.parsing.specs.Forms.{isForm}
 
 -- The place in the words i and i + 1.
 abbrev pub placeIn : List ℕ → ℕ → Place
-placeIn s i = record { easting = held 32 (valueAt s i); northing = held 32 (valueAt s (i + 1)) }
+placeIn s i = record { easting = held 32 (lengthAt s i); northing = held 32 (lengthAt s (i + 1)) }
 
 -- The window in the first three words.
 abbrev pub windowIn : List ℕ → Window
 windowIn s = record { corner = placeIn s 0; k = held 32 (valueAt s 2) }
 
--- A job: E N K T ALLOWANCE. The allowance may be any number of 64 bits.
+-- The allowance in the fifth word, or the usual one if it is missing.
+abbrev pub allowanceIn : List ℕ → ℕ
+allowanceIn s = cond (noWord 4 s) usualAllowance (valueAt s 4)
+
+-- A job: E N K T and, if it is not the usual one, ALLOWANCE.
 unfoldable pub parsedJob : List ℕ → ParsedJob
 parsedJob s =
-    unless (isLine 5 s && fits 64 (valueAt s 4)) (job.Refused 12)
+    unless (isForm form.Job s) (job.Refused 12)
     (job.Job
-    (record { window = windowIn s; tolerance = held 32 (valueAt s 3); allowance = held 64 (valueAt s 4) }))
+    (record { window = windowIn s; tolerance = held 32 (lengthAt s 3); allowance = held 64 (allowanceIn s) }))
 
--- A chain: easting and northing of master, A and B.
+-- A chain: easting and northing of master, A and B. A blank line or one that begins with # stands for nothing.
 unfoldable pub parsedChain : List ℕ → ParsedChain
 parsedChain s =
-    unless (isLine 6 s) (chain.Refused 12)
-    (chain.Chain (record { master = placeIn s 0; a = placeIn s 2; b = placeIn s 4 }))
+    cond (isPassed s) chain.Passed
+    (unless (isForm form.Chain s) (chain.Refused 12)
+    (chain.Chain (record { master = placeIn s 0; a = placeIn s 2; b = placeIn s 4 })))
 
--- A log record: kind chain line x y. The line number may be any number of 32 bits.
-abbrev pub isDraft : List ℕ → Bool
-isDraft s = areNumbers 3 s && (isReading (wordAt 3 s) && (isReading (wordAt 4 s) && (noWord 5 s && fits 32 (valueAt s 2))))
-
+-- A log record: kind chain line x y. A blank line or one that begins with # stands for nothing.
 unfoldable pub parsedDraft : List ℕ → ParsedDraft
 parsedDraft s =
-    unless (isDraft s) (draft.Refused 12)
+    cond (isPassed s) draft.Passed
+    (unless (isForm form.Draft s) (draft.Refused 12)
     (draft.Draft
     (record {
       kind = held 32 (valueAt s 0);
@@ -55,8 +61,9 @@ parsedDraft s =
       line = held 32 (valueAt s 2);
       x = heldReading s 3;
       y = heldReading s 4;
-    }))
+    })))
 
 -- A question: CHAIN E N.
 unfoldable pub parsedQuestion : List ℕ → ParsedQuestion
-parsedQuestion s = unless (isLine 3 s) (question.Refused 12) (question.Question (held 32 (valueAt s 0)) (placeIn s 1))
+parsedQuestion s =
+    unless (isForm form.Question s) (question.Refused 12) (question.Question (held 32 (valueAt s 0)) (placeIn s 1))

@@ -1,16 +1,13 @@
 -- What the private functions that scan a line promise each other. No public contract uses it.
-use Prim.Native.Nat.{ℕ, _-_, _^_, _≤_, min}
-use mathlib.Core.Path.{_≡_}
+use Prim.Native.Nat.{ℕ, _-_, _^_, min}
 use mathlib.Core.Bool.{Bool, true, false, cond}
-use mathlib.Core.List.{List}
-use lib.ListN.{length, take, drop}
 use Rattle.parsing.specs.declared.Class.{Class}
 use Rattle.parsing.specs.declared.Class.the-variants as class
 use Rattle.parsing.specs.declared.Sized.{Sized}
 use Rattle.parsing.specs.declared.Sized.the-variants as sized
-use Rattle.parsing.specs.declared.Span.{Span}
 use Rattle.parsing.specs.Words.{isInLine, isBlank, isInWord}
 use Rattle.parsing.specs.Numbers.{isDigit, fits}
+use Rattle.parsing.specs.Forms.{isNoPoint}
 
 -- Whether a byte is of a class.
 unfoldable pub isOf : Class → ℕ → Bool
@@ -18,6 +15,7 @@ isOf class.InLine b = isInLine b
 isOf class.Blank b = isBlank b
 isOf class.InWord b = isInWord b
 isOf class.Digit b = isDigit b
+isOf class.NoPoint b = isNoPoint b
 
 -- A number of at most 64 bits, or that it is larger.
 abbrev pub sizedOf : ℕ → Sized
@@ -39,9 +37,3 @@ heldIn bits n = heldTo (2 ^ bits - 1) n
 unfoldable pub fitsIn : ℕ → Sized → Bool
 fitsIn bits (sized.Value n) = fits bits n
 fitsIn bits sized.Large = false
-
--- The span p of the line s has the bytes w.
-pub record Spans (s : List ℕ) (w : List ℕ) (p : Span) : Type 0 where
-  pub rises : p .start ≤ p .end
-  pub inside : p .end ≤ length s
-  pub word : take (p .end - p .start) (drop (p .start) s) ≡ w

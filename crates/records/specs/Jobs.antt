@@ -17,6 +17,10 @@ use Rattle.records.specs.ChainTables.{placeAt}
 abbrev pub jobBytes : ℕ
 jobBytes = 32
 
+-- The allowance of a job that names none: a search under it makes at most this many visits.
+abbrev pub usualAllowance : ℕ
+usualAllowance = 1000000
+
 -- The fields of a job as its bytes give them, valid or not.
 abbrev pub jobIn : List ℕ → Job
 jobIn s =

@@ -96,6 +96,9 @@ pub const MOST_CHAINS: usize = 16;
 
 pub const TABLE_BYTES: usize = MOST_CHAINS * CHAIN_BYTES;
 
+// The allowance of a job that names none: the most visits that a search under it makes.
+pub const USUAL_ALLOWANCE: u64 = 1_000_000;
+
 // The raw log record in 32 bytes.
 pub fn raw_record(s: &[u8]) -> RawAnswer
     ensures { λ r. ⌜ r ≡ rawRecordOf (now (s .entry)) ⌝ }

@@ -67,7 +67,7 @@ struct Tally {
     visits: u64,
 }
 
-const MOST_EXPONENT: u32 = 24;
+pub const MOST_EXPONENT: u32 = 24;
 
 const MOST_READING: u64 = 1_000_000_000;
 

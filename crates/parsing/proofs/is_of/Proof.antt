@@ -28,6 +28,9 @@ enum-told-4 c = search needs
 is-digit-requires : tie.Need-is-digit-requires
 is-digit-requires c κs = search needs
 
+enum-told-5 : tie.Need-enum-told-5
+enum-told-5 c = search needs
+
 returns : tie.Need-returns
 unfolding isOf
 returns c = sym (ap (λ (k : Class). isOf k (c .before .before .args .b)) (c .enum-told .given .1))
@@ -44,6 +47,10 @@ returns-4 : tie.Need-returns-4
 unfolding isOf
 returns-4 c = c .is-digit .ensures ∙ sym (ap (λ (k : Class). isOf k (c .before .before .before .args .b)) (c .before .enum-told4 .given .1))
 
+returns-5 : tie.Need-returns-5
+unfolding isOf
+returns-5 c = sym (ap (λ (k : Class). isOf k (c .before .before .args .b)) (c .enum-told5 .given .1))
+
 pub is-of-spec : {M : Type 1} → statement M
 is-of-spec =
     tie.close
@@ -55,7 +62,9 @@ is-of-spec =
     is-blank-requires-2
     enum-told-4
     is-digit-requires
+    enum-told-5
     returns
     returns-2
     returns-3
-    returns-4)
+    returns-4
+    returns-5)

@@ -8,7 +8,7 @@ word-requires : tie.Need-word-requires
 word-requires c κs = search needs
 
 returns : tie.Need-returns
-returns c = span-empty (c .before .word .ensures)
+returns c = span-empty (c .before .word .ensures .0)
 
 pub no-word-spec : {M : Type 1} → statement M
 no-word-spec = tie.close (tie.spec word-requires returns)

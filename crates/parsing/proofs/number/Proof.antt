@@ -24,7 +24,7 @@ value-requires : tie.Need-value-requires
 value-requires c κs = search needs
 
 returns : tie.Need-returns
-returns c = c .value .ensures ∙ ap (λ (w : List ℕ). sizedOf (numeral w)) (c .before .before .word .ensures .word)
+returns c = c .value .ensures ∙ ap (λ (w : List ℕ). sizedOf (numeral w)) (c .before .before .word .ensures .0 .word)
 
 pub number-spec : {M : Type 1} → statement M
 number-spec =

@@ -10,12 +10,12 @@ use borrow.Author.Needs.{needs}
 use Rattle.parsing.proofs.question.Statement.{statement}
 use Rattle.parsing.proofs.question.Tie as tie
 
-is-line-requires : tie.Need-is-line-requires
-is-line-requires c κs = search needs
+is-form-requires : tie.Need-is-form-requires
+is-form-requires c κs = search needs
 
 returns : tie.Need-returns
 unfolding parsedQuestion
-returns c = rw (sym (c .before .is-line .ensures) ∙ not-true _ (c .if1 .taken))
+returns c = rw (sym (c .before .is-form .ensures) ∙ not-true _ (c .if1 .taken))
 
 number-requires : tie.Need-number-requires
 number-requires c κs = search needs
@@ -33,9 +33,9 @@ returns-2 c =
     let line = number .before in
     let s = line .before .before .before .args .line .now in
     let told = held-told 32 (valueAt s 0) (omega arith) (c .before .as-32 .ensures) (number .number .ensures) in
-    rw (sym (line .before .is-line .ensures) ∙ not-false _ (line .if1 .left)) (ap₂ Question told (c .place .ensures))
+    rw (sym (line .before .is-form .ensures) ∙ not-false _ (line .if1 .left)) (ap₂ Question told (c .place .ensures))
 
 pub question-spec : {M : Type 1} → statement M
 question-spec =
     tie.close
-    (tie.spec is-line-requires returns number-requires as-32-requires place-requires returns-2)
+    (tie.spec is-form-requires returns number-requires as-32-requires place-requires returns-2)

@@ -7,11 +7,10 @@ use lib.IntN.{pos, _-ℤ_}
 use mir.Syntax.{w64}
 use mir.Val.{toZ}
 use mir.ValLaws.{toZ-pos, toZ-ofZ}
-use Rattle.text.specs.Texts.{numeral}
 use Rattle.metres.specs.Metres.{signed}
 use Rattle.metres.proofs.Negatives.{minus-is, minus-fits}
 use Rattle.parsing.specs.Words.{wordAt}
-use Rattle.parsing.specs.Numbers.{isBelow, held, sizeAt}
+use Rattle.parsing.specs.Numbers.{centimetresIn, isBelow, held, sizeAt}
 use Rattle.parsing.specs.Scanning.{sizedOf}
 use Rattle.parsing.proofs.Values.{held-told, held-within}
 use borrow.Author.Needs.{needs}
@@ -36,29 +35,29 @@ is-below-requires c κs = search needs
 size-requires : tie.Need-size-requires
 size-requires c κs = search needs
 
-sub-value : tie.Need-sub-value
-sub-value c = search needs
+sub-centimetres : tie.Need-sub-centimetres
+sub-centimetres c = search needs
 
-part-value-start : tie.Need-part-value-start
-part-value-start c = search needs
+part-centimetres-start : tie.Need-part-centimetres-start
+part-centimetres-start c = search needs
 
-part-value-end : tie.Need-part-value-end
-part-value-end c = search needs
+part-centimetres-end : tie.Need-part-centimetres-end
+part-centimetres-end c = search needs
 
-value-requires : tie.Need-value-requires
-value-requires c κs = search needs
+centimetres-requires : tie.Need-centimetres-requires
+centimetres-requires c κs = search needs
 
 as-63-requires : tie.Need-as-63-requires
 as-63-requires c κs = search needs
 
 -- The number in 63 bits, and the word's sign.
 small : (c : tie.After-as-63) → c .as-63 .result < 2 ^ 63
-small c = omega (arith, c .as-63 .ensures, held-within (2 ^ 63 - 1) (c .before .value .result))
+small c = omega (arith, c .as-63 .ensures, held-within (2 ^ 63 - 1) (c .before .centimetres .result))
 
 number : (c : tie.After-as-63) → c .as-63 .result ≡ held 63 (sizeAt (c .before .before .before .before .before .before .before .before .args .s .now) (c .before .before .before .before .before .before .before .before .args .i))
 number c =
     let size = c .before .before .before in
-    held-told 63 _ (omega arith) (c .as-63 .ensures) (c .before .value .ensures ∙ ap (λ (w : List ℕ). sizedOf (numeral w)) (size .size .ensures .word))
+    held-told 63 _ (omega arith) (c .as-63 .ensures) (c .before .centimetres .ensures ∙ ap (λ (w : List ℕ). sizedOf (centimetresIn w)) (size .size .ensures .word))
 
 cast-n : tie.Need-cast-n
 cast-n c = record { sfits = small c }
@@ -66,7 +65,7 @@ cast-n c = record { sfits = small c }
 sign : (c : tie.After-as-63) → c .before .before .before .before .is-below .result ≡ isBelow (wordAt (c .before .before .before .before .before .before .before .before .args .i) (c .before .before .before .before .before .before .before .before .args .s .now))
 sign c =
     let call = c .before .before .before .before in
-    call .is-below .ensures ∙ ap isBelow (call .before .before .word .ensures .word)
+    call .is-below .ensures ∙ ap isBelow (call .before .before .word .ensures .0 .word)
 
 sub-result : tie.Need-sub-result
 sub-result c = minus-fits (c .before .as-63 .result) (small (c .before))
@@ -93,10 +92,10 @@ reading-spec =
     part-is-below-end
     is-below-requires
     size-requires
-    sub-value
-    part-value-start
-    part-value-end
-    value-requires
+    sub-centimetres
+    part-centimetres-start
+    part-centimetres-end
+    centimetres-requires
     as-63-requires
     cast-n
     sub-result

@@ -4,7 +4,7 @@ use mathlib.Core.Path.{sym, ap, _∙_, subst}
 use mathlib.Core.List.{List}
 use borrow.Author.Tests.{not-true, not-false}
 use Rattle.parsing.specs.Numbers.{isBelow}
-use Rattle.parsing.specs.Scanning.{Spans}
+use Rattle.parsing.specs.Words.{Spans}
 use Rattle.parsing.proofs.Lines.{span-behind-sign, size-plain}
 use borrow.Author.Needs.{needs}
 use Rattle.parsing.proofs.size.Statement.{statement}
@@ -29,7 +29,7 @@ returns : tie.Need-returns
 returns c =
     let call = c .before in
     let there = call .before .before in
-    let told = there .word .ensures in
+    let told = there .word .ensures .0 in
     let plain = size-plain _ (ap isBelow (sym (told .word)) ∙ sym (call .is-below .ensures) ∙ not-true _ (c .if1 .taken)) in
     subst (λ (w : List ℕ). Spans (there .before .before .args .s .now) w (record { start = there .word .result .start; end = there .word .result .end })) (sym plain) told
 
@@ -39,7 +39,7 @@ add-t8 c = search needs
 returns-2 : tie.Need-returns-2
 returns-2 c =
     let call = c .before in
-    let told = call .before .before .word .ensures in
+    let told = call .before .before .word .ensures .0 in
     span-behind-sign told (ap isBelow (sym (told .word)) ∙ sym (call .is-below .ensures) ∙ not-false _ (c .if1 .left))
 
 pub size-spec : {M : Type 1} → statement M
