@@ -1,6 +1,6 @@
 -- What comes next in a text, according to whether it has bytes and a newline; and that a line that comes next is in the buffer.
 use Prim.Native.Nat.{ℕ, _+_, _-_, _≤_, _<_, min}
-use mathlib.Core.Bool.{Bool, true, false, cond, _||_}
+use mathlib.Core.Bool.{Bool, true, false, cond}
 use mathlib.Core.List.{List, [], _∷_, _++_}
 use mathlib.Core.Logic.{inl, inr}
 use mathlib.Core.Path.{_≡_, refl, sym, ap, _∙_, subst, subst⁻¹}
@@ -9,7 +9,8 @@ use borrow.Author.Tests.{ltb-true, lt-ltb, le-ltb}
 use denote.Enum.Declared.{tagOf}
 use lib.Dec.{ltb}
 use lib.ListN.{length, take, drop, length-take, length-drop}
-use lib.Seq.{take-at}
+use lib.Seq.{take-at, take-take}
+use borrow.Rule.Slice.PartMut.{putMid, take-put}
 use types.Run.{OneOf}
 use Rattle.parsing.specs.Words.{run, isInLine}
 use Rattle.files.specs.Input.{between, hasNewline, nextIn, atEnd, Comes, failed, read, IsRead, isThere, NextBy, IsNext}
@@ -50,34 +51,27 @@ module _ (b : List ℕ) (from to : ℕ) (inside : to ≤ length b) where
       let e : ltb from to ≡ false = le-ltb from to none in
       ap (λ (t : Bool). cond t input.Cut input.End) (sym e) ∙ next-without (omega arith)
 
--- Nothing more needs to be read if the text has a whole line, or if it ends before the buffer does; and in no other case.
-or-true : (t : Bool) → t || true ≡ true
-or-true true = refl
-or-true false = refl
-
 -- Text without a newline is not a line.
 never-without : (t : Bool) {start end stop : ℕ} → input.Line start end stop ≡ cond t input.Cut input.End → ⊥
 never-without true e = let z : _≡_ {A = ℕ} 0 1 = cc in omega arith
 never-without false e = let z : _≡_ {A = ℕ} 0 1 = cc in omega arith
 
-pub last-there : (b : List ℕ) (from to : ℕ) → to < length b → isThere b from to ≡ true
-last-there b from to h = ap (λ (t : Bool). hasNewline (between from to b) || t) (lt-ltb to (length b) h) ∙ or-true (hasNewline (between from to b))
-
+-- Nothing more needs to be read if a line comes next, and in no other case.
 pub line-there : (b : List ℕ) (from to : ℕ) {start end stop : ℕ} → input.Line start end stop ≡ nextIn b from to → isThere b from to ≡ true
 unfolding nextIn
 line-there b from to {start} {end} {stop} e = go (hasNewline (between from to b)) e
   where
-    go : (t : Bool) → input.Line start end stop ≡ cond t (input.Line from (from + newlineIn b from to) to) (without from to) → t || ltb to (length b) ≡ true
+    go : (t : Bool) → input.Line start end stop ≡ cond t (input.Line from (from + newlineIn b from to) to) (without from to) → t ≡ true
     go true same = refl
     go false same = absurd (never-without (ltb from to) same)
 
-pub not-there : (b : List ℕ) (from to : ℕ) → length b ≤ to → ((end : ℕ) → nextIn b from to ≡ input.Line from end to → ⊥) → isThere b from to ≡ false
+pub not-there : (b : List ℕ) (from to : ℕ) → ((end : ℕ) → nextIn b from to ≡ input.Line from end to → ⊥) → isThere b from to ≡ false
 unfolding nextIn
-not-there b from to h never = go (hasNewline (between from to b)) never
+not-there b from to never = go (hasNewline (between from to b)) never
   where
-    go : (t : Bool) → ((end : ℕ) → cond t (input.Line from (from + newlineIn b from to) to) (without from to) ≡ input.Line from end to → ⊥) → t || ltb to (length b) ≡ false
+    go : (t : Bool) → ((end : ℕ) → cond t (input.Line from (from + newlineIn b from to) to) (without from to) ≡ input.Line from end to → ⊥) → t ≡ false
     go true none = absurd (none (from + newlineIn b from to) refl)
-    go false none = le-ltb to (length b) h
+    go false none = refl
 
 -- So what comes next is in the text that is there, or in what is read.
 pub next-there : (b : List ℕ) (from to stop : ℕ) {r : Input} → stop ≡ min to (length b) → isThere b from stop ≡ true → r ≡ nextIn b from stop → IsNext b from to b r
@@ -90,16 +84,19 @@ next-read b from to stop {now} {r} same none e =
     subst (λ (n : ℕ). NextBy (isThere b from n) b from n now r) same
     (subst⁻¹ (λ (t : Bool). NextBy t b from stop now r) none e)
 
+-- What is read after the first `kept` bytes leaves them as they are.
+pub keeps-front : (kept end k : ℕ) (b more first : List ℕ) → kept ≤ end → end ≤ length b → take kept b ≡ first → take kept (putMid end k b more) ≡ first
+keeps-front kept end k b more first few fits same = sym (take-take kept end (putMid end k b more) few) ∙ ap (take kept) (take-put end k b more fits) ∙ take-take kept end b few ∙ same
+
 -- The text that was kept is at the front, whatever is read after it.
-pub is-read : (b : List ℕ) (from to kept : ℕ) (moved rest : List ℕ) {r : Input} → kept ≡ length (between from to b) → moved ≡ between from to b ++ drop kept b →
-    length (take kept moved ++ rest) ≡ length b → Comes kept (take kept moved ++ rest) r → IsRead b from to (take kept moved ++ rest) r
-is-read b from to kept moved rest {r} size now same comes =
+pub is-read : (b : List ℕ) (from to kept : ℕ) (moved now : List ℕ) {r : Input} → kept ≡ length (between from to b) → moved ≡ between from to b ++ drop kept b →
+    take kept now ≡ take kept moved → length now ≡ length b → Comes kept now r → IsRead b from to now r
+is-read b from to kept moved now {r} size front first same comes =
     let text = between from to b in
-    let here : take kept moved ≡ text = ap (take kept) now ∙ take-at text (drop kept b) kept (sym size) in
     record {
       size = same;
-      front = ap (λ (l : List ℕ). take (length text) (l ++ rest)) here ∙ take-at text rest (length text) refl;
-      comes = subst (λ (n : ℕ). Comes n (take kept moved ++ rest) r) size comes;
+      front = ap (λ (n : ℕ). take n now) (sym size) ∙ first ∙ ap (take kept) front ∙ take-at text (drop kept b) kept (sym size);
+      comes = subst (λ (n : ℕ). Comes n now r) size comes;
     }
 
 -- If a line comes next or reading failed, `atEnd` is `other`; and what holds for both `there` and `other` holds for `atEnd`.

@@ -1,12 +1,12 @@
 -- The result of opening a file, from the tests that the code makes.
 use Prim.Native.Nat.{ℕ, _≤_}
 use mathlib.Core.Bool.{Bool, true, false, cond}
-use mathlib.Core.Path.{_≡_, refl, sym, ap, subst⁻¹}
+use mathlib.Core.Path.{_≡_, refl, sym, ap, subst, subst⁻¹}
 use native.Mathlib.Omega.{arith}
 use borrow.Author.Tests.{leb-false, ne-eqb}
-use lib.Dec.{eqb}
+use lib.Dec.{T, eqb}
 use lib.IntN.{ℤ, pos, negsuc}
-use lib.Signed.{leZ}
+use lib.Signed.{leZ, ltZ, nonNeg}
 use mir.Syntax.{w32}
 use mir.Val.{ofZ}
 use Rattle.files.specs.Answers.{openedBy, notOpened, IsOpen, filledBytes, noBytes, IsStarted}
@@ -38,6 +38,14 @@ pub is-open : (file error : ℤ) → IsOpen (openedBy file error)
 is-open (pos n) error = tt
 is-open (negsuc n) (pos m) = is-open-by (eqb m 2)
 is-open (negsuc n) (negsuc m) = tt
+
+-- The same for a fresh file; and what is below 0 is not a descriptor.
+pub is-descriptor : (file : ℤ) → ltZ file (pos 0) ≡ false → T (nonNeg file)
+is-descriptor (pos n) h = tt
+is-descriptor (negsuc n) h = let z : _≡_ {A = ℕ} 0 1 = cc in absurd (omega arith)
+
+pub not-below : (file : ℤ) → ltZ file (pos 0) ≡ false → nonNeg file ≡ false → ⊥
+not-below file h below = subst T below (is-descriptor file h)
 
 -- The start of a missing file, and of one that could not be opened.
 pub missing-started : {file : Opened} (room : ℕ) → file ≡ opened.Missing → IsStarted file room noBytes

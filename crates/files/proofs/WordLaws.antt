@@ -41,17 +41,17 @@ one-more-word n s w ws some h =
     subst (λ (k : ℕ). AreWords k (s ++ (32 ∷ w))) count (more m s w (subst (λ (k : ℕ). AreWords k s) e ws) h)
 
 -- The first word is put into a line.
-pub puts-first : (before now : List ℕ) (r : Words) (n end : ℕ) → end ≡ 0 → PutsWord before 0 now r → AreWords n (take end before) → IsLineOf (n + 1) now r
-puts-first before now (words.Line e) n end start puts ws =
+pub puts-first : (before now : List ℕ) (r : Words) (n end i : ℕ) → end ≡ 0 → PutsWord before 0 i now r → AreWords n (take end before) → n ≡ i - 1 → IsLineOf (n + 1) now r
+puts-first before now (words.Line e) n end i start puts ws which =
     let same : e - 0 ≡ e = omega arith in
     let count : 1 ≡ n + 1 = omega (arith, words-none ws (ap (λ (k : ℕ). length (take k before)) start)) in
     (puts .0, subst (λ (k : ℕ). AreWords k (take e now)) count (one (take e now) (ap (λ (k : ℕ). isOneWord (take k now)) (sym same) ∙ puts .1 .1)))
-puts-first before now words.Unfit n end start puts ws = tt
-puts-first before now words.Helped n end start puts ws = puts
+puts-first before now (words.Unfit k) n end i start puts ws which = omega (arith, puts, which)
+puts-first before now words.Helped n end i start puts ws which = puts
 
 -- A further word is put, after a space.
-pub puts-next : (before now : List ℕ) (r : Words) (n end : ℕ) → 0 < end → end < length before → PutsWord (set before end 32) (end + 1) now r → AreWords n (take end before) → IsLineOf (n + 1) now r
-puts-next before now (words.Line e) n end some room puts ws =
+pub puts-next : (before now : List ℕ) (r : Words) (n end i : ℕ) → 0 < end → end < length before → PutsWord (set before end 32) (end + 1) i now r → AreWords n (take end before) → n ≡ i - 1 → IsLineOf (n + 1) now r
+puts-next before now (words.Line e) n end i some room puts ws which =
     let w = take (e - (end + 1)) (drop (end + 1) now) in
     let behind : end + 1 + (e - (end + 1)) ≡ e = omega (arith, word-size w (puts .1 .1), length-take (e - (end + 1)) (drop (end + 1) now)) in
     let spaced : take (end + 1) now ≡ take end before ++ (32 ∷ []) =
@@ -62,14 +62,14 @@ puts-next before now (words.Line e) n end some room puts ws =
     ∙ sym (take-add (end + 1) (e - (end + 1)) now)
     ∙ ap (λ (k : ℕ). take k now) behind in
     (puts .0, subst (AreWords (n + 1)) line (one-more-word n (take end before) w ws (omega (arith, length-take-le end before (omega arith))) (puts .1 .1)))
-puts-next before now words.Unfit n end some room puts ws = tt
-puts-next before now words.Helped n end some room puts ws = puts
+puts-next before now (words.Unfit k) n end i some room puts ws which = omega (arith, puts, which)
+puts-next before now words.Helped n end i some room puts ws which = puts
 
 -- What holds for the arguments, whether or not help is asked for.
 pub given-line : (asked : Bool) (line : List ℕ) (r : Words) → IsGiven asked line r → IsArguments line r
 given-line true line r same = subst⁻¹ (IsArguments line) same tt
 given-line false line (words.Line n) given = (given .1 .0, (given .0, given .1 .1))
-given-line false line words.Unfit given = tt
+given-line false line (words.Unfit i) given = tt
 given-line false line words.Helped given = tt
 
 -- The line of the arguments ends within its buffer.
@@ -79,5 +79,5 @@ line-inside line r given is = subst (IsArguments line) is given .0
 -- In a buffer of one byte it has at most one byte.
 pub is-spare : (line : List ℕ) (r : Words) → length line ≡ 1 → IsArguments line r → IsSpare r
 is-spare line (words.Line n) size given = omega (arith, given .0, size)
-is-spare line words.Unfit size given = tt
+is-spare line (words.Unfit i) size given = tt
 is-spare line words.Helped size given = tt

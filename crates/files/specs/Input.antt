@@ -1,6 +1,6 @@
 -- What comes next in a text that is read into a buffer (docs/FORMATS.md, Text).
 use Prim.Native.Nat.{ℕ, _+_, _-_, _≤_, min}
-use mathlib.Core.Bool.{Bool, true, false, cond, _||_}
+use mathlib.Core.Bool.{Bool, true, false, cond}
 use mathlib.Core.List.{List}
 use mathlib.Core.Path.{_≡_}
 use lib.Dec.{ltb}
@@ -42,9 +42,9 @@ pub record IsRead (before : List ℕ) (from to : ℕ) (now : List ℕ) (r : Inpu
   pub front : take (length (between from to before)) now ≡ between from to before
   pub comes : Comes (length (between from to before)) now r
 
--- Nothing more needs to be read: the text has a whole line, or it ends before the buffer does, so it is the last.
+-- Nothing more needs to be read: the text has a whole line.
 abbrev pub isThere : List ℕ → ℕ → ℕ → Bool
-isThere buffer from to = hasNewline (between from to buffer) || ltb to (length buffer)
+isThere buffer from to = hasNewline (between from to buffer)
 
 abbrev pub NextBy : Bool → List ℕ → ℕ → ℕ → List ℕ → Input → Type 0
 NextBy true before from to now r = (now ≡ before) × (r ≡ nextIn before from to)

@@ -17,7 +17,7 @@ same-length : tie.Need-same-length
 same-length c = search needs
 
 returns : tie.Need-returns
-returns c = given-line (c .before .before .before .before .asks-help .result) (c .before .before .words-of .last .1 .0) (c .before .before .words-of .result) (c .before .before .words-of .ensures)
+returns c = given-line (c .before .before .before .before .asks-help .result) (c .before .before .words-of .last .1 .1 .0) (c .before .before .words-of .result) (c .before .before .words-of .ensures)
 
 pub arguments-spec : {M : Type 1} → statement M
 arguments-spec =

@@ -11,7 +11,7 @@ arguments-requires : tie.Need-arguments-requires
 arguments-requires c κs = search needs
 
 returns : tie.Need-returns
-returns c = is-spare (c .before .arguments .last .0) (c .before .arguments .result) (c .before .arguments .kept .0) (c .before .arguments .ensures)
+returns c = is-spare (c .before .arguments .last .1 .0) (c .before .arguments .result) (c .before .arguments .kept .1 .0) (c .before .arguments .ensures)
 
 pub no-arguments-spec : {M : Type 1} → statement M
 no-arguments-spec = tie.close (tie.spec slice-aggregate-arguments arguments-requires returns)

@@ -14,14 +14,14 @@ enum-known-words c = search needs
 returns : tie.Need-returns
 returns c = search needs
 
-refused-requires : tie.Need-refused-requires
-refused-requires c κs = search needs
+refused-argument-requires : tie.Need-refused-argument-requires
+refused-argument-requires c κs = search needs
 
 enum-told : tie.Need-enum-told
 enum-told c = search needs
 
-refused-requires-2 : tie.Need-refused-requires-2
-refused-requires-2 c κs = search needs
+refused-argument-requires-2 : tie.Need-refused-argument-requires-2
+refused-argument-requires-2 c κs = search needs
 
 enum-told-2 : tie.Need-enum-told-2
 enum-told-2 c = search needs
@@ -30,7 +30,7 @@ returns-2 : tie.Need-returns-2
 returns-2 c =
     let line = c .before .before .before .words .given in
     let some : eqb (line .0 .0) 0 ≡ false = ne-eqb (line .0 .0) 0 (c .before .if1 .left) in
-    c .refused .ensures ∙ sym (ap noneGiven (line .1) ∙ some)
+    c .refused-argument .ensures ∙ sym (ap noneGiven (line .1) ∙ some)
 
 returns-3 : tie.Need-returns-3
 returns-3 c = search needs
@@ -44,9 +44,9 @@ none-given-spec =
     (tie.spec
     enum-known-words
     returns
-    refused-requires
+    refused-argument-requires
     enum-told
-    refused-requires-2
+    refused-argument-requires-2
     enum-told-2
     returns-2
     returns-3

@@ -13,27 +13,27 @@ use Rattle.files.proofs.opened_by.Tie as tie
 
 returns : tie.Need-returns
 returns c =
-    let same = toZ-ofZ w32 (c .before .before .args .file) (c .before .before .fits .file) in
-    ap opened.File same ∙ is-file (c .before .before .args .file) (c .before .before .args .error) (rw same at (c .if1 .taken))
+    let same = toZ-ofZ w32 (c .before .before .before .args .file) (c .before .before .before .fits .file) in
+    ap opened.File same ∙ is-file (c .before .before .before .args .file) (c .before .before .before .args .error) (rw same at (c .if1 .taken))
 
 -- What opening returned is not a descriptor.
-not-file : (c : tie.Else1) → notOpened (c .before .before .args .error) ≡ openedBy (c .before .before .args .file) (c .before .before .args .error)
+not-file : (c : tie.Else1) → notOpened (c .before .before .before .args .error) ≡ openedBy (c .before .before .before .args .file) (c .before .before .before .args .error)
 not-file c =
-    let same = toZ-ofZ w32 (c .before .before .args .file) (c .before .before .fits .file) in
-    no-file (c .before .before .args .file) (c .before .before .args .error) (rw same at (c .if1 .left))
+    let same = toZ-ofZ w32 (c .before .before .before .args .file) (c .before .before .before .fits .file) in
+    no-file (c .before .before .before .args .file) (c .before .before .before .args .error) (rw same at (c .if1 .left))
 
 returns-2 : tie.Need-returns-2
 returns-2 c =
-    let a = c .before .before .before .args in
-    let same = toZ-ofZ w32 (a .error) (c .before .before .before .fits .error) in
+    let a = c .before .before .before .before .args in
+    let same = toZ-ofZ w32 (a .error) (c .before .before .before .before .fits .error) in
     let two : a .error ≡ pos 2 = sym same ∙ ap (toZ w32) (c .if2 .taken) in
     ap notOpened (sym two) ∙ not-file (c .before)
 
-fail-requires : tie.Need-fail-requires
-fail-requires c κs = search needs
+failed-requires : tie.Need-failed-requires
+failed-requires c κs = search needs
 
 returns-3 : tie.Need-returns-3
-returns-3 c = other-error (c .before .before .before .before .args .error) (c .before .if2 .left) ∙ not-file (c .before .before)
+returns-3 c = other-error (c .before .before .before .before .before .args .error) (c .before .if2 .left) ∙ not-file (c .before .before)
 
 pub opened-by-spec : {M : Type 1} → statement M
-opened-by-spec = tie.close (tie.spec returns returns-2 fail-requires returns-3)
+opened-by-spec = tie.close (tie.spec returns returns-2 failed-requires returns-3)

@@ -7,52 +7,44 @@ use Rattle.files.proofs.replace.Tie as tie
 returns : tie.Need-returns
 returns c = search needs
 
-create-requires : tie.Need-create-requires
-create-requires c κs = search needs
+begin-requires : tie.Need-begin-requires
+begin-requires c κs = search needs
 
-fail-requires : tie.Need-fail-requires
-fail-requires c κs = search needs
+enum-known-file : tie.Need-enum-known-file
+enum-known-file c = search needs
+
+enum-told : tie.Need-enum-told
+enum-told c = search needs
 
 returns-2 : tie.Need-returns-2
 returns-2 c = search needs
 
-written-requires : tie.Need-written-requires
-written-requires c κs = search needs
+write-requires : tie.Need-write-requires
+write-requires c κs = search needs
 
-unlink-requires : tie.Need-unlink-requires
-unlink-requires c κs = search needs
+give-up-requires : tie.Need-give-up-requires
+give-up-requires c κs = search needs
 
 returns-3 : tie.Need-returns-3
 returns-3 c = search needs
 
-rename-requires : tie.Need-rename-requires
-rename-requires c κs = search needs
-
-fail-requires-2 : tie.Need-fail-requires-2
-fail-requires-2 c κs = search needs
-
-unlink-requires-2 : tie.Need-unlink-requires-2
-unlink-requires-2 c κs = search needs
+finish-requires : tie.Need-finish-requires
+finish-requires c κs = search needs
 
 returns-4 : tie.Need-returns-4
-returns-4 c = search needs
-
-returns-5 : tie.Need-returns-5
-returns-5 c = λ e. let none : ⊥ = omega (arith, c .before .before .before .before .before .before .if1 .left) in absurd none
+returns-4 c = λ e. let none : ⊥ = omega (arith, c .before .before .before .before .before .before .before .if1 .left) in absurd none
 
 pub replace-spec : {M : Type 1} → statement M
 replace-spec =
     tie.close
     (tie.spec
     returns
-    create-requires
-    fail-requires
+    begin-requires
+    enum-known-file
+    enum-told
     returns-2
-    written-requires
-    unlink-requires
+    write-requires
+    give-up-requires
     returns-3
-    rename-requires
-    fail-requires-2
-    unlink-requires-2
-    returns-4
-    returns-5)
+    finish-requires
+    returns-4)

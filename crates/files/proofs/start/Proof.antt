@@ -14,7 +14,7 @@ same-length : tie.Need-same-length
 same-length c = search needs
 
 returns : tie.Need-returns
-returns c = started-room (c .before .before .before .before .open .result) (c .before .before .start-of .result) (c .before .before .start-of .ensures)
+returns c = started-room (c .before .before .before .before .«open» .result) (c .before .before .start-of .result) (c .before .before .start-of .ensures)
 
 pub start-spec : {M : Type 1} → statement M
 start-spec = tie.close (tie.spec open-requires start-of-requires same-length returns)

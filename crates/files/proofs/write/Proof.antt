@@ -13,13 +13,11 @@ write-all-requires c κs = search needs
 returns-2 : tie.Need-returns-2
 returns-2 c = search needs
 
-fail-requires : tie.Need-fail-requires
-fail-requires c κs = search needs
+failed-requires : tie.Need-failed-requires
+failed-requires c κs = search needs
 
 returns-3 : tie.Need-returns-3
 returns-3 c = λ e. let none : ⊥ = omega (arith, c .before .before .before .if1 .left) in absurd none
 
 pub write-spec : {M : Type 1} → statement M
-write-spec =
-    tie.close
-    (tie.spec returns write-all-requires returns-2 fail-requires returns-3)
+write-spec = tie.close (tie.spec returns write-all-requires returns-2 failed-requires returns-3)

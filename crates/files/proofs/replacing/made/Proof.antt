@@ -1,0 +1,58 @@
+-- `files::replacing::made` ends: each turn leaves one try fewer.
+use Prim.Native.Nat.{_-_}
+use borrow.Author.Needs.{needs}
+use Rattle.files.proofs.replacing.made.Statement.{statement}
+use Rattle.files.proofs.replacing.made.Tie as tie
+
+abbrev Inv-loop : tie.InvT-loop
+Inv-loop tool name fresh tries i₀ i = Unit {0}
+
+abbrev μ-loop : tie.MeasureT-loop
+μ-loop tool name fresh tries i₀ i = tries - i
+
+loop-holds : tie.Need-loop-holds Inv-loop μ-loop
+loop-holds c = search needs
+
+create-requires : tie.Need-create-requires Inv-loop μ-loop
+create-requires c κs = search needs
+
+errno-requires : tie.Need-errno-requires Inv-loop μ-loop
+errno-requires c κs = search needs
+
+returns : tie.Need-returns Inv-loop μ-loop
+returns c = search needs
+
+wait-once-requires : tie.Need-wait-once-requires Inv-loop μ-loop
+wait-once-requires c κs = search needs
+
+add-i : tie.Need-add-i Inv-loop μ-loop
+add-i c = search needs
+
+loop-less : tie.Need-loop-less Inv-loop μ-loop
+loop-less c = search needs
+
+loop-again : tie.Need-loop-again Inv-loop μ-loop
+loop-again c = search needs
+
+create-requires-2 : tie.Need-create-requires-2 Inv-loop μ-loop
+create-requires-2 c κs = search needs
+
+returns-2 : tie.Need-returns-2 Inv-loop μ-loop
+returns-2 c = search needs
+
+pub made-spec : {M : Type 1} → statement M
+made-spec =
+    tie.close
+    (tie.spec
+    Inv-loop
+    μ-loop
+    loop-holds
+    create-requires
+    errno-requires
+    returns
+    wait-once-requires
+    add-i
+    loop-less
+    loop-again
+    create-requires-2
+    returns-2)
