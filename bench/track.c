@@ -16,6 +16,9 @@ static const Place middle = {47200000, 505000000};
 // list has room for.
 static const int64_t most_reach = 1000000;
 
+// The usual allowance, which no record of the track uses up. Under a larger one laylist prints line by line.
+static const uint64_t allowance = 1000000;
+
 static void put(uint8_t *bytes, int width, uint64_t n) {
     for (int i = 0; i < width; i++) bytes[i] = (uint8_t)(n >> 8 * i);
 }
@@ -53,7 +56,7 @@ static void write_job(const char *folder, int k, uint64_t tolerance) {
     put_place(job, (Place){middle.easting - before, middle.northing - before});
     job[8] = (uint8_t)k;
     put(job + 12, 4, tolerance);
-    put(job + 16, 8, UINT64_MAX);
+    put(job + 16, 8, allowance);
     write_file(folder, "job.dat", job, sizeof job);
 }
 

@@ -1,12 +1,13 @@
--- The buffer has room for the listing of a part, and the listing of the rest goes on from the place that the part carries on.
-use Prim.Native.Nat.{ℕ, _-_, _/_, _≤_, _<_}
-use mathlib.Core.Bool.{true, true≢false}
+-- A part is no longer than what is listed at once, the buffer has room for its listing, and the listing of the rest goes on from the
+-- place that the part carries on.
+use Prim.Native.Nat.{ℕ, _+_, _-_, _/_, _%_, _≤_, _<_}
+use mathlib.Core.Bool.{Bool, true, false, true≢false, cond}
 use mathlib.Core.List.{List}
 use mathlib.Core.Path.{_≡_, refl, sym, ap, _∙_, subst}
 use native.Mathlib.Decide.{decLe}
 use native.Mathlib.Nat.{lt-of-not-le}
 use native.Mathlib.Omega.{arith}
-use borrow.Author.Tests.{lt-ltb}
+use borrow.Author.Tests.{lt-ltb, le-ltb}
 use lib.ListN.{length, take, drop, take-append-drop, drop-of-length-le}
 use lib.Seq.{length-take-le, take-all}
 use Rattle.records.specs.declared.Job.{Job}
@@ -17,18 +18,51 @@ use Rattle.records.specs.declared.ChainCount.the-variants as count
 use Rattle.records.specs.Bytes.{pieceEnd}
 use Rattle.records.specs.LogRecords.{logBytes}
 use Rattle.records.specs.ChainTables.{chainCountOf}
-use Rattle.records.specs.Jobs.{jobOf}
+use Rattle.records.specs.Jobs.{usualAllowance, jobOf}
 use Rattle.records.proofs.Pieces.{next-piece}
 use Rattle.listing.specs.declared.Carried.{Carried}
 use Rattle.listing.specs.Listings.{Part, linesFrom, listingBy, listingFrom, hasListingRoom}
 use Rattle.listing.proofs.Theorems.{in-parts}
 use Rattle.laylist.specs.declared.Next.{Next}
 use Rattle.laylist.specs.declared.Next.the-variants as follows
-use Rattle.laylist.specs.Walks.{acceptsJob, acceptsTable, BothGood, partBytes, partRoom, GoesOn}
+use Rattle.laylist.specs.Walks.{acceptsJob, acceptsTable, BothGood, partBytes, partRoom, mayTakeLong, bytesAtOnce, AtOnce, GoesOn}
 
 -- The buffer has room for the listing of a part.
 pub roomy : (out part : List ℕ) → length out ≡ partRoom → length part ≤ partBytes → hasListingRoom (length out) part ≡ true
 roomy out part size few = lt-ltb (length part / logBytes) (length out / _) (omega arith)
+
+-- How many bytes are listed at once, by the job's allowance.
+pub under-large : (j : Job) → usualAllowance < j .allowance → logBytes ≡ bytesAtOnce (job.Job j)
+unfolding mayTakeLong
+under-large j h = rw (lt-ltb usualAllowance (j .allowance) h)
+
+pub under-usual : (j : Job) → j .allowance ≤ usualAllowance → partBytes ≡ bytesAtOnce (job.Job j)
+unfolding mayTakeLong
+under-usual j h = rw (le-ltb usualAllowance (j .allowance) h)
+
+-- Whether searches may take long or not, at most 128 records are listed at once, and if they may, at most one.
+few-at-once : (long : Bool) (n : ℕ) → n ≤ cond long logBytes partBytes → n ≤ partBytes
+few-at-once true n h = omega arith
+few-at-once false n h = h
+
+one-at-once : (long : Bool) (n : ℕ) → n ≤ cond long logBytes partBytes → long ≡ true → (n + (logBytes - 1)) / logBytes ≤ 1
+one-at-once true n h is = omega arith
+one-at-once false n h is = absurd (true≢false (sym is))
+
+pub at-once : (job part : List ℕ) → length part ≤ bytesAtOnce (jobOf job) → AtOnce job part
+at-once job part h =
+    record {
+      few = few-at-once (mayTakeLong (jobOf job)) (length part) h;
+      line-by-line = one-at-once (mayTakeLong (jobOf job)) (length part) h;
+    }
+
+-- They are whole records, and at least one.
+whole-at-once : (long : Bool) → (0 < cond long logBytes partBytes) × (cond long logBytes partBytes % logBytes ≡ 0)
+whole-at-once true = (omega arith, refl)
+whole-at-once false = (omega arith, refl)
+
+pub whole-records : (j : JobAnswer) {bytes : ℕ} → bytes ≡ bytesAtOnce j → (0 < bytes) × (bytes % logBytes ≡ 0)
+whole-records j e = rw e (whole-at-once (mayTakeLong j))
 
 -- The job if it is accepted, and the count of chains if the table is.
 job-of : (a : JobAnswer) → acceptsJob a ≡ true → (j : Job) × (a ≡ job.Job j)
@@ -48,37 +82,37 @@ unfolding linesFrom listingBy listingFrom
 nothing-left job table ok log done place all =
     rw (drop-of-length-le log {i = done} all, job-of (jobOf job) (ok .by-job) .1, count-of (chainCountOf table) (ok .by-table) .1)
 
-module _ (job table : List ℕ) (ok : BothGood job table) where
+module _ (job table : List ℕ) (ok : BothGood job table) (bytes : ℕ) (whole : bytes % logBytes ≡ 0) where
   -- A log carries on the same place as the rest of it after its first part, when the rest starts from the place of that part.
   rest-carries : (log : List ℕ) (place : Carried) →
       listingFrom job table log place .carried
-      ≡ listingFrom job table (drop partBytes log) (listingFrom job table (take partBytes log) place .carried) .carried
-  rest-carries log place = go (decLe partBytes (length log))
+      ≡ listingFrom job table (drop bytes log) (listingFrom job table (take bytes log) place .carried) .carried
+  rest-carries log place = go (decLe bytes (length log))
     where
       part : List ℕ
-      part = take partBytes log
+      part = take bytes log
 
       after : Carried
       after = listingFrom job table part place .carried
 
-      go : Dec (partBytes ≤ length log) → listingFrom job table log place .carried ≡ listingFrom job table (drop partBytes log) after .carried
+      go : Dec (bytes ≤ length log) → listingFrom job table log place .carried ≡ listingFrom job table (drop bytes log) after .carried
       go (yes h) =
           let j = job-of (jobOf job) (ok .by-job) in
           let n = count-of (chainCountOf table) (ok .by-table) in
-          ap (λ (l : List ℕ). listingFrom job table l place .carried) (sym (take-append-drop partBytes log))
+          ap (λ (l : List ℕ). listingFrom job table l place .carried) (sym (take-append-drop bytes log))
           ∙ ap (λ (p : Part). p .carried)
-          (in-parts job table (j .0) (n .0) (j .1) (n .1) place part (drop partBytes log) (omega (arith, length-take-le partBytes log h)))
+          (in-parts job table (j .0) (n .0) (j .1) (n .1) place part (drop bytes log) (omega (arith, whole, length-take-le bytes log h)))
       go (no h) =
           let all = lt-of-not-le h in
-          ap (λ (l : List ℕ). listingFrom job table l place .carried) (sym (take-all partBytes log (omega arith)))
-          ∙ sym (nothing-left job table ok log partBytes after (omega arith))
+          ap (λ (l : List ℕ). listingFrom job table l place .carried) (sym (take-all bytes log (omega arith)))
+          ∙ sym (nothing-left job table ok log bytes after (omega arith))
 
   -- So the place that is carried on at the end stays the same when a part is listed and its place is handed to the rest.
-  pub goes-on : (log : List ℕ) (done next : ℕ) → done < length log → next ≡ pieceEnd done partBytes (length log) → (place : Carried) {n : Next} {after : Carried} →
+  pub goes-on : (log : List ℕ) (done next : ℕ) → done < length log → next ≡ pieceEnd done bytes (length log) → (place : Carried) {n : Next} {after : Carried} →
       GoesOn (listingFrom job table (take (next - done) (drop done log)) place) n → n ≡ follows.From after →
       listingFrom job table (drop done log) place .carried ≡ listingFrom job table (drop next log) after .carried
   goes-on log done next some e place {n} {after} told is =
       let handed : after ≡ listingFrom job table (take (next - done) (drop done log)) place .carried =
       subst (GoesOn (listingFrom job table (take (next - done) (drop done log)) place)) is told in
-      next-piece partBytes (λ c s. listingFrom job table s c .carried) (λ c x rest. rest) (λ c x. listingFrom job table x c .carried) (λ c s any. rest-carries s c) log done next some e place
+      next-piece bytes (λ c s. listingFrom job table s c .carried) (λ c x rest. rest) (λ c x. listingFrom job table x c .carried) (λ c s any. rest-carries s c) log done next some e place
       ∙ ap (λ (c : Carried). listingFrom job table (drop next log) c .carried) (sym handed)

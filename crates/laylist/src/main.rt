@@ -1,13 +1,12 @@
 // Lists a lay log: reads job.dat, chain.dat and lay.dat in the folder that it is run in, and prints the listing of the log.
-// A file that is missing counts as empty. A failure is reported on standard error, and nothing is listed after it.
+// A file that is missing counts as empty, and a note says so. A failure is reported on standard error, and nothing is listed after it.
 ghost use mathlib.Core.Path.{_≡_};
 ghost use mathlib.Core.Bool.{true};
-ghost use Prim.Native.Nat.{_≤_};
 ghost use lib.ListN.{length};
 ghost use Rattle.records.specs.ChainTables.{chainCountOf};
 ghost use Rattle.records.specs.Jobs.{jobOf};
 ghost use Rattle.listing.specs.Listings.{listingFrom};
-ghost use Rattle.laylist.specs.Walks.{acceptsJob, acceptsTable, BothGood, partBytes, partRoom, BeginsWith, GoesOn};
+ghost use Rattle.laylist.specs.Walks.{acceptsJob, acceptsTable, BothGood, partRoom, bytesAtOnce, AtOnce, BeginsWith, GoesOn};
 use files::Filled;
 use files::Opened;
 use listing::Carried;
@@ -35,6 +34,7 @@ const PART_ROOM: usize = 129 * listing::LONGEST_LINE;
 
 fn main() {
     let words = files::no_arguments(
+        b"laylist",
         b"laylist lists a lay log: it reads job.dat, chain.dat and lay.dat in this folder, and prints
 one line for each record.
 
@@ -44,7 +44,8 @@ one line for each record.
   LINE REFUSED NUMBER VISITS          a record that is refused
 
 LINE is the record's line number; eastings and northings are in centimetres. A job or table that
-is refused prints JOB REFUSED or CHAIN REFUSED alone. A missing file counts as empty.
+is refused prints JOB REFUSED or CHAIN REFUSED alone. A missing file counts as empty, and a note
+says so.
 
   laylist           lists this folder
   laylist FOLDER    lists that folder
@@ -59,7 +60,7 @@ fn list_files() {
     let mut out = out_buffer();
     // One byte more than a job has, so that a file that is too long is noticed.
     let mut job = [0u8; records::JOB_BYTES + 1];
-    let Filled::Bytes(n) = files::start(b"job.dat", &mut job) else {
+    let Filled::Bytes(n) = files::start(b"laylist", b"job.dat", &mut job) else {
         return;
     };
     by_job(&mut out, &job[0..n]);
@@ -79,7 +80,7 @@ fn by_job(out: &mut [u8], job: &[u8])
     }
     // One byte more than the longest table has, for the same reason.
     let mut table = [0u8; records::TABLE_BYTES + 1];
-    let Filled::Bytes(n) = files::start(b"chain.dat", &mut table) else {
+    let Filled::Bytes(n) = files::start(b"laylist", b"chain.dat", &mut table) else {
         return;
     };
     by_table(out, job, &table[0..n]);
@@ -121,13 +122,23 @@ fn table_accepted(out: &mut [u8], job: &[u8], table: &[u8]) -> bool
     }
 }
 
-// Prints the lines of the log, stretch by stretch.
+// Opens the log and prints its lines.
 fn list_log(out: &mut [u8], job: &[u8], table: &[u8])
     requires { ⌜ (length (now out) ≡ partRoom) × BothGood (now job) (now table) ⌝ }
 {
-    let Opened::File(log) = files::open(b"lay.dat") else {
-        return;
-    };
+    match files::open(b"laylist", b"lay.dat") {
+        Opened::File(log) => list_stretches(out, job, table, log),
+        Opened::Missing => {
+            files::missing(b"laylist", b"lay.dat");
+        }
+        Opened::Failed => {}
+    }
+}
+
+// Prints the lines of the log, stretch by stretch.
+fn list_stretches(out: &mut [u8], job: &[u8], table: &[u8], log: i32)
+    requires { ⌜ (length (now out) ≡ partRoom) × BothGood (now job) (now table) ⌝ }
+{
     let mut carried = Carried::Nothing;
     let mut turns = files::MOST_STRETCHES;
     while turns > 0 {
@@ -144,7 +155,7 @@ fn list_stretch(out: &mut [u8], job: &[u8], table: &[u8], log: i32, before: Carr
     requires { ⌜ (length (now out) ≡ partRoom) × BothGood (now job) (now table) ⌝ }
 {
     let mut stretch = io::large_buffer();
-    let Filled::Bytes(n) = files::fill(b"lay.dat", log, &mut stretch) else {
+    let Filled::Bytes(n) = files::fill(b"laylist", b"lay.dat", log, &mut stretch) else {
         return Next::End;
     };
     let next = list_parts(out, job, table, &stretch[0..n], before);
@@ -159,10 +170,11 @@ fn list_parts(out: &mut [u8], job: &[u8], table: &[u8], log: &[u8], before: Carr
     requires { ⌜ (length (now out) ≡ partRoom) × BothGood (now job) (now table) ⌝ }
     ensures { λ r. ⌜ GoesOn (listingFrom (now (job .entry)) (now (table .entry)) (now (log .entry)) before) r ⌝ }
 {
+    let bytes = bytes_at_once(job);
     let mut carried = before;
     let mut done = 0;
     while done < log.len() {
-        let next = records::piece_end(done, PART_BYTES, log.len());
+        let next = records::piece_end(done, bytes, log.len());
         let Next::From(place) = print_part(out, job, table, &log[done..next], carried) else {
             return Next::End;
         };
@@ -172,9 +184,23 @@ fn list_parts(out: &mut [u8], job: &[u8], table: &[u8], log: &[u8], before: Carr
     Next::From(carried)
 }
 
+// How many bytes of the log are listed before their lines are printed. If a search may take long it is one record, so that every
+// line is out before the next search begins.
+fn bytes_at_once(job: &[u8]) -> usize
+    ensures { λ r. ⌜ r ≡ bytesAtOnce (jobOf (now (job .entry))) ⌝ }
+{
+    let JobAnswer::Job(j) = records::job_of(job) else {
+        return PART_BYTES;
+    };
+    if j.allowance > records::USUAL_ALLOWANCE {
+        return records::LOG_BYTES;
+    }
+    PART_BYTES
+}
+
 // Lists a part of the log and prints its text.
 fn print_part(out: &mut [u8], job: &[u8], table: &[u8], part: &[u8], before: Carried) -> Next
-    requires { ⌜ (length (now out) ≡ partRoom) × (length (now part) ≤ partBytes) ⌝ }
+    requires { ⌜ (length (now out) ≡ partRoom) × AtOnce (now job) (now part) ⌝ }
     ensures { λ r. ⌜ GoesOn (listingFrom (now (job .entry)) (now (table .entry)) (now (part .entry)) before) r ⌝ }
 {
     let listing = list_part(out, job, table, part, before);
@@ -188,7 +214,7 @@ fn print_part(out: &mut [u8], job: &[u8], table: &[u8], part: &[u8], before: Car
 
 // Puts the listing of a part of the log at the start of a buffer.
 fn list_part(out: &mut [u8], job: &[u8], table: &[u8], part: &[u8], before: Carried) -> Listing
-    requires { ⌜ (length (now out) ≡ partRoom) × (length (now part) ≤ partBytes) ⌝ }
+    requires { ⌜ (length (now out) ≡ partRoom) × AtOnce (now job) (now part) ⌝ }
     ensures { λ r. ⌜ BeginsWith (now (out .exit)) (listingFrom (now (job .entry)) (now (table .entry)) (now (part .entry)) before) r ⌝ }
 {
     match listing::list(out, job, table, part, before) {
@@ -206,5 +232,5 @@ fn list_part(out: &mut [u8], job: &[u8], table: &[u8], part: &[u8], before: Carr
 fn printed(text: &[u8], job: &[u8], table: &[u8], part: &[u8], before: Carried) -> bool
     requires { ⌜ now text ≡ listingFrom (now job) (now table) (now part) before .text ⌝ }
 {
-    files::print(text)
+    files::print(b"laylist", text)
 }

@@ -1,5 +1,5 @@
 // Prints what job.dat, chain.dat and lay.dat hold, one line for each record, in the folder that it is run in. A missing file counts
-// as empty. A refused argument or a failure is reported on standard error, and nothing is printed after it.
+// as empty, and a note says so. A refused argument or a failure is reported on standard error, and nothing is printed after it.
 ghost use mathlib.Core.Path.{_≡_};
 ghost use Prim.Native.Nat.{_+_, _^_, _≤_, _<_};
 ghost use lib.ListN.{length};
@@ -21,6 +21,7 @@ const STRETCH_ROOM: usize = STRETCH_BYTES / records::LOG_BYTES
 
 fn main() {
     let words = files::no_arguments(
+        b"layshow",
         b"layshow prints what job.dat, chain.dat and lay.dat in this folder hold, as layjob, laychain and laywrite take it:
 
   JOB E N K T ALLOWANCE        window corner, exponent, tolerance, allowance
@@ -28,7 +29,7 @@ fn main() {
   LOG KIND CHAIN LINE X Y      1: readings A and B; 2: easting and northing; 3: a hold
 
 Lengths are in centimetres; a dash is for one that cannot be read. A refused record has REFUSED, the
-number and its bytes in hexadecimal after it. A missing file counts as empty.
+number and its bytes in hexadecimal after it. A missing file counts as empty, and a note says so.
 
 Without its first word, LOG, the line of a record is what laywrite takes: so a log can be mended as
 text, and written again.
@@ -47,10 +48,10 @@ fn show() {
     // One byte more than a job has, and than the longest table has, so that a file that is too long is noticed.
     let mut job = [0u8; records::JOB_BYTES + 1];
     let mut table = [0u8; records::TABLE_BYTES + 1];
-    let Filled::Bytes(j) = files::start(b"job.dat", &mut job) else {
+    let Filled::Bytes(j) = files::start(b"layshow", b"job.dat", &mut job) else {
         return;
     };
-    let Filled::Bytes(t) = files::start(b"chain.dat", &mut table) else {
+    let Filled::Bytes(t) = files::start(b"layshow", b"chain.dat", &mut table) else {
         return;
     };
     show_files(&mut out, &job[0..j], &table[0..t]);
@@ -75,7 +76,7 @@ fn show_files(out: &mut [u8], job: &[u8], table: &[u8])
 fn files_printed(text: &[u8], job: &[u8], table: &[u8]) -> bool
     requires { ⌜ now text ≡ fileLines (now job) (now table) ⌝ }
 {
-    files::print(text)
+    files::print(b"layshow", text)
 }
 
 fn put_files(out: &mut [u8], job: &[u8], table: &[u8]) -> usize
@@ -140,13 +141,23 @@ fn after(at: usize, line: Line) -> usize
     }
 }
 
-// Prints the lines of the log, stretch by stretch.
+// Opens the log and prints its lines.
 fn show_log(out: &mut [u8])
     requires { ⌜ length (now out) ≡ stretchRoom ⌝ }
 {
-    let Opened::File(log) = files::open(b"lay.dat") else {
-        return;
-    };
+    match files::open(b"layshow", b"lay.dat") {
+        Opened::File(log) => show_stretches(out, log),
+        Opened::Missing => {
+            files::missing(b"layshow", b"lay.dat");
+        }
+        Opened::Failed => {}
+    }
+}
+
+// Prints the lines of the log, stretch by stretch.
+fn show_stretches(out: &mut [u8], log: i32)
+    requires { ⌜ length (now out) ≡ stretchRoom ⌝ }
+{
     let mut turns = files::MOST_STRETCHES;
     while turns > 0 {
         if !show_stretch(out, log) {
@@ -162,7 +173,7 @@ fn show_stretch(out: &mut [u8], log: i32) -> bool
     requires { ⌜ length (now out) ≡ stretchRoom ⌝ }
 {
     let mut stretch = io::large_buffer();
-    let Filled::Bytes(n) = files::fill(b"lay.dat", log, &mut stretch) else {
+    let Filled::Bytes(n) = files::fill(b"layshow", b"lay.dat", log, &mut stretch) else {
         return false;
     };
     if !show_records(out, &stretch[0..n]) {
@@ -182,7 +193,7 @@ fn show_records(out: &mut [u8], log: &[u8]) -> bool
 fn records_printed(text: &[u8], log: &[u8]) -> bool
     requires { ⌜ now text ≡ recordLines (now log) ⌝ }
 {
-    files::print(text)
+    files::print(b"layshow", text)
 }
 
 fn put_records(out: &mut [u8], log: &[u8]) -> usize

@@ -22,6 +22,9 @@ slice-aggregate-start c = search needs
 slice-aggregate-start-2 : tie.Need-slice-aggregate-start-2
 slice-aggregate-start-2 c = search needs
 
+slice-aggregate-start-3 : tie.Need-slice-aggregate-start-3
+slice-aggregate-start-3 c = search needs
+
 start-requires : tie.Need-start-requires
 start-requires c κs = search needs
 
@@ -48,7 +51,7 @@ part-by-table-end c = omega (arith, ap filledBytes (c .before .before .before .n
 
 by-table-requires : tie.Need-by-table-requires
 by-table-requires c κs =
-    let judged = c .before .before .before .before .before .before .before .before .before .before in
+    let judged = c .before .before .before .before .before .before .before .before .before .before .before in
     let call = judged .before .before .before in
     (search needs, sym (call .job-accepted .ensures) ∙ not-false _ (judged .if1 .left))
 
@@ -67,6 +70,7 @@ by-job-spec =
     returns
     slice-aggregate-start
     slice-aggregate-start-2
+    slice-aggregate-start-3
     start-requires
     enum-known-n
     enum-told

@@ -15,6 +15,9 @@ slice-aggregate-start c = search needs
 slice-aggregate-start-2 : tie.Need-slice-aggregate-start-2
 slice-aggregate-start-2 c = search needs
 
+slice-aggregate-start-3 : tie.Need-slice-aggregate-start-3
+slice-aggregate-start-3 c = search needs
+
 start-requires : tie.Need-start-requires
 start-requires c κs = search needs
 
@@ -41,7 +44,7 @@ part-by-job-end c = omega (arith, ap filledBytes (c .before .before .before .n .
 
 by-job-requires : tie.Need-by-job-requires
 by-job-requires c κs =
-    let made = c .before .before .before .before .before .before .before .before .before .before .out-buffer in
+    let made = c .before .before .before .before .before .before .before .before .before .before .before .out-buffer in
     omega (arith, made .ok)
 
 returns-2 : tie.Need-returns-2
@@ -54,6 +57,7 @@ list-files-spec =
     out-buffer-requires
     slice-aggregate-start
     slice-aggregate-start-2
+    slice-aggregate-start-3
     start-requires
     enum-known-n
     enum-told

@@ -25,7 +25,7 @@ returns c =
     let call = told .before .before .before .before in
     let start = call .before .before .before .before .before .before in
     let a = start .args in
-    let room = roomy (a .out .now) (a .part .now) (start .pre .0) (start .pre .1) in
+    let room = roomy (a .out .now) (a .part .now) (start .pre .0) (start .pre .1 .few) in
     let p = listingFrom (a .job .now) (a .table .now) (a .part .now) (a .before) in
     let fits = listing-fits (a .out .now) (a .part .now) room p (sym (told .length .given .1) ∙ call .list .ensures .0) (call .list .ensures .1) in
     record { fits = fits .0; text-is = fits .1 .0; carried-is = fits .1 .1 }
@@ -38,7 +38,7 @@ returns-2 c =
     let call = c .before .before .before .before in
     let start = call .before .before .before .before .before .before in
     let a = start .args in
-    let room = roomy (a .out .now) (a .part .now) (start .pre .0) (start .pre .1) in
+    let room = roomy (a .out .now) (a .part .now) (start .pre .0) (start .pre .1 .few) in
     let p = listingFrom (a .job .now) (a .table .now) (a .part .now) (a .before) in
     absurd (not-refused (a .out .now) (a .part .now) room p (sym (c .enum-told .given .1) ∙ call .list .ensures .0))
 

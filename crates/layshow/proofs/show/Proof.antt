@@ -16,6 +16,9 @@ slice-aggregate-start c = search needs
 slice-aggregate-start-2 : tie.Need-slice-aggregate-start-2
 slice-aggregate-start-2 c = search needs
 
+slice-aggregate-start-3 : tie.Need-slice-aggregate-start-3
+slice-aggregate-start-3 c = search needs
+
 start-requires : tie.Need-start-requires
 start-requires c κs = search needs
 
@@ -28,11 +31,14 @@ enum-told c = search needs
 returns : tie.Need-returns
 returns c = search needs
 
-slice-aggregate-start-3 : tie.Need-slice-aggregate-start-3
-slice-aggregate-start-3 c = search needs
-
 slice-aggregate-start-4 : tie.Need-slice-aggregate-start-4
 slice-aggregate-start-4 c = search needs
+
+slice-aggregate-start-5 : tie.Need-slice-aggregate-start-5
+slice-aggregate-start-5 c = search needs
+
+slice-aggregate-start-6 : tie.Need-slice-aggregate-start-6
+slice-aggregate-start-6 c = search needs
 
 start-requires-2 : tie.Need-start-requires-2
 start-requires-2 c κs = search needs
@@ -56,7 +62,7 @@ part-show-files-start : tie.Need-part-show-files-start
 part-show-files-start c = search needs
 
 part-show-files-end : tie.Need-part-show-files-end
-part-show-files-end c = omega (arith, ap filledBytes (c .before .before .before .before .before .before .before .before .before .before .j .given .1))
+part-show-files-end c = omega (arith, ap filledBytes (c .before .before .before .before .before .before .before .before .before .before .before .j .given .1))
 
 sub-show-files-2 : tie.Need-sub-show-files-2
 sub-show-files-2 c = search needs
@@ -69,7 +75,7 @@ part-show-files-end-2 c = omega (arith, ap filledBytes (c .before .before .befor
 
 show-files-requires : tie.Need-show-files-requires
 show-files-requires c κs =
-    let made = c .before .before .before .before .before .before .before .before .before .before .before .before .before .before .before .before .before .before .before .out-buffer in
+    let made = c .before .before .before .before .before .before .before .before .before .before .before .before .before .before .before .before .before .before .before .before .before .out-buffer in
     (omega (arith, made .ok), simp length-take (omega arith), simp length-take (omega arith))
 
 returns-3 : tie.Need-returns-3
@@ -82,12 +88,14 @@ show-spec =
     out-buffer-requires
     slice-aggregate-start
     slice-aggregate-start-2
+    slice-aggregate-start-3
     start-requires
     enum-known-j
     enum-told
     returns
-    slice-aggregate-start-3
     slice-aggregate-start-4
+    slice-aggregate-start-5
+    slice-aggregate-start-6
     start-requires-2
     enum-known-t
     enum-told-2

@@ -16,6 +16,9 @@ slice-aggregate-fill c = search needs
 slice-aggregate-fill-2 : tie.Need-slice-aggregate-fill-2
 slice-aggregate-fill-2 c = search needs
 
+slice-aggregate-fill-3 : tie.Need-slice-aggregate-fill-3
+slice-aggregate-fill-3 c = search needs
+
 fill-requires : tie.Need-fill-requires
 fill-requires c κs = search needs
 
@@ -59,6 +62,7 @@ show-stretch-spec =
     large-buffer-requires
     slice-aggregate-fill
     slice-aggregate-fill-2
+    slice-aggregate-fill-3
     fill-requires
     enum-known-n
     enum-told

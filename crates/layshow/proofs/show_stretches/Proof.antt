@@ -1,27 +1,15 @@
--- `layshow::show_log` ends, since the number of turns left falls. The buffer keeps its length.
+-- `layshow::show_stretches` ends, since the number of turns left falls. The buffer keeps its length.
 use mathlib.Core.Path.{_≡_}
 use borrow.Author.Needs.{needs}
 use lib.ListN.{length}
-use Rattle.layshow.proofs.show_log.Statement.{statement}
-use Rattle.layshow.proofs.show_log.Tie as tie
+use Rattle.layshow.proofs.show_stretches.Statement.{statement}
+use Rattle.layshow.proofs.show_stretches.Tie as tie
 
 abbrev Inv-loop : tie.InvT-loop
 Inv-loop out₀ log turns₀ out turns = length out ≡ length out₀
 
 abbrev μ-loop : tie.MeasureT-loop
 μ-loop out₀ log turns₀ out turns = turns
-
-slice-aggregate-open : tie.Need-slice-aggregate-open Inv-loop μ-loop
-slice-aggregate-open c = search needs
-
-open-requires : tie.Need-open-requires Inv-loop μ-loop
-open-requires c κs = search needs
-
-enum-known-log : tie.Need-enum-known-log Inv-loop μ-loop
-enum-known-log c = search needs
-
-returns : tie.Need-returns Inv-loop μ-loop
-returns c = search needs
 
 loop-holds : tie.Need-loop-holds Inv-loop μ-loop
 loop-holds c = search needs
@@ -32,8 +20,8 @@ show-stretch-requires c κs = search needs
 same-length : tie.Need-same-length Inv-loop μ-loop
 same-length c = search needs
 
-returns-2 : tie.Need-returns-2 Inv-loop μ-loop
-returns-2 c = search needs
+returns : tie.Need-returns Inv-loop μ-loop
+returns c = search needs
 
 sub-turns : tie.Need-sub-turns Inv-loop μ-loop
 sub-turns c = search needs
@@ -47,25 +35,21 @@ loop-again c = search needs
 same-length-2 : tie.Need-same-length-2 Inv-loop μ-loop
 same-length-2 c = search needs
 
-returns-3 : tie.Need-returns-3 Inv-loop μ-loop
-returns-3 c = search needs
+returns-2 : tie.Need-returns-2 Inv-loop μ-loop
+returns-2 c = search needs
 
-pub show-log-spec : {M : Type 1} → statement M
-show-log-spec =
+pub show-stretches-spec : {M : Type 1} → statement M
+show-stretches-spec =
     tie.close
     (tie.spec
     Inv-loop
     μ-loop
-    slice-aggregate-open
-    open-requires
-    enum-known-log
-    returns
     loop-holds
     show-stretch-requires
     same-length
-    returns-2
+    returns
     sub-turns
     loop-less
     loop-again
     same-length-2
-    returns-3)
+    returns-2)

@@ -1,27 +1,15 @@
--- `laylist::list_log` ends, since the number of turns left falls. The buffer keeps its length.
+-- `laylist::list_stretches` ends, since the number of turns left falls. The buffer keeps its length.
 use mathlib.Core.Path.{_≡_}
 use borrow.Author.Needs.{needs}
 use lib.ListN.{length}
-use Rattle.laylist.proofs.list_log.Statement.{statement}
-use Rattle.laylist.proofs.list_log.Tie as tie
+use Rattle.laylist.proofs.list_stretches.Statement.{statement}
+use Rattle.laylist.proofs.list_stretches.Tie as tie
 
 abbrev Inv-loop : tie.InvT-loop
 Inv-loop out₀ job table log carried₀ turns₀ out carried turns = length out ≡ length out₀
 
 abbrev μ-loop : tie.MeasureT-loop
 μ-loop out₀ job table log carried₀ turns₀ out carried turns = turns
-
-slice-aggregate-open : tie.Need-slice-aggregate-open Inv-loop μ-loop
-slice-aggregate-open c = search needs
-
-open-requires : tie.Need-open-requires Inv-loop μ-loop
-open-requires c κs = search needs
-
-enum-known-log : tie.Need-enum-known-log Inv-loop μ-loop
-enum-known-log c = search needs
-
-returns : tie.Need-returns Inv-loop μ-loop
-returns c = search needs
 
 loop-holds : tie.Need-loop-holds Inv-loop μ-loop
 loop-holds c = search needs
@@ -38,8 +26,8 @@ enum-told c = search needs
 same-length : tie.Need-same-length Inv-loop μ-loop
 same-length c = search needs
 
-returns-2 : tie.Need-returns-2 Inv-loop μ-loop
-returns-2 c = search needs
+returns : tie.Need-returns Inv-loop μ-loop
+returns c = search needs
 
 sub-turns : tie.Need-sub-turns Inv-loop μ-loop
 sub-turns c = search needs
@@ -53,27 +41,23 @@ loop-again c = search needs
 same-length-2 : tie.Need-same-length-2 Inv-loop μ-loop
 same-length-2 c = search needs
 
-returns-3 : tie.Need-returns-3 Inv-loop μ-loop
-returns-3 c = search needs
+returns-2 : tie.Need-returns-2 Inv-loop μ-loop
+returns-2 c = search needs
 
-pub list-log-spec : {M : Type 1} → statement M
-list-log-spec =
+pub list-stretches-spec : {M : Type 1} → statement M
+list-stretches-spec =
     tie.close
     (tie.spec
     Inv-loop
     μ-loop
-    slice-aggregate-open
-    open-requires
-    enum-known-log
-    returns
     loop-holds
     list-stretch-requires
     enum-known-last
     enum-told
     same-length
-    returns-2
+    returns
     sub-turns
     loop-less
     loop-again
     same-length-2
-    returns-3)
+    returns-2)
