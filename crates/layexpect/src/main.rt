@@ -3,18 +3,22 @@
 use chart::Place;
 use files::Filled;
 use files::Words;
+use parsing::Form;
 use parsing::ParsedQuestion;
+use records::ChainCount;
 use shown::Line;
 
 fn main() {
     // Without the newline, which the arguments do not have.
     let mut line = [0u8; files::LINE_BYTES - 1];
     let words = files::arguments(
+        b"layexpect",
         &mut line,
         b"layexpect CHAIN E N prints the readings expected at a place, for a chain of chain.dat in this folder.
 
   CHAIN  the chain's number in the table, 1 to 16
-  E N    easting and northing of the place in centimetres, 0 to 100000000 and 0 to 1000000000
+  E N    easting and northing of the place, 0 to 100000000 and 0 to 1000000000, in centimetres
+         in digits alone, or in metres with two decimals: 30001 is 300.01
 
 A line is printed for slave A and one for slave B: the reading in centimetres, the same in metres,
 and its eight bytes in a log record. A refusal is printed with its number.
@@ -25,60 +29,93 @@ The readings at (30000, 40000) for chain 1:
     );
     match words {
         Words::Line(n) => take(&line[0..n]),
-        Words::Unfit => tell(12),
+        Words::Unfit(which) => unfit(which),
         Words::Helped => {}
     }
 }
 
+fn unfit(which: usize) {
+    files::refused_argument(
+        b"layexpect",
+        12,
+        which,
+        b"an argument is one word, and all of them have at most 65534 bytes",
+    );
+}
+
 fn take(line: &[u8]) {
     match parsing::question(line) {
-        ParsedQuestion::Question { chain, place } => answer(chain, place),
-        ParsedQuestion::Refused(number) => tell(number),
+        ParsedQuestion::Question { chain, place } => answer(line, chain, place),
+        ParsedQuestion::Refused(_) => other_form(line),
     }
 }
 
-fn answer(chain: u32, place: Place) {
-    // One byte more than the longest table, so that a file that is too long is noticed.
-    let mut table = [0u8; records::TABLE_BYTES + 1];
-    let Filled::Bytes(n) = files::start(b"chain.dat", &mut table) else {
-        return;
-    };
-    print_expected(&table[0..n], chain, place);
+fn other_form(line: &[u8]) {
+    files::refused_form(b"layexpect", 0, line, Form::Question);
 }
 
-fn print_expected(table: &[u8], chain: u32, place: Place) {
+fn answer(line: &[u8], chain: u32, place: Place) {
+    // One byte more than the longest table, so that a file that is too long is noticed.
+    let mut table = [0u8; records::TABLE_BYTES + 1];
+    let Filled::Bytes(n) = files::start(b"layexpect", b"chain.dat", &mut table) else {
+        return;
+    };
+    print_expected(line, &table[0..n], chain, place);
+}
+
+fn print_expected(line: &[u8], table: &[u8], chain: u32, place: Place) {
     let mut out = [0u8; shown::LINE_ROOM];
     match shown::expected(&mut out, table, chain, place) {
         Line::Text(n) => print(&out[0..n]),
-        Line::Refused(number) => tell(number),
+        Line::Refused(number) => refuse(line, table, chain, place, number),
     }
 }
 
 fn print(text: &[u8]) {
-    files::print(text);
+    files::print(b"layexpect", text);
 }
 
-fn tell(number: u32) {
+fn refuse(line: &[u8], table: &[u8], chain: u32, place: Place, number: u32) {
     match number {
-        1 => refused(
-            1,
-            b"chain.dat was expected to hold 1 to 16 chains of 24 bytes",
-        ),
-        4 => refused(
-            4,
-            b"the place was expected to have an easting of 0 to 100000000 and a northing of 0 to 1000000000 centimetres",
-        ),
-        5 => refused(
-            5,
-            b"a chain of the table was expected, 1 to as many as chain.dat has, with its stations in range and no two on one spot",
-        ),
-        _ => refused(
-            number,
-            b"three numbers in digits alone were expected, CHAIN E N",
-        ),
+        4 => refuse_place(line, parsing::place_fault(place)),
+        5 => refuse_chain(line, table, chain),
+        _ => refuse_table(number),
     }
 }
 
-fn refused(number: u32, sentence: &[u8]) {
-    files::refused(b"layexpect", 0, number, sentence);
+fn refuse_table(number: u32) {
+    files::refused(
+        b"layexpect",
+        0,
+        number,
+        b"chain.dat was expected to hold 1 to 16 chains of 24 bytes",
+    );
+}
+
+fn refuse_place(line: &[u8], fault: usize) {
+    match fault {
+        0 => refused(line, 4, 1, b"the easting is 0 to 100000000 centimetres"),
+        _ => refused(line, 4, 2, b"the northing is 0 to 1000000000 centimetres"),
+    }
+}
+
+// A chain of the table that is refused is not sound.
+fn refuse_chain(line: &[u8], table: &[u8], chain: u32) {
+    let ChainCount::Chains(n) = records::chain_count(table) else {
+        return;
+    };
+    if records::one_to(n, chain) {
+        refused(
+            line,
+            5,
+            0,
+            b"this chain of chain.dat has a station out of range, or two on one spot",
+        );
+        return;
+    }
+    refused(line, 5, 0, b"chain.dat has no chain of this number");
+}
+
+fn refused(line: &[u8], number: u32, word: usize, sentence: &[u8]) {
+    files::refused_word(b"layexpect", 0, number, line, word, sentence);
 }

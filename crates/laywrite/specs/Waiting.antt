@@ -1,6 +1,6 @@
 -- The bytes of records that wait in a buffer to be written out, according to the lines that were read.
 use Prim.Native.Nat.{ℕ, _+_, _≤_}
-use mathlib.Core.Bool.{Bool, true, false}
+use mathlib.Core.Bool.{Bool, true, false, cond, _&&_}
 use mathlib.Core.List.{List, [], _∷_, _++_}
 use mathlib.Core.Path.{_≡_}
 use lib.Dec.{eqb, leb}
@@ -10,6 +10,11 @@ use Rattle.writing.specs.declared.Draft.{Draft}
 use Rattle.writing.specs.Writing.{refusalOf, bufferOf}
 use Rattle.parsing.specs.declared.ParsedDraft.{ParsedDraft}
 use Rattle.parsing.specs.declared.ParsedDraft.the-variants as parsed
+use Rattle.files.specs.declared.Input.{Input}
+use Rattle.files.specs.declared.Input.the-variants as input
+use Rattle.laywrite.specs.declared.Judged.{Judged}
+use Rattle.laywrite.specs.declared.Judged.the-variants as judged
+use Rattle.laywrite.specs.declared.Read.{Read}
 use Rattle.laywrite.specs.declared.Records.{Records}
 use Rattle.laywrite.specs.declared.Records.the-variants as records
 
@@ -46,15 +51,43 @@ abbrev pub KeptAfter : Records → List ℕ → List ℕ → List ℕ → Record
 KeptAfter (records.Waiting n) before bytes out r = IsKept (take n before) bytes out r
 KeptAfter records.Dropped before bytes out r = r ≡ records.Dropped
 
--- A draft that is accepted is kept in this way; one that is refused drops all.
-abbrev pub TakenBy : Bool → Records → List ℕ → Draft → List ℕ → Records → Type 0
-TakenBy true waiting before d out r = KeptAfter waiting before (bufferOf logBytes d) out r
-TakenBy false waiting before d out r = r ≡ records.Dropped
+-- The chain that a record names: only one with readings does.
+unfoldable pub chainNamed : Draft → ℕ
+chainNamed d = cond (eqb (d .kind) 1) (d .chain) 0
 
--- What waits after a line, according to what the line says.
-abbrev pub IsTaken : Records → List ℕ → ParsedDraft → List ℕ → Records → Type 0
-IsTaken waiting before (parsed.Draft d) out r = TakenBy (eqb (refusalOf logBytes d) 0) waiting before d out r
-IsTaken waiting before (parsed.Refused number) out r = r ≡ records.Dropped
+-- What a draft is by the number of its refusal, 0 for none.
+unfoldable pub judgedOf : ℕ → ℕ → Judged
+judgedOf refusal chain = cond (eqb refusal 0) (judged.Record chain) (judged.Refused refusal)
+
+-- A draft: its bytes are those that the writer makes, and it is refused if the writer refuses it. A hold is refused with 11 if the
+-- line before it was refused, since it has the place of the record before it.
+abbrev pub JudgedBy : Bool → Draft → List ℕ → Judged → Type 0
+JudgedBy true d bytes r = r ≡ judged.Refused 11
+JudgedBy false d bytes r = (bytes ≡ bufferOf logBytes d) × (r ≡ judgedOf (refusalOf logBytes d) (chainNamed d))
+
+-- What a line is, according to what it says. `gap`: the line before it was refused.
+abbrev pub IsJudged : Bool → ParsedDraft → List ℕ → Judged → Type 0
+IsJudged gap (parsed.Draft d) bytes r = JudgedBy (gap && eqb (d .kind) 3) d bytes r
+IsJudged gap parsed.Passed bytes r = r ≡ judged.Passed
+IsJudged gap (parsed.Refused number) bytes r = r ≡ judged.Refused number
+
+-- What waits after a line: the record is kept if nothing was dropped before; a refused line drops all, except at a keyboard.
+abbrev pub IsTaken : Records → List ℕ → Judged → List ℕ → Bool → List ℕ → Records → Type 0
+IsTaken waiting before (judged.Record chain) bytes keyboard out r = KeptAfter waiting before bytes out r
+IsTaken waiting before judged.Passed bytes keyboard out r = (out ≡ before) × (r ≡ waiting)
+IsTaken waiting before (judged.Refused number) bytes keyboard out r = (out ≡ before) × (r ≡ cond keyboard waiting records.Dropped)
+
+-- What is kept when no line comes next: at the end of the input all that waits; after text that was cut off as after a refused
+-- line; and nothing if reading failed.
+unfoldable pub endedBy : Input → Records → Bool → Records
+endedBy (input.Line start end stop) waiting keyboard = records.Dropped
+endedBy input.Cut waiting keyboard = cond keyboard waiting records.Dropped
+endedBy input.End waiting keyboard = waiting
+endedBy input.Failed waiting keyboard = records.Dropped
+
+-- What is kept of what was read.
+abbrev pub keptOf : Read → Records
+keptOf r = cond (r .kept) (records.Waiting (r .waiting)) records.Dropped
 
 -- The bytes of the records of drafts, one after the other; and that each of the drafts is accepted.
 unfoldable pub recordsOf : List Draft → List ℕ

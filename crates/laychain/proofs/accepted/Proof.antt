@@ -1,24 +1,32 @@
--- `laychain::accepted` is true if every line before was accepted and this one is too.
+-- `laychain::accepted` is true if no line before was refused, and this one is not.
+use mathlib.Core.Path.{sym, ap, _∙_}
+use mathlib.Core.Bool.{Bool, _&&_, and-true, and-false}
+use Rattle.laychain.specs.declared.Verdict.{Verdict}
+use Rattle.laychain.specs.Tables.{isWell}
 use borrow.Author.Needs.{needs}
-use mathlib.Core.Bool.{Bool, true, false, _&&_, and-true, and-false}
-use mathlib.Core.Path.{_≡_, sym, ap, _∙_}
-use borrow.Author.Tests.{eq-eqb, ne-eqb}
-use lib.Dec.{eqb}
 use Rattle.laychain.proofs.accepted.Statement.{statement}
 use Rattle.laychain.proofs.accepted.Tie as tie
 
-returns : tie.Need-returns
-returns c =
-    let none : eqb (c .before .args .refusal) 0 ≡ true = eq-eqb (c .before .args .refusal) 0 (c .if1 .taken) in
-    sym (ap (λ (t : Bool). c .before .args .well && t) none ∙ and-true (c .before .args .well))
+enum-told : tie.Need-enum-told
+enum-told c = search needs
 
-tell-requires : tie.Need-tell-requires
-tell-requires c κs = search needs
+enum-told-2 : tie.Need-enum-told-2
+enum-told-2 c = search needs
+
+enum-told-3 : tie.Need-enum-told-3
+enum-told-3 c = search needs
+
+returns : tie.Need-returns
+unfolding isWell
+returns c = sym (ap (λ (v : Verdict). c .before .before .args .well && isWell v) (c .enum-told .given .1) ∙ and-true (c .before .before .args .well))
 
 returns-2 : tie.Need-returns-2
-returns-2 c =
-    let some : eqb (c .before .before .args .refusal) 0 ≡ false = ne-eqb (c .before .before .args .refusal) 0 (c .before .if1 .left) in
-    c .tell .ensures ∙ sym (ap (λ (t : Bool). c .before .before .args .well && t) some ∙ and-false (c .before .before .args .well))
+unfolding isWell
+returns-2 c = sym (ap (λ (v : Verdict). c .before .before .args .well && isWell v) (c .enum-told2 .given .1) ∙ and-true (c .before .before .args .well))
+
+returns-3 : tie.Need-returns-3
+unfolding isWell
+returns-3 c = sym (ap (λ (v : Verdict). c .before .before .args .well && isWell v) (c .enum-told3 .given .1) ∙ and-false (c .before .before .args .well))
 
 pub accepted-spec : {M : Type 1} → statement M
-accepted-spec = tie.close (tie.spec returns tell-requires returns-2)
+accepted-spec = tie.close (tie.spec enum-told enum-told-2 enum-told-3 returns returns-2 returns-3)

@@ -1,10 +1,10 @@
 -- `laychain::put_chain` lends `write_chain` the 24 bytes of the chain's place in the table, if there is one.
-use borrow.Author.Needs.{needs}
 use Prim.Native.Nat.{_+_, _-_, _*_}
 use mathlib.Core.Path.{_≡_, _∙_}
 use native.Mathlib.Omega.{arith}
 use lib.ListN.{length, take, drop, length-take, length-drop}
 use Rattle.laychain.proofs.TableLaws.{no-place, chain-placed}
+use borrow.Author.Needs.{needs}
 use Rattle.laychain.proofs.put_chain.Statement.{statement}
 use Rattle.laychain.proofs.put_chain.Tie as tie
 
@@ -29,16 +29,21 @@ part-write-chain-end c = search needs
 write-chain-requires : tie.Need-write-chain-requires
 write-chain-requires c κs = search needs
 
+by-refusal-requires : tie.Need-by-refusal-requires
+by-refusal-requires c κs = search needs
+
 same-length : tie.Need-same-length
 same-length c = search needs
 
 returns-2 : tie.Need-returns-2
 returns-2 c =
-    let a = c .before .before .before .before .before .before .args in
-    let call = c .before .before .write-chain in
+    let a = c .before .before .before .before .before .before .before .args in
+    let pre = c .before .before .before .before .before .before .before .pre in
+    let call = c .before .before .before .write-chain in
     let part = length (take (24 * a .before + 24 - 24 * a .before) (drop (24 * a .before) (a .table .now))) in
-    let size : part ≡ 24 = length-take (24 * a .before + 24 - 24 * a .before) (drop (24 * a .before) (a .table .now)) ∙ omega (arith, length-drop (24 * a .before) (a .table .now), c .before .before .before .before .before .before .pre) in
-    chain-placed (a .table .now) (a .before) (a .c) part (call .result) (call .last .0) (c .before .before .before .before .before .before .pre) (omega arith) size (call .ensures .0) (call .ensures .1)
+    let size : part ≡ 24 = length-take (24 * a .before + 24 - 24 * a .before) (drop (24 * a .before) (a .table .now)) ∙ omega (arith, length-drop (24 * a .before) (a .table .now), pre) in
+    let placed = chain-placed (a .table .now) (a .before) (a .c) part (call .result) (call .last .0) pre (omega arith) size (call .ensures .0) (call .ensures .1) in
+    (c .by-refusal .ensures ∙ placed .0, placed .1)
 
 pub put-chain-spec : {M : Type 1} → statement M
 put-chain-spec =
@@ -51,5 +56,6 @@ put-chain-spec =
     part-write-chain-start
     part-write-chain-end
     write-chain-requires
+    by-refusal-requires
     same-length
     returns-2)

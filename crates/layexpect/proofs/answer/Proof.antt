@@ -12,6 +12,9 @@ slice-aggregate-start c = search needs
 slice-aggregate-start-2 : tie.Need-slice-aggregate-start-2
 slice-aggregate-start-2 c = search needs
 
+slice-aggregate-start-3 : tie.Need-slice-aggregate-start-3
+slice-aggregate-start-3 c = search needs
+
 start-requires : tie.Need-start-requires
 start-requires c κs = search needs
 
@@ -45,6 +48,7 @@ answer-spec =
     (tie.spec
     slice-aggregate-start
     slice-aggregate-start-2
+    slice-aggregate-start-3
     start-requires
     enum-known-n
     enum-told

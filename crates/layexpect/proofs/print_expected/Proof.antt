@@ -32,8 +32,8 @@ print-requires c κs = search needs
 enum-known-number : tie.Need-enum-known-number
 enum-known-number c = search needs
 
-tell-requires : tie.Need-tell-requires
-tell-requires c κs = search needs
+refuse-requires : tie.Need-refuse-requires
+refuse-requires c κs = search needs
 
 returns : tie.Need-returns
 returns c = search needs
@@ -53,6 +53,6 @@ print-expected-spec =
     part-print-end
     print-requires
     enum-known-number
-    tell-requires
+    refuse-requires
     returns
     returns-2)

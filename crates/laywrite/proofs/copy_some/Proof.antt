@@ -1,8 +1,8 @@
 -- `laywrite::copy_some` writes no more than was read.
 use mathlib.Core.Path.{ap}
 use native.Mathlib.Omega.{arith}
-use borrow.Author.Needs.{needs}
 use Rattle.files.specs.Answers.{filledBytes}
+use borrow.Author.Needs.{needs}
 use Rattle.laywrite.proofs.copy_some.Statement.{statement}
 use Rattle.laywrite.proofs.copy_some.Tie as tie
 
@@ -14,6 +14,9 @@ slice-aggregate-fill c = search needs
 
 slice-aggregate-fill-2 : tie.Need-slice-aggregate-fill-2
 slice-aggregate-fill-2 c = search needs
+
+slice-aggregate-fill-3 : tie.Need-slice-aggregate-fill-3
+slice-aggregate-fill-3 c = search needs
 
 fill-requires : tie.Need-fill-requires
 fill-requires c κs = search needs
@@ -33,6 +36,9 @@ returns-2 c = search needs
 slice-aggregate-write : tie.Need-slice-aggregate-write
 slice-aggregate-write c = search needs
 
+slice-aggregate-write-2 : tie.Need-slice-aggregate-write-2
+slice-aggregate-write-2 c = search needs
+
 sub-write : tie.Need-sub-write
 sub-write c = search needs
 
@@ -40,7 +46,7 @@ part-write-start : tie.Need-part-write-start
 part-write-start c = search needs
 
 part-write-end : tie.Need-part-write-end
-part-write-end c = omega (arith, ap filledBytes (c .before .before .before .before .n .given .1))
+part-write-end c = omega (arith, ap filledBytes (c .before .before .before .before .before .n .given .1))
 
 write-requires : tie.Need-write-requires
 write-requires c κs = search needs
@@ -58,12 +64,14 @@ copy-some-spec =
     large-buffer-requires
     slice-aggregate-fill
     slice-aggregate-fill-2
+    slice-aggregate-fill-3
     fill-requires
     enum-known-n
     enum-told
     returns
     returns-2
     slice-aggregate-write
+    slice-aggregate-write-2
     sub-write
     part-write-start
     part-write-end

@@ -1,13 +1,13 @@
--- `laywrite::copy_all` ends: it counts its turns down.
+-- `laywrite::copy_rest` ends: it counts its turns down.
 use borrow.Author.Needs.{needs}
-use Rattle.laywrite.proofs.copy_all.Statement.{statement}
-use Rattle.laywrite.proofs.copy_all.Tie as tie
+use Rattle.laywrite.proofs.copy_rest.Statement.{statement}
+use Rattle.laywrite.proofs.copy_rest.Tie as tie
 
 abbrev Inv-loop : tie.InvT-loop
-Inv-loop scratch file turns₀ turns = Unit {0}
+Inv-loop from to turns₀ turns = Unit {0}
 
 abbrev μ-loop : tie.MeasureT-loop
-μ-loop scratch file turns₀ turns = turns
+μ-loop from to turns₀ turns = turns
 
 loop-holds : tie.Need-loop-holds Inv-loop μ-loop
 loop-holds c = search needs
@@ -39,8 +39,8 @@ loop-again c = search needs
 returns-3 : tie.Need-returns-3 Inv-loop μ-loop
 returns-3 c = search needs
 
-pub copy-all-spec : {M : Type 1} → statement M
-copy-all-spec =
+pub copy-rest-spec : {M : Type 1} → statement M
+copy-rest-spec =
     tie.close
     (tie.spec
     Inv-loop
