@@ -16,7 +16,7 @@ use Rattle.squares.proofs.RootLaws.{root-law, root-unique}
 use Rattle.metres.specs.declared.Whole.{Whole}
 use Rattle.metres.specs.declared.Whole.the-variants as whole
 use Rattle.metres.specs.declared.Length.the-variants as metres
-use Rattle.metres.specs.Metres.{centimetresOf, hundredthOf, metresOf}
+use Rattle.metres.specs.Metres.{signed, centimetresOf, hundredthOf, metresOf}
 use Rattle.metres.specs.Nearest.{MayAnswer}
 use Rattle.metres.specs.Patterns.{numberOf, patternOf}
 use Rattle.metres.proofs.Answers.{answers, answers-only}
@@ -49,21 +49,24 @@ use Rattle.writing.specs.Writing.{refusalOf, usedOf, bufferOf, rawFor, entryFor
 use Rattle.writing.specs.ChainWriting.{chainRefusalOf, chainBufferOf, allSound, tableOf}
 use Rattle.writing.specs.JobWriting.{jobRefusalOf, jobBufferOf}
 use Rattle.writing.proofs.Theorems.{reads-back, chains-written, chains-counted, chains-read-back, window-written, job-reads-back}
-use Rattle.text.specs.Texts.{spaced, figuresText, bytesIn}
+use Rattle.text.specs.Texts.{digitsOf, spaced, figuresText, bytesIn}
 use Rattle.parsing.specs.declared.ParsedJob.the-variants as parsed-job
 use Rattle.parsing.specs.declared.ParsedChain.the-variants as parsed-chain
 use Rattle.parsing.specs.declared.ParsedDraft.the-variants as parsed-draft
 use Rattle.parsing.specs.declared.ParsedQuestion.the-variants as parsed-question
-use Rattle.parsing.specs.Numbers.{valueAt}
+use Rattle.parsing.specs.Numbers.{isLength, centimetresIn, isBelow, sizeIn, isReading, valueAt, lengthAt}
 use Rattle.parsing.specs.Parsed.{parsedJob, parsedChain, parsedDraft, parsedQuestion}
 use Rattle.shown.specs.Lines.{jobText, jobLine, stationFigures, chainLine, recordText, recordLine}
+use Rattle.shown.specs.Fields.{metresText}
 use Rattle.shown.specs.Expected.{expectedIn}
+use Rattle.parsing.proofs.Lengths.{metres-length, metres-say}
+use Rattle.parsing.proofs.TypedLaws.{digits-length, digits-centimetres}
 use Rattle.listing.specs.declared.Carried.{Carried}
 use Rattle.listing.specs.Answers.{fixBy, answerBy, answerOf, placesOf}
 use Rattle.demands.specs.Finding.{EachSmall}
 use Rattle.demands.proofs.NumberLaws.{job-good}
 use Rattle.demands.proofs.WritingLaws.{hyperbolic-accepted, grid-accepted, hold-accepted, chain-byte}
-use Rattle.demands.proofs.TextLaws.{job-line-shown, job-typed-again, chain-line-shown, chain-typed-again, record-line-shown, record-typed-again}
+use Rattle.demands.proofs.TextLaws.{job-line-shown, job-typed-again, chain-line-shown, chain-typed-again, is-digit, metres-says, record-line-shown, metres-line, record-typed-again}
 use Rattle.demands.proofs.QuestionLaws.{expected-as-typed}
 use Rattle.demands.proofs.AskingLaws.{own-readings, found-by, tests-pass, fix-places}
 
@@ -168,8 +171,32 @@ job-shown-and-typed j small accepted = (job-line-shown j small accepted, job-typ
 -- The readings shown for a typed question are those for the chain number and the place exactly as they were typed, however
 -- large these numbers are.
 pub question-as-typed : (table s : List ℕ) (number : ℕ) (p : Place) → parsedQuestion s ≡ parsed-question.Question number p →
-    expectedIn table number p ≡ expectedIn table (valueAt s 0) (record { easting = valueAt s 1; northing = valueAt s 2 })
+    expectedIn table number p ≡ expectedIn table (valueAt s 0) (record { easting = lengthAt s 1; northing = lengthAt s 2 })
 question-as-typed table s number p e = expected-as-typed table s number p e
+
+-- A length that is typed in digits alone says so many centimetres; one that is typed in metres, with a point and two decimals, says
+-- a hundred times the metres and the decimals.
+pub centimetres-as-typed : (n : ℕ) → (isLength (digitsOf n) ≡ true) × (centimetresIn (digitsOf n) ≡ n)
+centimetres-as-typed n = (digits-length n, digits-centimetres n)
+
+pub metres-as-typed : (m tenths hundredths : ℕ) → tenths < 10 → hundredths < 10 →
+    let w = digitsOf m ++ (46 ∷ (48 + tenths) ∷ (48 + hundredths) ∷ []) in
+    (isLength w ≡ true) × (centimetresIn w ≡ 100 * m + (10 * tenths + hundredths))
+metres-as-typed m t h tenth hundredth =
+    let first = is-digit t tenth in
+    let second = is-digit h hundredth in
+    (metres-length m (48 + t) (48 + h) first second, metres-say m (48 + t) (48 + h) first second ∙ omega arith)
+
+-- The metres that `layexpect` prints for a reading, typed in, are the same reading. And every record that the writer accepts, typed
+-- with its readings or its place in metres, gives the same draft again.
+pub reading-in-metres : (z : ℤ) → (isReading (metresText z) ≡ true) × (signed (isBelow (metresText z)) (centimetresIn (sizeIn (metresText z))) ≡ z)
+reading-in-metres z = (metres-says z .reading, metres-says z .back)
+
+pub record-in-metres : (d : Draft) → d .line < 2 ^ 32 → refusalOf 32 d ≡ 0 →
+    let used = usedOf d in
+    parsedDraft (figuresText (used .kind ∷ used .chain ∷ used .line ∷ []) ++ ((32 ∷ metresText (used .x)) ++ (32 ∷ metresText (used .y))))
+    ≡ parsed-draft.Draft used
+record-in-metres d small accepted = metres-line d small accepted
 
 -- The writer accepts any two readings up to 1,000,000,000 in size for a chain from 1 to 16, any place in range, and any hold;
 -- and each of these is read back the same.

@@ -67,12 +67,33 @@ use Rattle.parsing.proofs.job as parsed-job
 use Rattle.parsing.proofs.chain as parsed-chain
 use Rattle.parsing.proofs.draft as parsed-draft
 use Rattle.parsing.proofs.question as parsed-question
+use Rattle.parsing.proofs.good_words as good-words
+use Rattle.parsing.proofs.wrong_at as wrong-at
+use Rattle.parsing.proofs.taken_for as taken-for
+use Rattle.parsing.proofs.words_of as words-of
+use Rattle.parsing.proofs.word_at as word-at
+use Rattle.parsing.proofs.place_fault as place-fault
+use Rattle.parsing.proofs.job_fault as job-fault
+use Rattle.parsing.proofs.draft_fault as draft-fault
+use Rattle.parsing.proofs.chain_fault as chain-fault
 use Rattle.shown.proofs.job as shown-job
 use Rattle.shown.proofs.chain as shown-chain
 use Rattle.shown.proofs.record as shown-record
 use Rattle.shown.proofs.expected as shown-expected
 use Rattle.files.proofs.none_given as none-given
 use Rattle.files.proofs.refused as refused
+use Rattle.files.proofs.missing as files-missing
+use Rattle.files.proofs.written as files-written
+use Rattle.files.proofs.job_written as files-job-written
+use Rattle.files.proofs.chains_unknown as files-chains-unknown
+use Rattle.files.proofs.give_up as files-give-up
+use Rattle.files.proofs.note as files-note
+use Rattle.files.proofs.failed as files-failed
+use Rattle.files.proofs.trouble as files-trouble
+use Rattle.files.proofs.refused_word as files-refused-word
+use Rattle.files.proofs.refused_argument as files-refused-argument
+use Rattle.files.proofs.refused_form as files-refused-form
+use Rattle.files.proofs.lines_refused as files-lines-refused
 use Rattle.listing.proofs.list as list
 use Rattle.lay.proofs.lay_version as lay-version
 use Rattle.lay.proofs.lay_centimetres as lay-centimetres
@@ -247,6 +268,33 @@ module _ {M : Type 1} (𝓤 : URA M) (H : Heap 𝓤) (A : Atoms 𝓤) (mem : Mem
   pub parsed-question-only : OneAnswer 𝓤 parsed-question.ended (parsed-question.clauses 𝓤 H A mem run)
   parsed-question-only κs a g x y = only 𝓤 same (λ answer. answer & refl)
 
+  pub good-words-only : OneAnswer 𝓤 good-words.ended (good-words.clauses 𝓤 H A mem run)
+  good-words-only κs a g x y = only 𝓤 same (λ answer. answer & refl)
+
+  pub wrong-at-only : OneAnswer 𝓤 wrong-at.ended (wrong-at.clauses 𝓤 H A mem run)
+  wrong-at-only κs a g x y = only 𝓤 same (λ answer. answer & refl)
+
+  pub taken-for-only : OneAnswer 𝓤 taken-for.ended (taken-for.clauses 𝓤 H A mem run)
+  taken-for-only κs a g x y = only 𝓤 same (λ answer. answer & refl)
+
+  pub words-of-only : OneAnswer 𝓤 words-of.ended (words-of.clauses 𝓤 H A mem run)
+  words-of-only κs a g x y = only 𝓤 same (λ answer. answer & refl)
+
+  pub word-at-only : OneAnswer 𝓤 word-at.ended (word-at.clauses 𝓤 H A mem run)
+  word-at-only κs a g x y = only 𝓤 (same beside told) (λ (answer, word). answer & refl)
+
+  pub place-fault-only : OneAnswer 𝓤 place-fault.ended (place-fault.clauses 𝓤 H A mem run)
+  place-fault-only κs a g x y = only 𝓤 same (λ answer. answer & refl)
+
+  pub job-fault-only : OneAnswer 𝓤 job-fault.ended (job-fault.clauses 𝓤 H A mem run)
+  job-fault-only κs a g x y = only 𝓤 same (λ answer. answer & refl)
+
+  pub draft-fault-only : OneAnswer 𝓤 draft-fault.ended (draft-fault.clauses 𝓤 H A mem run)
+  draft-fault-only κs a g x y = only 𝓤 same (λ answer. answer & refl)
+
+  pub chain-fault-only : OneAnswer 𝓤 chain-fault.ended (chain-fault.clauses 𝓤 H A mem run)
+  chain-fault-only κs a g x y = only 𝓤 same (λ answer. answer & refl)
+
   pub shown-job-only : OneAnswer 𝓤 shown-job.ended (shown-job.clauses 𝓤 H A mem run)
   shown-job-only κs a g x y = only 𝓤 (same beside same) (λ (answer, out). answer & out & refl)
 
@@ -264,6 +312,42 @@ module _ {M : Type 1} (𝓤 : URA M) (H : Heap 𝓤) (A : Atoms 𝓤) (mem : Mem
 
   pub refused-only : OneAnswer 𝓤 refused.ended (refused.clauses 𝓤 H A mem run)
   refused-only κs a g x y = only 𝓤 same (λ answer. answer & refl)
+
+  pub files-missing-only : OneAnswer 𝓤 files-missing.ended (files-missing.clauses 𝓤 H A mem run)
+  files-missing-only κs a g x y = only 𝓤 same (λ answer. answer & refl)
+
+  pub files-written-only : OneAnswer 𝓤 files-written.ended (files-written.clauses 𝓤 H A mem run)
+  files-written-only κs a g x y = only 𝓤 same (λ answer. answer & refl)
+
+  pub files-job-written-only : OneAnswer 𝓤 files-job-written.ended (files-job-written.clauses 𝓤 H A mem run)
+  files-job-written-only κs a g x y = only 𝓤 same (λ answer. answer & refl)
+
+  pub files-chains-unknown-only : OneAnswer 𝓤 files-chains-unknown.ended (files-chains-unknown.clauses 𝓤 H A mem run)
+  files-chains-unknown-only κs a g x y = only 𝓤 same (λ answer. answer & refl)
+
+  pub files-give-up-only : OneAnswer 𝓤 files-give-up.ended (files-give-up.clauses 𝓤 H A mem run)
+  files-give-up-only κs a g x y = only 𝓤 same (λ answer. answer & refl)
+
+  pub files-note-only : OneAnswer 𝓤 files-note.ended (files-note.clauses 𝓤 H A mem run)
+  files-note-only κs a g x y = only 𝓤 same (λ answer. answer & refl)
+
+  pub files-failed-only : OneAnswer 𝓤 files-failed.ended (files-failed.clauses 𝓤 H A mem run)
+  files-failed-only κs a g x y = only 𝓤 same (λ answer. answer & refl)
+
+  pub files-trouble-only : OneAnswer 𝓤 files-trouble.ended (files-trouble.clauses 𝓤 H A mem run)
+  files-trouble-only κs a g x y = only 𝓤 same (λ answer. answer & refl)
+
+  pub files-refused-word-only : OneAnswer 𝓤 files-refused-word.ended (files-refused-word.clauses 𝓤 H A mem run)
+  files-refused-word-only κs a g x y = only 𝓤 same (λ answer. answer & refl)
+
+  pub files-refused-argument-only : OneAnswer 𝓤 files-refused-argument.ended (files-refused-argument.clauses 𝓤 H A mem run)
+  files-refused-argument-only κs a g x y = only 𝓤 same (λ answer. answer & refl)
+
+  pub files-refused-form-only : OneAnswer 𝓤 files-refused-form.ended (files-refused-form.clauses 𝓤 H A mem run)
+  files-refused-form-only κs a g x y = only 𝓤 same (λ answer. answer & refl)
+
+  pub files-lines-refused-only : OneAnswer 𝓤 files-lines-refused.ended (files-lines-refused.clauses 𝓤 H A mem run)
+  files-lines-refused-only κs a g x y = only 𝓤 same (λ answer. answer & refl)
 
   pub list-only : OneAnswer 𝓤 list.ended (list.clauses 𝓤 H A mem run)
   list-only κs a g x y = only 𝓤 (same beside same) (λ (answer, out). answer & out & refl)

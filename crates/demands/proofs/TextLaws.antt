@@ -1,14 +1,14 @@
 -- How a job, a chain or a log record that was written is shown: as a line without a refusal, whose fields, typed in, give
 -- back what was written.
-use Prim.Native.Nat.{ℕ, _^_, _≤_, _<_}
+use Prim.Native.Nat.{ℕ, zero, suc, _+_, _*_, _/_, _%_, _^_, _≤_, _<_}
 use mathlib.Core.Path.{_≡_, refl, sym, ap, ap₂, _∙_}
-use mathlib.Core.Bool.{true, false≢true}
+use mathlib.Core.Bool.{true, false, false≢true}
 use mathlib.Core.List.{List, [], _∷_, _++_, map, append-nil, append-assoc}
 use native.Mathlib.Omega.{arith}
-use borrow.Author.Tests.{lt-ltb}
 use lib.Dec.{leb, eqb}
-use lib.IntN.{ℤ, natAbs}
-use lib.ListN.{length, getD}
+use lib.IntN.{ℤ, pos, negsuc, natAbs}
+use lib.ListN.{length, getD, List·getD-append}
+use borrow.Author.Tests.{le-leb, ne-eqb}
 use Rattle.fields.specs.Fields.{bytesOf}
 use Rattle.metres.specs.declared.Whole.{Whole}
 use Rattle.metres.specs.Metres.{signed, mostCentimetres}
@@ -34,20 +34,25 @@ use Rattle.writing.specs.ChainWriting.{bytesOfChain, chainRefusalOf, chainBuffe
 use Rattle.writing.specs.JobWriting.{jobRefusalOf, jobBufferOf}
 use Rattle.writing.proofs.Theorems.{reads-back, chains-read-back, job-reads-back}
 use Rattle.text.specs.Texts.{digitsOf, figuresText, spaced, wholeText, numeral, bytesIn}
+use Rattle.text.proofs.Digits.{all-digits, digits-some}
 use Rattle.text.proofs.Digits.{reads-back as digits-back}
 use Rattle.parsing.specs.declared.ParsedJob.the-variants as parsed-job
 use Rattle.parsing.specs.declared.ParsedChain.the-variants as parsed-chain
 use Rattle.parsing.specs.declared.ParsedDraft.the-variants as parsed-draft
-use Rattle.parsing.specs.Words.{wordAt}
-use Rattle.parsing.specs.Numbers.{isNumber, isBelow, sizeIn, isReading, areNumbers, fits, valueAt, readingAt}
-use Rattle.parsing.specs.Parsed.{parsedJob, parsedChain, isDraft, parsedDraft}
-use Rattle.parsing.proofs.WordLaws.{spacedWords, spaced-both, spaced-one, words-back}
-use Rattle.parsing.proofs.NumberLaws.{digits-word, digits-number, whole-word, whole-reading, whole-back, figures-spaced, figures-line, figures-back}
+use Rattle.parsing.specs.declared.Form.the-variants as form
+use Rattle.parsing.specs.declared.Taken.the-variants as taken
+use Rattle.parsing.specs.Words.{run, wordAt, isPassed}
+use Rattle.parsing.specs.Numbers.{isDigit, isLength, centimetresIn, isBelow, sizeIn, isReading, valueAt, readingAt}
+use Rattle.parsing.specs.Forms.{wordsOf, takenFor, isTaken, isForm}
+use Rattle.parsing.specs.Parsed.{parsedJob, parsedChain, parsedDraft}
+use Rattle.parsing.proofs.WordLaws.{IsWord, spacedWords, spaced-both, spaced-one, words-back}
+use Rattle.parsing.proofs.Lengths.{metres-word, metres-length, metres-say}
+use Rattle.parsing.proofs.TypedLaws.{digits-word, digits-number-taken, digits-line-taken, digits-allowance-taken, digits-length-taken, whole-word, whole-reading, whole-back, figures-spaced, words-form, figures-form, figures-back, lengths-back, figures-some, not-passed, figures-not-passed}
 use Rattle.records.proofs.RefusalLaws.{passed}
 use Rattle.records.proofs.JobLaws.{zerosKept, job-by-tests}
 use Rattle.parsing.proofs.HeldRecords.{used-fits}
 use Rattle.parsing.proofs.Fields.{jobTyped, chainTyped, draftTyped, job-taken, chain-taken, draft-taken}
-use Rattle.shown.specs.Fields.{wholeOr, centimetresText, refusedText}
+use Rattle.shown.specs.Fields.{wholeOr, centimetresText, signText, decimalText, metresText, refusedText}
 use Rattle.shown.specs.Lines.{lineWith, jobFigures, jobFields, jobText, jobLine, stationFigures, chainFields, chainText, refusalIn, chainLine, rawText, rawFields, recordText, recordLine}
 
 -- If nothing is refused, only the newline follows the fields.
@@ -78,13 +83,24 @@ module _ (j : Job) (small : j .allowance < 2 ^ 64) (accepted : jobRefusalOf 32 j
       (ap jobRefusal (job-reads-back j small accepted))
 
   pub job-typed-again : parsedJob (jobText (jobBufferOf 32 j)) ≡ parsed-job.Job j
+  unfolding takenFor wordsOf
   job-typed-again =
       let ns = jobFigures j in
       let at = figures-back ns in
-      let same : jobTyped (figuresText ns) ≡ j = rw (at 0, at 1, at 2, at 3, at 4) in
+      let length-at = lengths-back ns in
+      let same : jobTyped (figuresText ns) ≡ j =
+      rw (length-at 0, length-at 1, at 2, length-at 3, figures-some ns 4 (omega arith), at 4) in
       ap parsedJob job-shown
-      ∙ job-taken 32 (figuresText ns) (figures-line ns) (omega (arith, at 4)) (ap (jobRefusalOf 32) same ∙ accepted)
+      ∙ job-taken 32 (figuresText ns) (figures-form form.Job ns refl each) (ap (jobRefusalOf 32) same ∙ accepted)
       ∙ ap parsed-job.Job same
+    where
+      each : (i : ℕ) → i < 5 → isTaken (takenFor form.Job i) (digitsOf (getD (jobFigures j) i 0)) ≡ true
+      each zero l = digits-length-taken _
+      each (suc zero) l = digits-length-taken _
+      each (suc (suc zero)) l = digits-number-taken _
+      each (suc (suc (suc zero))) l = digits-length-taken _
+      each (suc (suc (suc (suc zero)))) l = digits-allowance-taken _ small
+      each (suc (suc (suc (suc (suc i))))) l = absurd (omega (arith, l))
 
 -- A chain.
 module _ (c : Chain) (sound : isSound c ≡ true) where
@@ -131,49 +147,120 @@ module _ (c : Chain) (sound : isSound c ≡ true) where
   accepted = rw sound
 
   pub chain-typed-again : parsedChain (figuresText (stationFigures c)) ≡ parsed-chain.Chain c
+  unfolding takenFor wordsOf
   chain-typed-again =
       let ns = stationFigures c in
-      let at = figures-back ns in
+      let at = lengths-back ns in
       let same : chainTyped (figuresText ns) ≡ c = rw (at 0, at 1, at 2, at 3, at 4, at 5) in
-      chain-taken 24 (figuresText ns) (figures-line ns) (ap (chainRefusalOf 24) same ∙ accepted)
+      chain-taken 24 (figuresText ns) (figures-not-passed _ _) (figures-form form.Chain ns refl (λ i l. digits-length-taken _))
+      (ap (chainRefusalOf 24) same ∙ accepted)
       ∙ ap parsed-chain.Chain same
 
--- A draft: three numbers and two readings.
-abbrev draftWords : Draft → List (List ℕ)
-draftWords d = digitsOf (d .kind) ∷ digitsOf (d .chain) ∷ digitsOf (d .line) ∷ wholeText (d .x) ∷ wholeText (d .y) ∷ []
+-- A reading as it may be typed: a word that says it.
+pub record Says (w : List ℕ) (z : ℤ) : Type 0 where
+  pub word : IsWord w
+  pub reading : isReading w ≡ true
+  pub back : signed (isBelow w) (centimetresIn (sizeIn w)) ≡ z
 
-draft-words : (d : Draft) (i : ℕ) → wordAt i (spacedWords (draftWords d)) ≡ getD (draftWords d) i []
-draft-words d =
-    words-back (draftWords d)
-    (digits-word (d .kind), (digits-word (d .chain), (digits-word (d .line), (whole-word (d .x), (whole-word (d .y), tt)))))
+whole-says : (z : ℤ) → Says (wholeText z) z
+whole-says z = record { word = whole-word z; reading = whole-reading z; back = whole-back z }
 
-module _ (d : Draft) where
-  is-draft : d .line < 2 ^ 32 → isDraft (spacedWords (draftWords d)) ≡ true
-  unfolding areNumbers
+-- The digit of a number below 10.
+pub is-digit : (n : ℕ) → n < 10 → isDigit (48 + n) ≡ true
+is-digit n h = and-both (le-leb 48 (48 + n) (omega arith)) (le-leb (48 + n) 57 (omega (arith, h)))
+
+-- Centimetres written as metres are a word, and say the same centimetres.
+module _ (n : ℕ) where
+  tenths : isDigit (48 + n / 10 % 10) ≡ true
+  tenths = is-digit (n / 10 % 10) (omega arith)
+
+  hundredths : isDigit (48 + n % 10) ≡ true
+  hundredths = is-digit (n % 10) (omega arith)
+
+  pub decimal-word : IsWord (decimalText n)
+  unfolding bytesIn
+  decimal-word = metres-word (n / 100) (48 + n / 10 % 10) (48 + n % 10) tenths hundredths
+
+  pub decimal-length : isLength (decimalText n) ≡ true
+  unfolding bytesIn
+  decimal-length = metres-length (n / 100) (48 + n / 10 % 10) (48 + n % 10) tenths hundredths
+
+  pub decimal-says : centimetresIn (decimalText n) ≡ n
+  unfolding bytesIn
+  decimal-says = metres-say (n / 100) (48 + n / 10 % 10) (48 + n % 10) tenths hundredths ∙ omega arith
+
+  decimal-above : isBelow (decimalText n) ≡ false
+  decimal-above =
+      ne-eqb (getD (decimalText n) 0 0) 45
+      (λ e. omega (
+        arith,
+        e,
+        List·getD-append (digitsOf (n / 100)) (bytesIn "." ++ ((48 + n / 10 % 10) ∷ (48 + n % 10) ∷ [])) 0 0 (digits-some (n / 100)),
+        all-digits (n / 100) 0 (digits-some (n / 100)) .low,
+      ))
+
+  decimal-size : sizeIn (decimalText n) ≡ decimalText n
+  decimal-size = rw decimal-above
+
+pub metres-says : (z : ℤ) → Says (metresText z) z
+unfolding signText bytesIn run
+metres-says (pos n) =
+    record {
+      word = decimal-word n;
+      reading = ap isLength (decimal-size n) ∙ decimal-length n;
+      back = ap₂ signed (decimal-above n) (ap centimetresIn (decimal-size n) ∙ decimal-says n);
+    }
+metres-says (negsuc n) =
+    record {
+      word = record { some = omega arith; whole = ap suc (decimal-word (suc n) .whole) };
+      reading = decimal-length (suc n);
+      back = ap (signed true) (decimal-says (suc n));
+    }
+
+reading-taken : (w : List ℕ) → isReading w ≡ true → isTaken taken.Reading w ≡ true
+unfolding isTaken
+reading-taken w h = h
+
+-- A draft: three numbers and two readings, in words that say them.
+abbrev pub draftWords : Draft → List ℕ → List ℕ → List (List ℕ)
+draftWords d x y = digitsOf (d .kind) ∷ digitsOf (d .chain) ∷ digitsOf (d .line) ∷ x ∷ y ∷ []
+
+module _ (d : Draft) (x y : List ℕ) (says-x : Says x (d .x)) (says-y : Says y (d .y)) where
+  draft-words : (i : ℕ) → wordAt i (spacedWords (draftWords d x y)) ≡ getD (draftWords d x y) i []
+  draft-words =
+      words-back (draftWords d x y)
+      (digits-word (d .kind), (digits-word (d .chain), (digits-word (d .line), (says-x .word, (says-y .word, tt)))))
+
+  is-draft : d .line < 2 ^ 32 → isForm form.Draft (spacedWords (draftWords d x y)) ≡ true
+  unfolding takenFor wordsOf
   is-draft small =
-      let s = spacedWords (draftWords d) in
-      let words = draft-words d in
-      let number : (i n : ℕ) → wordAt i s ≡ digitsOf n → isNumber (wordAt i s) ≡ true = λ i n e. ap isNumber e ∙ digits-number n in
-      let reading : (i : ℕ) (z : ℤ) → wordAt i s ≡ wholeText z → isReading (wordAt i s) ≡ true = λ i z e. ap isReading e ∙ whole-reading z in
-      let line : valueAt s 2 ≡ d .line = ap numeral (words 2) ∙ digits-back (d .line) in
-      and-both (and-both (and-both (number 0 (d .kind) (words 0)) (number 1 (d .chain) (words 1))) (number 2 (d .line) (words 2)))
-      (and-both (reading 3 (d .x) (words 3))
-      (and-both (reading 4 (d .y) (words 4))
-      (and-both (ap (λ (w : List ℕ). eqb (length w) 0) (words 5)) (ap (fits 32) line ∙ lt-ltb (d .line) (2 ^ 32) small))))
+      words-form form.Draft (draftWords d x y)
+      (digits-word (d .kind), (digits-word (d .chain), (digits-word (d .line), (says-x .word, (says-y .word, tt)))))
+      refl each
+    where
+      each : (i : ℕ) → i < 5 → isTaken (takenFor form.Draft i) (getD (draftWords d x y) i []) ≡ true
+      each zero l = digits-number-taken (d .kind)
+      each (suc zero) l = digits-number-taken (d .chain)
+      each (suc (suc zero)) l = digits-line-taken (d .line) small
+      each (suc (suc (suc zero))) l = reading-taken x (says-x .reading)
+      each (suc (suc (suc (suc zero)))) l = reading-taken y (says-y .reading)
+      each (suc (suc (suc (suc (suc i))))) l = absurd (omega (arith, l))
 
-  same-draft : draftTyped (spacedWords (draftWords d)) ≡ d
+  draft-said : isPassed (spacedWords (draftWords d x y)) ≡ false
+  draft-said = not-passed (spacedWords (draftWords d x y)) (d .kind) (draft-words 0)
+
+  same-draft : draftTyped (spacedWords (draftWords d x y)) ≡ d
   same-draft =
-      let s = spacedWords (draftWords d) in
-      let words = draft-words d in
+      let s = spacedWords (draftWords d x y) in
       let number : (i n : ℕ) → wordAt i s ≡ digitsOf n → valueAt s i ≡ n = λ i n e. ap numeral e ∙ digits-back n in
-      let reading : (i : ℕ) (z : ℤ) → wordAt i s ≡ wholeText z → readingAt s i ≡ z =
-      λ i z e. ap (λ (w : List ℕ). signed (isBelow w) (numeral (sizeIn w))) e ∙ whole-back z in
+      let reading : (i : ℕ) (w : List ℕ) → wordAt i s ≡ w → readingAt s i ≡ signed (isBelow w) (centimetresIn (sizeIn w)) =
+      λ i w e. ap (λ (v : List ℕ). signed (isBelow v) (centimetresIn (sizeIn v))) e in
       rw (
-        number 0 (d .kind) (words 0),
-        number 1 (d .chain) (words 1),
-        number 2 (d .line) (words 2),
-        reading 3 (d .x) (words 3),
-        reading 4 (d .y) (words 4),
+        number 0 (d .kind) (draft-words 0),
+        number 1 (d .chain) (draft-words 1),
+        number 2 (d .line) (draft-words 2),
+        reading 3 x (draft-words 3) ∙ says-x .back,
+        reading 4 y (draft-words 4) ∙ says-y .back,
       )
 
 -- A number of centimetres that was written is shown as it was.
@@ -182,7 +269,7 @@ unfolding wholeOr
 centimetres-shown z h = ap (λ (a : Whole). 32 ∷ wholeOr a) (way-back z h) ∙ spaced-one (wholeText z)
 
 raw-shown : (d : Draft) → natAbs (d .x) ≤ mostCentimetres → natAbs (d .y) ≤ mostCentimetres →
-    rawText (rawFor d) ≡ spacedWords (draftWords d)
+    rawText (rawFor d) ≡ spacedWords (draftWords d (wholeText (d .x)) (wholeText (d .y)))
 raw-shown d x y =
     let ns = d .kind ∷ d .chain ∷ d .line ∷ [] in
     let two = ap₂ _++_ (centimetres-shown (d .x) x) (centimetres-shown (d .y) y) in
@@ -190,7 +277,7 @@ raw-shown d x y =
     ∙ spaced-both (map digitsOf ns) (wholeText (d .x) ∷ wholeText (d .y) ∷ [])
 
 module _ (d : Draft) (small : d .line < 2 ^ 32) (accepted : refusalOf 32 d ≡ 0) where
-  record-shown : recordText (bufferOf 32 d) ≡ spacedWords (draftWords (usedOf d))
+  record-shown : recordText (bufferOf 32 d) ≡ spacedWords (draftWords (usedOf d) (wholeText (usedOf d .x)) (wholeText (usedOf d .y)))
   unfolding rawFields
   record-shown =
       let fit = used-fits 32 d accepted in
@@ -204,8 +291,31 @@ module _ (d : Draft) (small : d .line < 2 ^ 32) (accepted : refusalOf 32 d ≡ 0
       (ap entryRefusal (reads-back d small accepted .entry)
       ∙ either-kind none (eqb (usedOf d .kind) 1) refl (either-kind none (eqb (usedOf d .kind) 2) refl refl))
 
+  -- Three numbers and two words that say the readings that the kind uses, typed, give back what was written.
+  said-again : (x y : List ℕ) → Says x (usedOf d .x) → Says y (usedOf d .y) →
+      parsedDraft (spacedWords (draftWords (usedOf d) x y)) ≡ parsed-draft.Draft (usedOf d)
+  said-again x y says-x says-y =
+      let line : usedOf d .line < 2 ^ 32 = unfold usedOf in small in
+      draft-taken 32 (spacedWords (draftWords (usedOf d) x y)) d (draft-said (usedOf d) x y says-x says-y)
+      (is-draft (usedOf d) x y says-x says-y line) (same-draft (usedOf d) x y says-x says-y) accepted
+
+  -- The same record with its readings in metres.
+  pub metres-typed-again : parsedDraft (spacedWords (draftWords (usedOf d) (metresText (usedOf d .x)) (metresText (usedOf d .y)))) ≡ parsed-draft.Draft (usedOf d)
+  metres-typed-again =
+      said-again (metresText (usedOf d .x)) (metresText (usedOf d .y)) (metres-says (usedOf d .x)) (metres-says (usedOf d .y))
+
+  pub metres-line : parsedDraft (figuresText (usedOf d .kind ∷ usedOf d .chain ∷ usedOf d .line ∷ []) ++ ((32 ∷ metresText (usedOf d .x)) ++ (32 ∷ metresText (usedOf d .y)))) ≡ parsed-draft.Draft (usedOf d)
+  metres-line =
+      let used = usedOf d in
+      let ns = used .kind ∷ used .chain ∷ used .line ∷ [] in
+      let x = metresText (used .x) in
+      let y = metresText (used .y) in
+      ap parsedDraft
+      (ap₂ _++_ (figures-spaced ns) (ap₂ _++_ (spaced-one x) (spaced-one y) ∙ spaced-both (x ∷ []) (y ∷ []))
+      ∙ spaced-both (map digitsOf ns) (x ∷ y ∷ []))
+      ∙ metres-typed-again
+
   pub record-typed-again : parsedDraft (recordText (bufferOf 32 d)) ≡ parsed-draft.Draft (usedOf d)
   record-typed-again =
-      let line : usedOf d .line < 2 ^ 32 = unfold usedOf in small in
       ap parsedDraft record-shown
-      ∙ draft-taken 32 (spacedWords (draftWords (usedOf d))) d (is-draft (usedOf d) line) (same-draft (usedOf d)) accepted
+      ∙ said-again (wholeText (usedOf d .x)) (wholeText (usedOf d .y)) (whole-says (usedOf d .x)) (whole-says (usedOf d .y))
