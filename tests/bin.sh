@@ -1,6 +1,6 @@
 #!/usr/bin/env bash
-# Tests how bin/ finds, builds and runs a program, in copies of the repository: links of any name, copies, closed streams, a source that
-# has changed, a clone that cannot be written to, two builds at once; and how the commands install what the tests need.
+# Tests how bin/ finds, builds and runs a program, in copies of the repository: links of any name, copies, closed streams, notes, a
+# source that has changed, a clone that cannot be written to, two builds at once; and how the commands install what the tests need.
 cd "$(dirname "$0")/.." && . tests/common.bash
 folders=$(mktemp -d)
 trap 'chmod -R u+w "$folders"; rm -rf "$folders"' EXIT
@@ -46,6 +46,85 @@ for redirection in '2>&-' '2>/dev/full' '2>/dev/null' '>&- 2>&-'; do
 done
 run bash -c 'bin/layexpect <&- 1 2'
 pass_if "standard input closed: $(cat "$said")" ended 1 'layexpect: REFUSED 12: '
+
+# What a program prints on standard error, and the status that follows, by a stand-in for the program: the commands in `plays`.
+mkdir "$folders/stage"
+cp bin/lay "$folders/stage/lay"
+ln -s lay "$folders/stage/laywrite"
+printf '%s\n' '# A stand-in.' 'is_program() { true; }' 'ready() { true; }' 'program() { bash -c "$plays"; }' >"$folders/stage/program.bash"
+
+# play COMMANDS [REDIRECTION]: runs them as laywrite, with the status in `status`
+play() {
+    export plays=$1
+    run bash -c "\"$folders/stage/laywrite\" ${2:-}"
+}
+one_note="printf 'laywrite: note: a record names a chain\n' >&2"
+one_refusal="printf 'laywrite: line 1 REFUSED 2: a sentence\n' >&2"
+
+# With which status it ends, and that every byte is passed on as it is.
+while IFS='|' read -r wanted words; do
+    play "printf '$words' >&2"
+    pass_if "'$words' on standard error ends with $wanted" [ "$status" -eq "$wanted" ]
+    pass_if "'$words' is passed on" cmp -s "$said" <(printf "$words")
+    pass_if "'$words' goes to standard error alone" [ ! -s "$printed" ]
+done <<'END'
+0|
+0|laywrite: note: one\n
+0|laywrite: note: one\nlaywrite: note: two\n
+0|laywrite: note: without a newline
+0|laywrite: note: \377\200 and a zero \000 in it\n
+1|laywrite: note: one\nlaywrite: REFUSED 12: word 1\n
+1|laywrite: REFUSED 12: word 1\nlaywrite: note: one\n
+1|laywrite: line 2 REFUSED 12: word 1, `\377\000`: a sentence\n
+1|laywrite: note: one\n\n
+1|\n
+1|\000
+1|laywrite: lay.dat: No space left on device
+1|laychain: note: one\n
+1| laywrite: note: one\n
+1|laywrite: notes: one\n
+1|laywrite:note: one\n
+1|note: one\n
+1|laywrite: REFUSED 12: laywrite: note: one\n
+END
+play 'echo a line'
+pass_if 'standard output is passed on' prints 'a line'
+play 'exit 3'
+pass_if 'a program that fails without a word ends with 1' [ "$status" -eq 1 ]
+play 'kill -9 $$'
+pass_if 'and so does one that is killed' [ "$status" -eq 1 ]
+
+# Where standard error is closed, full, or a pipe that nobody reads, the status is the same, and the program is not stopped by it.
+many="for i in {1..3000}; do $one_refusal; done"
+for redirection in '2>&-' '2>/dev/full' '2>/dev/null' '>&- 2>&-' '2> >(true)'; do
+    play "sleep 0.1; $one_note; sleep 0.1; $one_note" "$redirection"
+    pass_if "notes with $redirection end with 0" [ "$status" -eq 0 ]
+    play "$one_note; sleep 0.1; $one_refusal" "$redirection"
+    pass_if "a note and a refusal with $redirection end with 1" [ "$status" -eq 1 ]
+    play "sleep 0.1; $one_note; $many; echo whole >'$folders/whole'" "$redirection"
+    pass_if "3,000 refusals with $redirection end with 1" [ "$status" -eq 1 ]
+    pass_if "the program is not stopped by $redirection" rm "$folders/whole"
+done
+
+# A line is passed on at once, while the program goes on: it ends only when the line has been read here.
+mkfifo "$folders/going" "$folders/passed"
+plays="$one_refusal; read -r <'$folders/going'" timeout 20 "$folders/stage/laywrite" 2>"$folders/passed" &
+line=
+exec 7<>"$folders/passed"
+read -r -t 10 line <&7 || true
+exec 7>&-
+pass_if "a refusal is passed on while the program runs: $line" [ "$line" = 'laywrite: line 1 REFUSED 2: a sentence' ]
+timeout 10 bash -c 'echo >"$1"' - "$folders/going" || true
+wait $! || true
+
+# Standard input is what the caller has: a terminal, a file, a pipe.
+is_terminal='[ ! -t 0 ] && echo no terminal || echo a terminal'
+play "$is_terminal" '</dev/null'
+pass_if 'a file is no terminal' prints 'no terminal'
+plays=$is_terminal run python3 -c 'import pty, sys; sys.exit(pty.spawn(sys.argv[1:]) >> 8)' "$folders/stage/laywrite"
+pass_if "a terminal: $(cat "$printed" "$said")" grep -q '^a terminal' "$printed"
+play 'cat' <<<'a line of a pipe'
+pass_if 'what is typed' prints 'a line of a pipe'
 
 # copy NAME: a repository with all that is built of it
 copy() {

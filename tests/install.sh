@@ -14,7 +14,7 @@ installs() {
 
 # The only commands on the path of the desk, beside those installed.
 mkdir "$work" "$commands"
-for name in bash cat dirname env grep readlink uname; do ln -s "$(command -v $name)" "$commands"; done
+for name in bash dirname env grep readlink tee uname; do ln -s "$(command -v $name)" "$commands"; done
 
 # on_desk COMMAND...: runs it in the work folder of the desk, with the status in `status`
 on_desk() {
@@ -33,13 +33,13 @@ names_neither() { ! grep -rlF -e "$repository" -e "${emulator[0]:-$toolchain}" "
 
 # A job from there.
 on_desk layjob 30000 40000 1 0 100
-pass_if "layjob on the desk: $(cat "$said")" prints ''
+pass_if "layjob on the desk: $(cat "$said")" prints 'job.dat: 1 job written, 1 there now; a search may make 100 visits'
 on_desk laychain <<<'0 0 30000 0 0 40000'
-pass_if "laychain on the desk: $(cat "$said")" prints ''
+pass_if "laychain on the desk: $(cat "$said")" prints 'chain.dat: 1 chain written, 1 there now'
 on_desk laywrite <<<'1 1 1 -10000 -20000
 2 0 2 30001 40000
 3 0 3 0 0'
-pass_if "laywrite on the desk: $(cat "$said")" prints ''
+pass_if "laywrite on the desk: $(cat "$said")" prints 'lay.dat: 3 records written, 3 there now'
 for file in job chain lay; do pass_if "$file.dat is that of 01's example" cmp "$work/$file.dat" "$example/$file.dat"; done
 on_desk laylist
 pass_if "laylist on the desk: $(cat "$said")" prints "$(<"$example/listing")"
@@ -62,6 +62,9 @@ on_desk layjob 30000 40000 25 0 100
 pass_if 'a refusal on the desk ends with 1' ended 1 'layjob: REFUSED 6: '
 on_desk bash -c 'layjob 30000 40000 25 0 100 2>&-'
 pass_if 'also without standard error' [ "$status" -eq 1 ]
+on_desk bash -c 'cd / && laylist'
+pass_if "a note on the desk ends with $status" [ "$status" -eq 0 ]
+pass_if "it is passed on: $(cat "$said")" grep -qx 'laylist: note: job.dat is missing, and counts as empty' "$said"
 on_desk bash -c 'laylist >&-'
 pass_if 'a listing that cannot be printed ends with 1' ended 1 'standard output'
 on_desk laylist nowhere

@@ -35,10 +35,18 @@ listed() {
     pass_if "job $1, table $2, log $3: $(cat "$printed" "$said"), not $4" prints "$4"
 }
 
+# only_missing FOLDER: tests that nothing is told but notes of files that the folder does not have
+only_missing() {
+    local tool word file rest
+    while read -r tool word file rest; do
+        [ "$tool $word $rest" = 'laylist: note: is missing, and counts as empty' ] && [ ! -e "$1/$file" ] || return 1
+    done <"$said"
+}
+
 # agrees FOLDER: tests that laylist prints what the file `listing` of the folder has
 agrees() {
     run "$1"
-    ended_well && cmp -s "$printed" "$1/listing" || {
+    [ "$status" -eq 0 ] && only_missing "$1" && cmp -s "$printed" "$1/listing" || {
         cat "$said"
         diff "$1/listing" "$printed" | head -n 4 | cut -c 1-200
         return 1
@@ -99,11 +107,17 @@ listed "$job" "$sixteen 00" "$grid$hold" 'CHAIN REFUSED 1'
 listed "$job" "$sixteen$table" "$grid$hold" 'CHAIN REFUSED 1'
 listed "${job/ 01 / 19 }" "$table 00" "$grid$hold" 'JOB REFUSED 6'
 
-# Files that are missing.
-listed none "$table" "$grid$hold" 'JOB REFUSED 1'
-listed "$job" none "$grid$hold" 'CHAIN REFUSED 1'
-listed "$job" "$table" none ''
-listed none none none 'JOB REFUSED 1'
+# Files that are missing: a note says so of each that is looked for.
+without() {
+    put "$2" "$3" "$4"
+    run "$folder"
+    pass_if "job $2, table $3, log $4: $(cat "$printed" "$said"), not $5" cmp -s "$printed" <(printf "${5:+%s\n}" "$5")
+    pass_if "$1 is missing: $(cat "$said")" [ "$(<"$said")" = "laylist: note: $1 is missing, and counts as empty" ]
+}
+without job.dat none "$table" "$grid$hold" 'JOB REFUSED 1'
+without chain.dat "$job" none "$grid$hold" 'CHAIN REFUSED 1'
+without lay.dat "$job" "$table" none ''
+without job.dat none none none 'JOB REFUSED 1'
 
 # Logs of 0, 1, 31, 32 and 33 bytes, and one whose second record is short.
 listed "$job" "$table" '' ''
@@ -186,25 +200,8 @@ few=$(memory_of records_8000)
 many=$(memory_of records_100000)
 pass_if "a log of 100,000 records takes $many kB, one of 8,000 takes $few" [ $((many - few)) -lt 1000 ]
 
-# A log that arrives in pieces is read to its end, not only to the end of the first piece.
-put "$job" "$table" none
-mkfifo "$folder/lay.dat"
-for piece in "${fix:0:5}" "${fix:5}" "$grid${hold:0:11}" "${hold:11}$hold" "$hold 03"; do
-    bytes "$piece"
-    sleep 0.05
-done >"$folder/lay.dat" &
-feeder=$!
-run "$folder"
-pass_if "a log in pieces: $(cat "$printed" "$said")" prints '1 FIX 2 5 30000 40000 30001 40001
-2 GRID 1 0 30001 40000
-3 HOLD 1 0 30001 40000
-3 HOLD 1 0 30001 40000
-3 HOLD 1 0 30001 40000
-- REFUSED 1 0'
-kill "$feeder" 2>/dev/null || true
-
-# tells NAME: tests that standard error has one line, which begins with `NAME: `
-tells() { [[ "$(<"$said")" == "$1: "?* ]] && [ "$(wc -l <"$said")" -eq 1 ]; }
+# tells NAME: tests that standard error has one line, which begins with `laylist: NAME: `
+tells() { [[ "$(<"$said")" == "laylist: $1: "?* ]] && [ "$(wc -l <"$said")" -eq 1 ]; }
 
 # What cannot be read in place of a file: a folder; and /proc/self/mem, as there is no memory at address 0.
 for file in job.dat chain.dat lay.dat; do

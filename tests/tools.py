@@ -8,12 +8,13 @@ judges them. What a text means and what is shown follows docs/FORMATS.md, the re
 
 A run's folder has the folder `files`, in which the tool runs, and the files `tool`, `arguments` (a zero byte after each), `input`
 and `why`. The run leaves `printed`, `said` (standard error) and `status`. Its outcome must be what is in `wanted` (what is printed;
-there is no such file if help is printed), `refusals` (line and number; line 0 if none is named) and the folder `after`.
+there is no such file if help is printed), `saying` (a line for each of standard error, see `Told`) and the folder `after`.
 """
 import random
 import re
 import sys
-from itertools import islice
+from functools import lru_cache
+from itertools import islice, zip_longest
 from math import inf, nextafter
 from pathlib import Path
 from typing import NamedTuple
@@ -39,33 +40,83 @@ class Run(NamedTuple):
     why: str = ""
 
 
+class Told(NamedTuple):
+    """A refusal: the line of the input, 0 if none is named, the number, and the words of the line that are at fault, from 1, by the
+    text of each, None for a missing one. If there are any, one of them is named; if there are none, the model does not know."""
+
+    line: int
+    number: int
+    faults: dict = {}
+
+
 class Outcome(NamedTuple):
-    """What is printed (None for help), what is refused as pairs of line and number, and the files afterwards."""
+    """What is printed (None for help), what is refused, the files afterwards, and what else is said: notes before the refusals, notes
+    behind them, and the sum of the lines at the end."""
 
     files: dict
     printed: bytes = b""
     refusals: list = []
+    before: list = []
+    behind: list = []
+
+
+class AtWords(Refusal):
+    """A refusal for which words of the line are at fault; see `Told`."""
+
+    def __init__(self, number, faults):
+        super().__init__(number)
+        self.faults = faults
+
+
+def told(line, refusal):
+    return Told(line, refusal.number, getattr(refusal, "faults", {}))
 
 
 # Words and lines
 
 WORD = re.compile(rb"[^ \t\r]+")
 NUMBER = re.compile(rb"[0-9]+")
-READING = re.compile(rb"-?[0-9]+")
+LENGTH = re.compile(rb"[0-9]+(\.[0-9][0-9])?")
+READING = re.compile(rb"-?[0-9]+(\.[0-9][0-9])?")
 
 
 def value(word):
-    """The number that a word stands for. For more than 40 digits it is 10^40, which is over every limit too."""
-    digits = word.lstrip(b"-").lstrip(b"0")
+    """The number that a word stands for, in centimetres if it is a length. For more than 40 digits it is 10^40, which is over every
+    limit too."""
+    digits = word.lstrip(b"-").replace(b".", b"").lstrip(b"0")
     size = 10**40 if len(digits) > 40 else int(digits or b"0")
     return -size if word.startswith(b"-") else size
 
 
-def values(line, shapes):
-    words = WORD.findall(line)
-    refuse(12, len(words) != len(shapes))
-    refuse(12, not all(shape.fullmatch(word) for shape, word in zip(shapes, words)))
-    return [value(word) for word in words]
+def values(line, shapes, limits={}, spare=0):
+    """The numbers of the words, of which the last `spare` may be missing. A limit is the least number that is too large for a word."""
+    found = WORD.findall(line)
+    faults = {at + 1: word for at, (shape, word) in enumerate(zip(shapes, found)) if not shape.fullmatch(word)}
+    for at, limit in limits.items():
+        if at <= len(found) and at not in faults and value(found[at - 1]) >= limit:
+            faults[at] = found[at - 1]
+    if len(found) < len(shapes) - spare:
+        faults[len(found) + 1] = None
+    if len(found) > len(shapes):
+        faults[len(shapes) + 1] = found[len(shapes)]
+    if faults:
+        raise AtWords(12, faults)
+    return [value(word) for word in found]
+
+
+def blaming(line, wrong, rule, *given):
+    """What the rule gives. If it refuses, the words that `wrong` has for the number of the refusal are at fault."""
+    try:
+        return rule(*given)
+    except Refusal as refusal:
+        found = WORD.findall(line)
+        raise AtWords(refusal.number, {at: found[at - 1] for at in wrong.get(refusal.number, [])})
+
+
+def is_passed_over(line):
+    """A line without a word, or whose first word begins with `#`."""
+    found = WORD.findall(line)
+    return not found or found[0].startswith(b"#")
 
 
 def lines_in(text):
@@ -80,74 +131,170 @@ def lines_in(text):
 
 def line_of(arguments):
     """The arguments as one line: each is a word of it."""
+    for at, argument in enumerate(arguments, 1):
+        if not WORD.fullmatch(argument):
+            raise AtWords(12, {at: argument})
     line = b" ".join(arguments)
-    refuse(12, not all(WORD.fullmatch(argument) for argument in arguments))
     refuse(12, len(line + b"\n") > LONGEST)
     return line
 
 
-def taken(lines, bytes_of):
-    """The bytes of the accepted lines, joined, and the refusals of the others."""
-    accepted, refusals = [], []
+def no_line(arguments):
+    """The arguments of a tool that takes none."""
+    if arguments:
+        raise AtWords(12, {1: arguments[0]})
+
+
+class Taken(NamedTuple):
+    """The lines of the input: the number of each accepted one with its bytes, and the refusals of the others."""
+
+    accepted: dict
+    refusals: list
+
+
+def taken(lines, bytes_of, most=None):
+    """Lines that are passed over are counted as lines. With `most`, nothing is read after so many that are not passed over."""
+    accepted, refusals = {}, []
     for at, line in enumerate(lines, 1):
+        if line is not None and is_passed_over(line):
+            continue
+        before = len(accepted) + len(refusals)
         try:
             refuse(12, line is None)
-            accepted.append(bytes_of(at, line))
+            accepted[at] = bytes_of(before, line)
         except Refusal as refusal:
-            refusals.append((at, refusal.number))
-    return b"".join(accepted), refusals
+            refusals.append(told(at, refusal))
+        if before + 1 == most:
+            break
+    return Taken(accepted, refusals)
+
+
+def counted(number, noun):
+    return f"{number} {noun}" if number == 1 else f"{number} {noun}s"
+
+
+def which(lines):
+    """How one or more lines are named, of which the first has this number."""
+    return f"line {lines[0]}" if len(lines) == 1 else f"the first is line {lines[0]}"
+
+
+def sum_of(tool, lines):
+    refused = [each.line for each in lines.refusals]
+    return f"{tool}: {counted(len(refused), 'line')} refused ({which(refused)}), {len(lines.accepted)} accepted; nothing is written"
+
+
+def written(name, noun, many, now, more=""):
+    return f"{name}: {counted(many, noun)} written, {now} there now{more}\n".encode()
 
 
 # From text to bytes
 
+USUAL_ALLOWANCE = 1_000_000
+
 
 def job_bytes(line):
-    east, north, k, tolerance, allowance = values(line, [NUMBER] * 5)
-    refuse(12, allowance >= 2**64)
-    job = rule.Job((east, north), k, tolerance, allowance)
-    rule.check_job(job)
+    east, north, k, tolerance, *allowance = values(line, [LENGTH, LENGTH, NUMBER, LENGTH, NUMBER], {5: 2**64}, spare=1)
+    job = rule.Job((east, north), k, tolerance, *(allowance or [USUAL_ALLOWANCE]))
+    # which word is at fault where only the window's far side is out of range, is left open
+    outside = [at for at, so in ((1, east > EAST), (2, north > NORTH), (3, k > 24)) if so]
+    blaming(line, {6: outside, 7: [4]}, rule.check_job, job)
     return rule.job_bytes(job)
 
 
-def chain_bytes(at, line):
-    chain = rule.chain_of(values(line, [NUMBER] * 6))
-    refuse(1, at > 16)
+def chain_bytes(before, line):
+    numbers = values(line, [LENGTH] * 6)
+    refuse(1, before >= 16)
+    # which word is at fault where two stations are equal, is left open
+    outside = [at + 1 for at, number in enumerate(numbers) if number > (EAST, NORTH)[at % 2]]
+    return blaming(line, {5: outside}, sound_bytes, rule.chain_of(numbers))
+
+
+def sound_bytes(chain):
     refuse(5, not rule.is_sound(chain))
     return rule.chain_bytes(chain)
 
 
-def record_bytes(at, line):
-    kind, chain, number, *numbers = values(line, [NUMBER] * 3 + [READING] * 2)
-    refuse(12, number >= 2**32)
-    return rule.record_bytes(rule.Record(kind, chain, number, numbers))
+def record_bytes(before, line):
+    """The same wherever the line is in the text."""
+    return bytes_of_record(line)
+
+
+# Half of the lines of the longest texts are the same.
+@lru_cache(10_000)
+def bytes_of_record(line):
+    kind, chain, number, *numbers = values(line, [NUMBER] * 3 + [READING] * 2, {3: 2**32})
+    record = rule.Record(kind, chain, number, numbers)
+    large = [at + 4 for at, x in enumerate(numbers) if abs(x) > SIZE]
+    outside = [at + 4 for at, x in enumerate(numbers) if not 0 <= x <= (EAST, NORTH)[at]]
+    return blaming(line, {2: [1], 3: large, 4: outside, 5: [2]}, rule.record_bytes, record)
 
 
 def layjob(run):
-    return Outcome({**run.files, "job.dat": job_bytes(line_of(run.arguments))})
+    job = job_bytes(line_of(run.arguments))
+    allowance = rule.raw_job(job).allowance
+    printed = written("job.dat", "job", 1, 1, f"; a search may make {counted(allowance, 'visit')}")
+    return Outcome({**run.files, "job.dat": job}, printed)
 
 
 def laychain(run):
-    refuse(12, run.arguments)
-    refuse(1, not run.text)
-    table, refusals = taken(islice(lines_in(run.text), 17), chain_bytes)
-    return Outcome(run.files if refusals else {**run.files, "chain.dat": table}, refusals=refusals)
+    no_line(run.arguments)
+    lines = taken(lines_in(run.text), chain_bytes, 17)
+    if lines.refusals:
+        return Outcome(run.files, refusals=lines.refusals, behind=[sum_of("laychain", lines)])
+    chains = len(lines.accepted)
+    refuse(1, not chains)
+    table = b"".join(lines.accepted.values())
+    return Outcome({**run.files, "chain.dat": table}, written("chain.dat", "chain", chains, chains))
 
 
 def laywrite(run):
     log = run.files.get("lay.dat", b"")
     refuse(1, len(log) % 32)
-    refuse(12, run.arguments)
-    records, refusals = taken(lines_in(run.text), record_bytes)
-    return Outcome(run.files if refusals or not records else {**run.files, "lay.dat": log + records}, refusals=refusals)
+    no_line(run.arguments)
+    lines = taken(lines_in(run.text), record_bytes)
+    if lines.refusals:
+        return Outcome(run.files, refusals=lines.refusals, behind=[sum_of("laywrite", lines)])
+    records = b"".join(lines.accepted.values())
+    printed = written("lay.dat", "record", len(lines.accepted), len(log + records) // 32)
+    files = {**run.files, "lay.dat": log + records} if records else run.files
+    return Outcome(files, printed, behind=without_chain(lines, run.files.get("chain.dat", b"")))
+
+
+def without_chain(lines, table):
+    """A note if records name a chain that the table does not have; a table that is refused has none."""
+    refusal, chains = rule.tried(rule.chains_in, table)
+    there = 0 if refusal else len(chains)
+    named = [at for at, s in lines.accepted.items() if s[0] == 1 and s[1] > there]
+    if not named:
+        return []
+    name = "1 record names" if len(named) == 1 else f"{len(named)} records name"
+    return [f"laywrite: note: {name} a chain that chain.dat does not have ({which(named)})"]
 
 
 # From bytes to text
 
 
+def missing(tool, run, names):
+    return [f"{tool}: note: {name} is missing, and counts as empty" for name in names if name not in run.files]
+
+
 def layexpect(run):
-    chain, *place = values(line_of(run.arguments), [NUMBER] * 3)
-    found = rule.expected(run.files.get("chain.dat", b""), chain, place)
-    return Outcome(run.files, text_of(expected_line(name, reading) for name, reading in zip("AB", found)))
+    line = line_of(run.arguments)
+    chain, *place = values(line, [NUMBER, LENGTH, LENGTH])
+    before = missing("layexpect", run, ["chain.dat"])
+    try:
+        found = expected_at(line, run.files.get("chain.dat", b""), chain, place)
+    except Refusal as refusal:
+        return Outcome(run.files, refusals=[told(0, refusal)], before=before)
+    printed = text_of(expected_line(name, reading) for name, reading in zip("AB", found))
+    return Outcome(run.files, printed, before=before)
+
+
+def expected_at(line, table, chain, place):
+    outside = [at + 2 for at, x in enumerate(place) if x > (EAST, NORTH)[at]]
+    # whether the chain's number is at fault where it is in the table but not sound, is left open
+    absent = [1] if not 1 <= chain <= len(table) // 24 else []
+    return blaming(line, {4: outside, 5: absent}, rule.expected, table, chain, place)
 
 
 def expected_line(name, reading):
@@ -163,9 +310,10 @@ def text_of(lines):
 
 
 def layshow(run):
-    refuse(12, run.arguments)
-    job, table, log = (run.files.get(name, b"") for name in ("job.dat", "chain.dat", "lay.dat"))
-    return Outcome(run.files, text_of([job_line(job), *chain_lines(table), *map(log_line, rule.pieces(log, 32))]))
+    no_line(run.arguments)
+    job, table, log = (run.files.get(name, b"") for name in FILES["layshow"])
+    printed = text_of([job_line(job), *chain_lines(table), *map(log_line, rule.pieces(log, 32))])
+    return Outcome(run.files, printed, before=missing("layshow", run, FILES["layshow"]))
 
 
 def shown(words, refusal, s):
@@ -223,7 +371,7 @@ def outcome(run):
     try:
         return TOOLS[run.tool](run)
     except Refusal as refusal:
-        return Outcome(run.files, refusals=[(0, refusal.number)])
+        return Outcome(run.files, refusals=[told(0, refusal)])
 
 
 # The chosen runs. First 01's example as text and as bytes, and files that may be in a folder before a run.
@@ -255,14 +403,18 @@ OLD = {
     "notes": b"a file that is none of the desk's\n",
 }
 
-# Words that are neither a number nor a reading. The bytes next to the digits are among them.
+# Words that are neither a number nor a length nor a reading. The bytes next to the digits are among them.
 NO_WORDS = [
     *(b"+1", b"--1", b"-", b"1-", b"1.5", b"1.", b".5", b"1e3", b"0x10", b"1,000", b"1_000", b"a", b"1a", b"a1", b"NaN"),
+    *(b"300.1", b"300.", b".50", b"300.011", b"3.00.00", b"-.50", b"+1.00", b"1,00", b".", b"..", b".00", b"1..0", b"1.00.", b"-1.5"),
+    *(b"1.0a", b"1.a0", b"1.-1", b"1.+1", b"1.\x0b0", b"a.00", b"1.00a", b"1.00-", b"1.\xb20", b"1/00", b"1.0\xff"),
     *(b"1\x0b", b"\x0c1", b"/", b":", b"1/", b":1", b'"1"', b"\x7f1", b"\xb2", b"1\xff", b"\x80", b"\xb1"),
     *("\u22121".encode(), "\uff11".encode(), "1\u00a0".encode(), "\u0661".encode()),
 ]
 NO_READINGS = [b"-+1", b"-1-", b"-a", b"-1.5", b"-0x1", b"-\xb2", b"1\x00", b"\x001", b"-\x00"]
-NO_NUMBERS = [b"-0", b"-1", b"-00", b"-30000"]
+NO_READINGS += [b"-1.", b"--1.00", b"-1.000", b"1.0\x00"]
+NO_NUMBERS = [b"-0", b"-1", b"-00", b"-30000", b"-0.00", b"-1.00"]
+METRES = [b"0.00", b"0.01", b"1.00", b"300.00", b"0001.00"]
 
 
 def words(values):
@@ -317,6 +469,15 @@ def refused(run):
     return run
 
 
+def in_metres(values, at):
+    """The same line with the centimetres of these words, from 1, given in metres."""
+    given = words(values)
+    for each in at:
+        sign, digits = given[each - 1][: given[each - 1].startswith(b"-")], given[each - 1].lstrip(b"-").rjust(3, b"0")
+        given[each - 1] = sign + digits[:-2] + b"." + digits[-2:]
+    return given
+
+
 def examples():
     """01's example, made in an empty folder and over other files; its expected readings; and what is shown of it."""
     for files in {}, THREE, OLD:
@@ -329,7 +490,71 @@ def examples():
     yield to_table(b"", "no line", {})
     for place in [30000, 40000], [30001, 40000], [30000, 40001], [1, 1]:
         yield expecting([1, *place], "01's places")
+        yield expecting(in_metres([1, *place], [2, 3]), "01's places in metres")
     yield Run("layshow", files=THREE, why="01's example")
+
+
+def metres():
+    """Every length in metres: the bytes are those of its centimetres."""
+    for job in JOB, [30001, 40007, 1, 5, 100], [EAST, NORTH, 0, 100_000, 7]:
+        for at in [1], [2], [4], [1, 2, 4]:
+            yield same_as(to_job(in_metres(job, at), "a job in metres"), to_job(job, ""))
+        yield same_as(to_job(in_metres(job, [1, 2, 4])[:4], "a job in metres"), to_job(job[:4], ""))
+    for chain in CHAIN, OUTER, [1, 2, 30, 40, 500, 6007]:
+        many = [in_metres(chain, [at]) for at in range(1, 7)] + [in_metres(chain, range(1, 7))]
+        yield same_as(to_table(lines(many), "chains in metres"), to_table(line(chain) * len(many), ""))
+    for x, y in (-10000, -20000), (1, -1), (-5, 99), (SIZE, -SIZE), (0, 7), (-100, 101), (EAST, NORTH), (0, 0):
+        many = [1, 1, 4, x, y], [2, 1, 4, min(abs(x), EAST), abs(y)], [3, 1, 4, x, y]
+        for at in [4], [5], [4, 5]:
+            yield same_as(to_log(lines(in_metres(each, at) for each in many), "a log in metres"), to_log(lines(many), ""))
+    zeros = [b"-0.00", b"-00.00", b"0.00", b"0000.00", b"-0", b"0"]
+    yield same_as(to_log(lines([2, 0, 2, x, x] for x in zeros), "no metres"), to_log(line([2, 0, 2, 0, 0]) * len(zeros), ""))
+    spare = [1, 1, 1, b"0" * 300 + b"1.00", b"-" + b"0" * 300 + b".01"]
+    yield same_as(to_log(line(spare), "spare zeros"), to_log(line([1, 1, 1, 100, -1]), ""))
+    for at in 1, 2, 3:
+        yield refused(to_log(lines(instead(RECORDS[0], at - 1, word) for word in METRES), "metres where there are none"))
+    for at, word in ((at, word) for at in (2, 4) for word in METRES):
+        yield to_job(instead(JOB, at, word), "metres where there are none")
+    for word in METRES:
+        yield expecting([word, 30000, 40000], "metres where there are none")
+    for limit, at in (EAST + 1, 4), (NORTH + 1, 5):
+        yield refused(to_log(line(in_metres(instead([2, 0, 2, 0, 0], at - 1, limit), [at])), "a place out of range in metres"))
+    for x in b"10000000.01", b"-10000000.01", b"99999999999999999999999999999.99", b"42949672.96":
+        yield refused(to_log(lines([[1, 1, 1, x, 0], [1, 1, 1, 0, x]]), "metres that are too large"))
+    yield to_job([b"300.00", b"400.00", 1, b"1000.01"], "a tolerance that is too large")
+    yield to_job([b"1000000.01", b"400.00", 1, b"0.00"], "an easting that is too large")
+    yield expecting([1, b"1000000.01", b"0.00"], "an easting that is too large")
+    yield expecting([1, b"0.00", b"10000000.01"], "a northing that is too large")
+
+
+def same_as(run, other):
+    """The run, once it is checked that it comes to what the other one comes to."""
+    assert outcome(run).files == outcome(other).files, run
+    return accepted(run)
+
+
+def passed_over():
+    """Lines that are passed over: they count as lines, and are no record and no chain."""
+    empty = [b"\n", b" \n", b"\t\n", b"\r\n", b" \t \r\n", b"#\n", b"# a note\n", b" \t# 1 1 1 0 0\n"]
+    empty += [b"#1 1 1 0 0\n", b"##\r\n", b"#\0\xff\n"]
+    for tool, right in ("laychain", CHAIN), ("laywrite", RECORDS[0]):
+        good, bad = line(right), line([*right, b"x"])
+        for each in empty:
+            yield accepted(Run(tool, text=each + good + each * 2 + good + each, files=THREE, why="lines that are passed over"))
+        every = b"".join(empty)
+        yield accepted(Run(tool, text=every + good + every, files={}, why="lines that are passed over"))
+        yield Run(tool, text=every + bad + every + good + bad, files=THREE, why="refused lines among those that are passed over")
+        for only in every, b"\n", b"# a note\n", b"\n" * 1_000:
+            yield Run(tool, text=only, files=THREE, why="nothing but lines that are passed over")
+            yield Run(tool, text=only, files={}, why="nothing but lines that are passed over")
+        for no in [*right[:-1], b"#"], [*right, b"#"], [*right, b"#", b"a", b"note"], [b"1#", *right[1:]]:
+            yield refused(Run(tool, text=line(no), files=THREE, why="a # in another word"))
+        for cut in b"#", b"# a note", b" ", b"\t#":
+            yield Run(tool, text=good + cut, files=THREE, why="a last line without its newline")
+        for length in LONGEST, LONGEST + 1:
+            yield Run(tool, text=b"#" * (length - 1) + b"\n" + good, files=THREE, why=f"a line of {length} bytes that is passed over")
+        many = b"# a long note " * 4_000 + b"\n" + good + b"\n" * 70_000 + good
+        yield accepted(Run(tool, text=many, files=THREE, why="more of them than are read at a time"))
 
 
 # Arguments
@@ -429,7 +654,9 @@ def tables():
         yield to_table(lines(many[:16]) + last, "a seventeenth line")
         yield to_table(lines(many[:16]) + last + b"x\nx\n", "a seventeenth line, with others behind it")
     yield to_table(b"x\n" + lines(many[:15]) + b"y\nz\n", "refused lines up to the seventeenth")
-    yield to_table(b"\n" * 40, "empty lines up to the seventeenth")
+    yield to_table(b"\n" * 40, "empty lines alone")
+    yield accepted(to_table(b"\n".join(map(line, many[:16])) + b"\n# the end\n" * 9, "16 chains and more lines than that"))
+    yield to_table(b"\n# a note\n".join(map(line, many[:17])), "17 chains, with lines between them")
     yield to_table(lines([CHAIN, [0] * 6, CHAIN, [b"x"] * 6, instead(CHAIN, 0, EAST + 1)]), "one chain sound, one not")
 
 
@@ -444,7 +671,7 @@ def chains():
     for few in grouped([*equal, *beyond, *huge], 16):
         yield refused(to_table(lines(few), "chains that are not sound"))
     spoilt = [instead(CHAIN, at % 6, word) for at, word in enumerate(NO_WORDS + NO_NUMBERS + NO_READINGS)]
-    short = [CHAIN[:n] for n in range(6)] + [CHAIN + [0], CHAIN + [0] * 6]
+    short = [CHAIN[:n] for n in range(1, 6)] + [CHAIN + [0], CHAIN + [0] * 6]
     both = [[0, 0, 0, 0, 0, b"x"], [b"x", 0, EAST + 1, 0, 0, 0]]
     for few in grouped([*spoilt, *short, *both], 16):
         yield refused(to_table(lines(few), "lines that are no chain"))
@@ -501,7 +728,7 @@ def spoilt_records():
         yield from (instead(RECORDS[0], at, word) for at in range(5))
     for word in NO_NUMBERS:
         yield from (instead(RECORDS[2], at, word) for at in range(3))
-    yield from (RECORDS[0][:n] for n in range(5))
+    yield from (RECORDS[0][:n] for n in range(1, 5))
     yield from (RECORDS[0] + [0], RECORDS[0] * 2, RECORDS[2][:3], [b"LOG", *RECORDS[0]])
 
 
@@ -512,7 +739,7 @@ def logs():
     yield refused(to_log(lines(refused_records()), "records that are refused"))
     yield refused(to_log(lines(spoilt_records()), "lines that are no record"))
     yield to_log(good + lines(refused_records()) + good + lines(spoilt_records()), "good lines among others")
-    for bad in line([4, 0, 1, 0, 0]), b"\n", b"x", b"1 1 1 0 0":
+    for bad in line([4, 0, 1, 0, 0]), b"x\n", b"x", b"1 1 1 0 0":
         yield to_log(bad + good, "the first line is refused")
         yield to_log(good + bad, "the last line is refused")
         yield to_log(good + bad, "the last line is refused", None)
@@ -537,7 +764,7 @@ def blanks():
         good += [first[:-1] + blank + b"\n" for blank in kinds[:2]]
         yield accepted(Run(tool, text=b"".join(good), files=THREE, why="blanks"))
         yield accepted(Run(tool, text=first.replace(b"\n", b"\r\n") * 3, files=THREE, why="carriage returns before newlines"))
-        none = [b"", b" ", b"\t", b"\r", b" \t \r", b"\r" + first[:-2] + b" x", b"\v".join(plain), b"\0".join(plain)]
+        none = [b"\v", b"\f", b"x", b"\rx", b"\r" + first[:-2] + b" x", b"\v".join(plain), b"\0".join(plain)]
         none += [b",".join(plain), "\u00a0".encode().join(plain), b"\0", first[:-1] + b"\0", first[:-1] + b" \0"]
         none += ["\ufeff".encode() + first[:-1]]
         yield refused(Run(tool, text=b"\n".join(none) + b"\n", files=THREE, why="lines without the words"))
@@ -611,7 +838,7 @@ def long_texts():
     yield to_log(lines(many) + b"4 0 0 0 0\n", "8,000 lines and one that is refused")
     yield to_log(b"0 0 0 0 0\n" + lines(many), "8,000 lines behind one that is refused")
     yield to_log(lines([i % 5, 1, i, i * 99_999, 5] for i in range(8_000)), "thousands of lines, many refused")
-    yield to_log(b"\n" * 1_000, "1,000 empty lines")
+    yield to_log(b"x\n" * 1_000, "1,000 lines that are no record")
 
 
 # Expected readings
@@ -763,6 +990,7 @@ def shown_logs():
 
 def cases():
     yield from examples()
+    yield from (*metres(), *passed_over())
     yield from arguments()
     yield from counts()
     yield from (*jobs(), *bad_jobs())
@@ -812,34 +1040,37 @@ def drawn_record(draw, wild):
     return [kind, chain, drawn(draw, 2**32 - 1, wild), *(drawn_place(draw, wild) if kind == 2 else readings)]
 
 
-def drawn_words(draw, values, wild):
-    """The words of these numbers, some with spare zeros; with the chance `wild`, one is no number, missing or too many."""
-    given = words(values)
+def drawn_words(draw, values, wild, lengths):
+    """The words of these numbers, some lengths in metres and some words with spare zeros; with the chance `wild`, one is no number,
+    missing or too many."""
+    given = in_metres(values, [at for at in lengths if draw.random() < 0.2])
     for at in range(len(given)):
         if draw.random() < 0.1:
             zeros = b"0" * draw.choice((1, 2, 9, 400))
             given[at] = b"-" + zeros + given[at][1:] if given[at].startswith(b"-") else zeros + given[at]
     if draw.random() < wild:
         at = draw.randrange(len(given))
-        spoilt = draw.choice(draw.choice((NO_WORDS, NO_READINGS, NO_NUMBERS)))
+        spoilt = draw.choice(draw.choice((NO_WORDS, NO_READINGS, NO_NUMBERS, METRES)))
         given[at : at + draw.randint(0, 1)] = draw.choice(([], [spoilt], [spoilt]))
     return given
 
 
-def drawn_line(draw, values, wild):
-    """Its words with blanks of any sort between them."""
-    text = b"".join(word + draw.choice((b" ", b" ", b" ", b"\t", b"\r", b"  ")) for word in drawn_words(draw, values, wild))
-    return draw.choice((b"", b"", b" ")) + (text if draw.random() < 0.2 else text[:-1]) + b"\n"
+def drawn_line(draw, values, wild, lengths):
+    """Its words with blanks of any sort between them; a few lines are passed over."""
+    blanks = b" ", b" ", b" ", b"\t", b"\r", b"  "
+    text = b"".join(word + draw.choice(blanks) for word in drawn_words(draw, values, wild, lengths))
+    first = draw.choice((b"", b"", b" ")) if draw.random() < 0.95 else draw.choice((b"\n", b"\t\n", b"# a note\n", b"# ", b"#"))
+    return first + (text if draw.random() < 0.2 else text[:-1]) + b"\n"
 
 
 def is_accepted(bytes_of, text):
     return not taken(lines_in(text), bytes_of)[1]
 
 
-def drawn_text(draw, values_of, bytes_of, most):
+def drawn_text(draw, values_of, bytes_of, most, lengths):
     """Lines at random; half of the texts have only accepted lines, and a few texts are cut at the end."""
     wild = draw.choice((0.0, 0.02, 0.2))
-    many = [drawn_line(draw, values_of(draw, wild), wild) for _ in range(draw.randint(1, most))]
+    many = [drawn_line(draw, values_of(draw, wild), wild, lengths) for _ in range(draw.randint(1, most))]
     if draw.random() < 0.5:
         many = [text for text in many if is_accepted(bytes_of, text)]
     text = b"".join(many)
@@ -880,15 +1111,20 @@ def drawn_files(draw):
 def drawn_run(draw, tool):
     files, wild = drawn_files(draw), draw.choice((0.0, 0.1))
     if tool == "layjob":
-        return Run(tool, [word for word in drawn_words(draw, drawn_job(draw, wild), wild) if b"\0" not in word], files=files)
+        job = drawn_job(draw, wild)[: draw.choice((4, 5, 5))]
+        return Run(tool, drawn_arguments(draw, job, wild, [1, 2, 4]), files=files)
     if tool == "laychain":
-        return Run(tool, text=drawn_text(draw, drawn_chain, chain_bytes, 18), files=files)
+        return Run(tool, text=drawn_text(draw, drawn_chain, chain_bytes, 18, range(1, 7)), files=files)
     if tool == "laywrite":
-        return Run(tool, text=drawn_text(draw, drawn_record, record_bytes, 400), files=files)
+        return Run(tool, text=drawn_text(draw, drawn_record, record_bytes, 400, [4, 5]), files=files)
     if tool == "layexpect":
         asked = [drawn(draw, 8, wild), *drawn_place(draw, wild)]
-        return Run(tool, [word for word in drawn_words(draw, asked, wild) if b"\0" not in word], files=files)
+        return Run(tool, drawn_arguments(draw, asked, wild, [2, 3]), files=files)
     return Run(tool, files=files)
+
+
+def drawn_arguments(draw, values, wild, lengths):
+    return [word for word in drawn_words(draw, values, wild, lengths) if b"\0" not in word]
 
 
 def at_random(seed):
@@ -907,12 +1143,19 @@ def put(folder, files):
         (folder / name).write_bytes(content)
 
 
+def as_text(refusal):
+    """A refusal as `saying` has it: `told`, line and number; then each word at fault, with its bytes in hexadecimal, or `-` if it is
+    missing."""
+    faults = (f"{at}:{'-' if word is None else word.hex()}" for at, word in refusal.faults.items())
+    return " ".join(("told", str(refusal.line), str(refusal.number), *faults))
+
+
 def write(folder, runs):
     for at, run in enumerate(runs):
         wanted = outcome(run)
         given = {"tool": run.tool.encode(), "input": run.text, "why": run.why.encode()}
         given["arguments"] = b"".join(argument + b"\0" for argument in run.arguments)
-        given["refusals"] = lines(wanted.refusals)
+        given["saying"] = text_of([*wanted.before, *map(as_text, wanted.refusals), *wanted.behind])
         if wanted.printed is not None:
             given["wanted"] = wanted.printed
         put(folder / f"{at:04}_{run.tool}", given)
@@ -940,12 +1183,32 @@ def helped(tool, printed):
     yield f"help: {printed[:200]!r}", re.fullmatch(rb"([ -~]*\n)+", printed) and all(name.encode() in printed for name in named)
 
 
-def refusals_said(tool, said):
-    """The lines of standard error as `refusals` has them; a line of another form is left as it is."""
-    told = re.compile(rb"%s: (?:line ([1-9][0-9]*) )?REFUSED ([1-9][0-9]*): [!-~][ -~]*" % tool.encode())
-    for one in said.split(b"\n"):
-        match = told.fullmatch(one)
-        yield b" ".join((match[1] or b"0", match[2])) if match else one
+def said_as(tool, said, saying):
+    """The lines of standard error; one that tells a refusal as it must is given as `saying` has it."""
+    for one, wanted in zip_longest(said.split(b"\n"), saying.split(b"\n")):
+        if one is not None:
+            yield wanted if wanted is not None and tells(tool, one, wanted) else one
+
+
+def tells(tool, one, wanted):
+    """That a line tells the refusal `wanted`, which is as `as_text` has it."""
+    first, line, number, *faults = wanted.split(b" ") if wanted.startswith(b"told ") else [b"", b"", b""]
+    head = b"%s: %sREFUSED %s: " % (tool.encode(), b"" if line == b"0" else b"line %s " % line, number)
+    if not first or not one.startswith(head):
+        return False
+    sentence = one[len(head) :]
+    if not faults:
+        return re.fullmatch(rb"(word [0-9]+, `.*`: )?[!-~][ -~]*", sentence, re.DOTALL)
+    return any(names(sentence, *fault.split(b":")) for fault in faults)
+
+
+def names(sentence, at, word):
+    """That a sentence begins with this word: with the whole of it, if it has 40 bytes at most and all of them can be read."""
+    if word in (b"-", b"") and re.fullmatch(rb"word %s is missing: [!-~][ -~]*" % at, sentence):
+        return True
+    text = b"" if word == b"-" else bytes.fromhex(word.decode())
+    whole = re.escape(text) if re.fullmatch(rb"[ -~]{0,40}", text) else rb".*"
+    return word != b"-" and re.fullmatch(rb"word %s, `%s`: [!-~][ -~]*" % (at, whole), sentence, re.DOTALL)
 
 
 def checks(folder):
@@ -954,7 +1217,7 @@ def checks(folder):
     tool = run["tool"].decode()
     yield f"status {run['status'].decode().strip()}", run["status"] == b"0\n"
     yield from compared("printed", run["printed"], run["wanted"]) if "wanted" in run else helped(tool, run["printed"])
-    yield from compared("said", b"\n".join(refusals_said(tool, run["said"])), run["refusals"])
+    yield from compared("said", b"\n".join(said_as(tool, run["said"], run["saying"])), run["saying"])
     files, wanted = content(folder / "files"), content(folder / "after")
     yield f"the files {sorted(files)}, not {sorted(wanted)}", files.keys() == wanted.keys()
     for name in files.keys() & wanted.keys():

@@ -42,26 +42,36 @@ holds() {
     for file; do cmp -s "$folder/$file" "$example/$file" || return 1; done
 }
 
-# refused TOOL NUMBERS...: that these refusals were reported, a line each, and nothing was printed; LINE:NUMBER if a line is named
+# refused TOOL NUMBERS...: that these refusals were reported, a line each, and nothing was printed; LINE:NUMBER if a line is named,
+# and then their sum is reported as well
 refused() {
-    local tool=$1 told
-    told=$(sed -E "s/^$tool: line ([0-9]+) REFUSED ([0-9]+): [^ ].*/\1:\2/; s/^$tool: REFUSED ([0-9]+): [^ ].*/\1/" "$said")
-    [ "$status" -eq 0 ] && [ ! -s "$printed" ] && [ "$told" = "$(printf '%s\n' "${@:2}")" ]
+    local tool=$1 told wanted
+    told=$(sed -E "s/^$tool: line ([0-9]+) REFUSED ([0-9]+): [^ ].*/\1:\2/; s/^$tool: REFUSED ([0-9]+): [^ ].*/\1/
+        s/^($tool: .* refused .*), [0-9]+ accepted; nothing is written$/\1/" "$said")
+    wanted=$(printf '%s\n' "${@:2}")
+    case $#:$2 in
+    2:*:*) wanted+=$'\n'"$tool: 1 line refused (line ${2%:*})" ;;
+    *:*:*) wanted+=$'\n'"$tool: $(($# - 1)) lines refused (the first is line ${2%:*})" ;;
+    esac
+    [ "$status" -eq 0 ] && [ ! -s "$printed" ] && [ "$told" = "$wanted" ]
 }
 
+# accepted: that nothing but notes was reported
+accepted() { [ "$status" -eq 0 ] && ! grep -qv '^lay[a-z]*: note: ' "$said"; }
+
 # reports NAME: that it reported NAME in one line, and nothing else
-reports() { [ "$status" -eq 0 ] && [[ "$(<"$said")" == *"$1"*:?* ]] && [ "$(wc -l <"$said")" -eq 1 ]; }
+reports() { [ "$status" -eq 0 ] && [[ "$(<"$said")" == lay*": $1: "?* ]] && [ "$(wc -l <"$said")" -eq 1 ]; }
 
 # 01's example from text: the files are those of the example, and listed as 01 says.
 fresh
 give layjob 30000 40000 1 0 100
-pass_if "01's job: $(head -n 3 "$said")" prints ''
+pass_if "01's job: $(head -n 3 "$said")" prints 'job.dat: 1 job written, 1 there now; a search may make 100 visits'
 pass_if "01's job, written" holds job.dat
 give laychain 0 0 30000 0 0 40000
-pass_if "01's chain: $(head -n 3 "$said")" prints ''
+pass_if "01's chain: $(head -n 3 "$said")" prints 'chain.dat: 1 chain written, 1 there now'
 pass_if "01's chain, written" holds chain.dat job.dat
 give laywrite "$records"
-pass_if "01's log: $(head -n 3 "$said")" prints ''
+pass_if "01's log: $(head -n 3 "$said")" prints 'lay.dat: 3 records written, 3 there now'
 pass_if "01's log, written" holds "${files[@]}"
 run laylist
 pass_if "01's listing from text: $(head -n 9 "$printed" "$said")" prints "$(<"$example/listing")"
@@ -101,7 +111,7 @@ while IFS=: read -r words answer; do
     fresh "${files[@]}"
     give $words
     if [ "$answer" -eq 0 ]; then
-        pass_if "$words: $(head -n 3 "$said")" ended_well
+        pass_if "$words: $(head -n 3 "$said")" accepted
         continue
     fi
     case $words in laychain* | laywrite*) answer="1:${answer# }" ;; esac
@@ -125,9 +135,18 @@ layjob 30000 40000 1 0 18446744073709551616: 12
 layjob 30000 40000 25 100001 100: 6
 layjob 30000 40000 25 100001 x: 12
 layjob -0 40000 1 0 100: 12
-layjob 30000 40000 1 0: 12
+layjob 30000 40000 1 0: 0
+layjob 30000 40000 1: 12
 layjob 30000 40000 1 0 100 1: 12
 layjob 0030000 00040000 01 00 0100: 0
+layjob 1000000.00 10000000.00 0 1000.00 100: 0
+layjob 1000000.01 400.00 0 0.00 100: 6
+layjob 300.00 10000000.01 0 0.00 100: 6
+layjob 300.00 400.00 1 1000.01 100: 7
+layjob 300.00 400.00 1.00 0.00 100: 12
+layjob 300.00 400.00 1 0.00 100.00: 12
+layjob 300.0 400.00 1 0.00 100: 12
+layjob 300.00 400.00 1 -0.00 100: 12
 laychain 0 0 30000 0 0 40000: 0
 laychain 100000000 1000000000 0 1000000000 100000000 0: 0
 laychain 100000001 0 30000 0 0 40000: 5
@@ -139,6 +158,12 @@ laychain 0 0 30000 0 30000 0: 5
 laychain 0 0 0 0 0 x: 12
 laychain 0 0 30000 0 0: 12
 laychain 0 0 30000 0 0 40000 1: 12
+laychain 1000000.00 10000000.00 0.00 10000000.00 1000000.00 0.00: 0
+laychain 1000000.01 0 30000 0 0 40000: 5
+laychain 0 0 300.00 10000000.01 0 40000: 5
+laychain 0 0 0.00 0 0 400.00: 5
+laychain 0 0 300.000 0 0 400.00: 12
+laychain -0.00 0 300.00 0 0 400.00: 12
 laywrite 0 1 1 0 0: 2
 laywrite 4 1 1 0 0: 2
 laywrite 257 1 1 0 0: 2
@@ -164,6 +189,25 @@ laywrite 2 0 1 -1 1000000001: 3
 laywrite 1 1 1 +1 0: 12
 laywrite 1 1 1 1.5 0: 12
 laywrite 1 1 1 1e3 0: 12
+laywrite 1 1 1 10000000.00 -10000000.00: 0
+laywrite 1 1 1 10000000.01 0: 3
+laywrite 1 1 1 0 -10000000.01: 3
+laywrite 2 0 1 1000000.00 10000000.00: 0
+laywrite 2 0 1 1000000.01 0.00: 4
+laywrite 2 0 1 0.00 -0.01: 4
+laywrite 2 0 1 -0.00 -0.00: 0
+laywrite 3 17 1 99999999999999999999.99 -99999999999999999999.99: 0
+laywrite 1.00 1 1 0 0: 12
+laywrite 1 1.00 1 0 0: 12
+laywrite 1 1 1.00 0 0: 12
+laywrite 1 1 1 300.1 0: 12
+laywrite 1 1 1 300. 0: 12
+laywrite 1 1 1 .50 0: 12
+laywrite 1 1 1 300.011 0: 12
+laywrite 1 1 1 3.00.00 0: 12
+laywrite 1 1 1 -.50 0: 12
+laywrite 1 1 1 +1.00 0: 12
+laywrite 1 1 1 1,00 0: 12
 layexpect 1 100000000 1000000000: 0
 layexpect 1 100000001 0: 4
 layexpect 1 0 1000000001: 4
@@ -172,6 +216,12 @@ layexpect 2 30000 40000: 5
 layexpect 0 100000001 0: 4
 layexpect 1 30000: 12
 layexpect 1 30000 -1: 12
+layexpect 1 1000000.00 10000000.00: 0
+layexpect 1 1000000.01 0.00: 4
+layexpect 1 0.00 10000000.01: 4
+layexpect 1.00 300.00 400.00: 12
+layexpect 1 300.0 400.00: 12
+layexpect 1 -0.00 400.00: 12
 layshow 1: 12
 laylist 1: 12
 END
@@ -212,8 +262,8 @@ shown_again() {
         program layjob $(sed -n 's/^JOB //p' "$printed")
         sed -n 's/^CHAIN [0-9]* //p' "$printed" | program laychain
         sed -n 's/^LOG //p' "$printed" | program laywrite
-    ) >"$said" 2>&1
-    [ ! -s "$said" ] && diff -r "$folder" "$again"
+    ) >"$folders/written" 2>"$said"
+    [ ! -s "$said" ] && [ "$(wc -l <"$folders/written")" -eq 3 ] && diff -r "$folder" "$again"
 }
 for name in double_crossing three_records; do
     fresh
@@ -304,7 +354,7 @@ fresh "${files[@]}"
 (cd "$folder" && program laywrite 2>&- <<<'4 0 0 0 0') || true
 pass_if 'a line refused without standard error' holds "${files[@]}"
 fresh chain.dat job.dat
-(cd "$folder" && program laywrite 2>&- <<<"$records") || true
+(cd "$folder" && program laywrite 2>&- <<<"$records") >"$printed" || true
 pass_if 'lines accepted without standard error' holds "${files[@]}"
 
 # A folder in which no file can be made, as in /proc, is reported.
@@ -325,7 +375,7 @@ limited() {
     echo "$reported" >"$said"
 }
 
-# A file that grows too large is reported; job and table stay as they were, and a log is cut back to what it was.
+# A file that grows too large is reported, and stays as it was.
 fresh "${files[@]}"
 limited 0 layjob 30000 40000 0 0 1
 pass_if "a job that cannot be written is reported: $(head -n 3 "$said")" reports job.dat
@@ -334,12 +384,12 @@ pass_if "a table that cannot be written is reported: $(head -n 3 "$said")" repor
 limited 0 laywrite < <(echo 3 0 3 0 0)
 pass_if "a log that cannot be written is reported: $(head -n 3 "$said")" reports lay.dat
 pass_if 'what cannot be written changes nothing' holds "${files[@]}"
-fresh
+fresh chain.dat
 head -c 992 /dev/zero >"$folder/lay.dat"
 limited 1 laywrite < <(echo "$records")
 pass_if "a log that ends at its limit is reported: $(head -n 3 "$said")" reports lay.dat
 pass_if 'and has its old length' [ "$(wc -c <"$folder/lay.dat")" -eq 992 ]
-pass_if 'with nothing beside it' [ "$(ls -A "$folder")" = lay.dat ]
+pass_if 'with nothing beside it' [ "$(ls -A "$folder")" = $'chain.dat\nlay.dat' ]
 
 # What cannot be printed is reported as well.
 unprinted() {
@@ -365,11 +415,11 @@ by_bin() {
 # By bin/ they do the same, and end with 1 if something was reported.
 fresh
 by_bin layjob 30000 40000 1 0 100
-pass_if "bin/layjob: $(head -n 3 "$said")" prints ''
+pass_if "bin/layjob: $(head -n 3 "$said")" prints 'job.dat: 1 job written, 1 there now; a search may make 100 visits'
 by_bin laychain <<<'0 0 30000 0 0 40000'
-pass_if "bin/laychain: $(head -n 3 "$said")" prints ''
+pass_if "bin/laychain: $(head -n 3 "$said")" prints 'chain.dat: 1 chain written, 1 there now'
 by_bin laywrite <<<"$records"
-pass_if "bin/laywrite: $(head -n 3 "$said")" prints ''
+pass_if "bin/laywrite: $(head -n 3 "$said")" prints 'lay.dat: 3 records written, 3 there now'
 pass_if 'the files made by bin/' holds "${files[@]}"
 by_bin layshow
 pass_if "bin/layshow: $(head -n 3 "$said")" prints "$shown"
@@ -391,7 +441,7 @@ while read -r number words; do
     pass_if "bin/$words is refused with $number: $(head -n 3 "$said")" refused "${words%% *}" "$number"
 done <<'END'
 6 layjob 30000 40000 25 0 100
-12 layjob 30000 40000 1 0
+12 layjob 30000 40000 1
 1 laychain
 12 laywrite 1
 5 layexpect 2 30000 40000
@@ -400,6 +450,20 @@ END
 status=0
 (cd "$folder" && "$repository/bin/layshow") >/dev/full 2>"$said" || status=$?
 pass_if 'bin/layshow ends with 1 on a full device' [ "$status" -eq 1 ]
+# Where no file may grow, they report it, and are not killed by the system.
+fresh "${files[@]}"
+while read -r file tool words; do
+    arguments= status=0
+    [ $tool != layjob ] || arguments=$words
+    reported=$(cd "$folder" && ulimit -f 0 && echo $words | "$repository/bin/$tool" $arguments 2>&1) || status=$?
+    pass_if "bin/$tool where no file may grow: $reported" [ "$reported" = "$tool: $file: File too large" ]
+    pass_if "bin/$tool where no file may grow ends with 1" [ "$status" -eq 1 ]
+    pass_if "bin/$tool where no file may grow: the files stay" holds "${files[@]}"
+done <<'END'
+job.dat layjob 30001 40000 1 0 100
+chain.dat laychain 1 0 30000 0 0 40000
+lay.dat laywrite 3 0 3 0 0
+END
 by_bin layjob '30000 40000' 1 0 100
 pass_if 'bin/layjob passes its arguments on as they are' [ "$status" -eq 1 ]
 by_bin laywrite < <(printf '4 0 0 0 0\n3 0 3 0')
