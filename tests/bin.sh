@@ -5,7 +5,7 @@ cd "$(dirname "$0")/.." && . tests/common.bash
 folders=$(mktemp -d)
 trap 'chmod -R u+w "$folders"; rm -rf "$folders"' EXIT
 chmod 755 "$folders"
-printed=$folders/printed said=$folders/said example=$repository/examples/three_records
+printed=$folders/printed said=$folders/said
 
 # run COMMAND...: what it prints and says, with its status in `status`
 run() {

@@ -24,6 +24,24 @@ ended_well() { [ "$status" -eq 0 ] && [ ! -s "$said" ]; }
 prints() { ended_well && cmp -s "$printed" <(printf "${1:+%s\n}" "$1"); }
 ended() { [ "$status" -eq "$1" ] && [ ! -s "$printed" ] && [ "$(wc -l <"$said")" -eq 1 ] && grep -qF -e "$2" "$said"; }
 
+# What the tests of the tools share. A test has its own `run TOOL ARGUMENTS...`, and its folder in $folder.
+example=$repository/examples/three_records
+
+# give TOOL WORDS...: runs it with the words as its arguments, or as a line of its standard input
+give() {
+    case $1 in
+    laychain | laywrite) run "$1" <<<"${*:2}" ;;
+    *) run "$@" </dev/null ;;
+    esac
+}
+
+# fresh FILES...: makes the folder anew, with these files of 01's example
+fresh() {
+    rm -rf "$folder"
+    mkdir "$folder"
+    [ $# -eq 0 ] || (cd "$example" && cp "$@" "$folder")
+}
+
 # links PAGE: the files that a page of the documents links to
 links() { grep -oE '\]\([^)# ]+' "$1" | cut -c 3-; }
 

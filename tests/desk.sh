@@ -9,9 +9,11 @@ folders=$(mktemp -d)
 trap 'rm -rf "$folders"' EXIT
 chmod 755 "$folders"
 folder=$folders/folder printed=$folders/printed said=$folders/said before=$folders/before
-example=$repository/examples/three_records
 files=(chain.dat job.dat lay.dat)
 tools=(layjob laychain laywrite layexpect layshow laylist)
+writes='job.dat layjob 30001 40000 1 0 100
+chain.dat laychain 1 0 30000 0 0 40000
+lay.dat laywrite 3 0 4 0 0'
 
 # The library of faults has every call by which a program reaches a file; else a program would make some that no fault is tried at.
 "$compiler" -std=c11 -O2 -Wall -Wextra -Werror -shared -fPIC -o "$folders/faults.so" tests/faults.c
@@ -37,21 +39,6 @@ run() {
     [ -z "${by:-}" ] || command=("$repository/bin/$1")
     status=0
     (cd "$folder" && exec timeout 10 "${command[@]}" "${@:2}") >"$printed" 2>"$said" || status=$?
-}
-
-# give TOOL WORDS...: runs it with the words as its arguments, or as a line of its standard input
-give() {
-    case $1 in
-    laychain | laywrite) run "$1" <<<"${*:2}" ;;
-    *) run "$@" </dev/null ;;
-    esac
-}
-
-# fresh FILES...: makes the folder anew, with these files of 01's example
-fresh() {
-    rm -rf "$folder"
-    mkdir "$folder"
-    [ $# -eq 0 ] || (cd "$example" && cp "$@" "$folder")
 }
 
 # says LINE...: that standard error has exactly these lines
@@ -115,11 +102,7 @@ while read -r file tool words; do
     done
     by=bin give $tool $words
     pass_if "bin/$tool ends with 1" [ "$status" -eq 1 ]
-done <<'END'
-job.dat layjob 30001 40000 1 0 100
-chain.dat laychain 1 0 30000 0 0 40000
-lay.dat laywrite 3 0 4 0 0
-END
+done <<<"$writes"
 for tool in laychain laywrite; do
     place 'protected file' "$([ $tool = laychain ] && echo chain.dat || echo lay.dat)"
     mkfifo "$folders/typed"
@@ -196,11 +179,7 @@ while read -r file tool words; do
         (umask ${mask%:*} && give $tool $words)
         pass_if "$tool with the umask $mask" [ "$(stat -c %a "$folder/$file")" -eq ${mask#*:} ]
     done
-done <<'END'
-job.dat layjob 30001 40000 1 0 100
-chain.dat laychain 1 0 30000 0 0 40000
-lay.dat laywrite 3 0 4 0 0
-END
+done <<<"$writes"
 
 # as_nobody TOOL LINE [WORDS...]: runs it in the folder as another user, who is given a copy of the program
 as_nobody() {
@@ -373,11 +352,7 @@ while read -r file tool words; do
         pass_if "$tool with $redirection: $(cat "$said")" grep -qx "$tool: note: $file is written all the same" "$said"
         pass_if "$tool with $redirection: written" [ -n "$(cmp "$folder/$file" "$example/$file" 2>&1)" ]
     done
-done <<'END'
-job.dat layjob 30001 40000 1 0 100
-chain.dat laychain 1 0 30000 0 0 40000
-lay.dat laywrite 3 0 4 0 0
-END
+done <<<"$writes"
 
 # The sum of refused and accepted lines.
 while IFS='|' read -r lines sum; do

@@ -8,7 +8,6 @@ seed=${1:-20261115}
 folders=$(mktemp -d)
 trap 'rm -rf "$folders"' EXIT
 folder=$folders/folder printed=$folders/printed said=$folders/said
-example=$repository/examples/three_records
 files=(chain.dat job.dat lay.dat)
 records='1 1 1 -10000 -20000
 2 0 2 30001 40000
@@ -18,21 +17,6 @@ records='1 1 1 -10000 -20000
 run() {
     status=0
     (cd "$folder" && program "$@") >"$printed" 2>"$said" || status=$?
-}
-
-# give TOOL WORDS...: runs it with the words as its arguments, or as a line of its standard input
-give() {
-    case $1 in
-    laychain | laywrite) run "$1" <<<"${*:2}" ;;
-    *) run "$@" </dev/null ;;
-    esac
-}
-
-# fresh FILES...: makes the folder anew, with these files of 01's example
-fresh() {
-    rm -rf "$folder"
-    mkdir "$folder"
-    [ $# -eq 0 ] || (cd "$example" && cp "$@" "$folder")
 }
 
 # holds FILES...: that the folder has these files of 01's example, in the order of their names, and nothing else
