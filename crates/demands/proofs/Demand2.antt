@@ -63,10 +63,12 @@ use Rattle.parsing.proofs.Lengths.{metres-length, metres-say}
 use Rattle.parsing.proofs.TypedLaws.{digits-length, digits-centimetres}
 use Rattle.listing.specs.declared.Carried.{Carried}
 use Rattle.listing.specs.Answers.{fixBy, answerBy, answerOf, placesOf}
+use Rattle.demands.specs.Typed.{metresLine}
 use Rattle.demands.specs.Finding.{EachSmall}
 use Rattle.demands.proofs.NumberLaws.{job-good}
 use Rattle.demands.proofs.WritingLaws.{hyperbolic-accepted, grid-accepted, hold-accepted, chain-byte}
 use Rattle.demands.proofs.TextLaws.{job-line-shown, job-typed-again, chain-line-shown, chain-typed-again, is-digit, metres-says, record-line-shown, metres-line, record-typed-again}
+use Rattle.demands.proofs.MetresLaws.{chain-in-metres, job-in-metres}
 use Rattle.demands.proofs.QuestionLaws.{expected-as-typed}
 use Rattle.demands.proofs.AskingLaws.{own-readings, found-by, tests-pass, fix-places}
 
@@ -197,6 +199,15 @@ pub record-in-metres : (d : Draft) → d .line < 2 ^ 32 → refusalOf 32 d ≡ 0
     parsedDraft (figuresText (used .kind ∷ used .chain ∷ used .line ∷ []) ++ ((32 ∷ metresText (used .x)) ++ (32 ∷ metresText (used .y))))
     ≡ parsed-draft.Draft used
 record-in-metres d small accepted = metres-line d small accepted
+
+-- So do every sound chain, and every job that the writer accepts, typed with their lengths in metres.
+pub chain-typed-in-metres : (c : Chain) → isSound c ≡ true → parsedChain (metresLine (stationFigures c)) ≡ parsed-chain.Chain c
+chain-typed-in-metres c sound = chain-in-metres c sound
+
+pub job-typed-in-metres : (j : Job) → j .allowance < 2 ^ 64 → jobRefusalOf 32 j ≡ 0 →
+    let corner = metresLine (j .window .corner .easting ∷ j .window .corner .northing ∷ []) in
+    parsedJob (corner ++ (spaced (j .window .k) ++ (metresLine (j .tolerance ∷ []) ++ spaced (j .allowance)))) ≡ parsed-job.Job j
+job-typed-in-metres j small accepted = job-in-metres j small accepted
 
 -- The writer accepts any two readings up to 1,000,000,000 in size for a chain from 1 to 16, any place in range, and any hold;
 -- and each of these is read back the same.

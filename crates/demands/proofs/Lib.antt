@@ -7,6 +7,7 @@ mod AskingLaws
 mod StoppingLaws
 mod TestLaws
 mod TextLaws
+mod MetresLaws
 mod QuestionLaws
 pub mod Demand1
 pub mod Demand2

@@ -1,5 +1,6 @@
 -- The definitions that the theorems of this crate use.
 pub mod Cases
 pub mod Numbers
+pub mod Typed
 pub mod Finding
 pub mod OneAnswer
