@@ -1,12 +1,12 @@
 -- A chain and a job typed with their lengths in metres are the same chain and the same job.
 use Prim.Native.Nat.{ℕ, zero, suc, _+_, _/_, _%_, _^_, _<_}
-use mathlib.Core.Path.{_≡_, refl, sym, ap, ap₂, _∙_}
-use mathlib.Core.Bool.{Bool, true, false, _||_}
+use mathlib.Core.Path.{_≡_, refl, ap, ap₂, _∙_}
+use mathlib.Core.Bool.{true, false, _||_}
 use mathlib.Core.List.{List, [], _∷_, _++_, map}
 use native.Mathlib.Omega.{arith}
 use borrow.Author.Tests.{ne-eqb}
 use lib.Dec.{eqb}
-use lib.ListN.{length, getD, List·getD-append, length-map}
+use lib.ListN.{length, getD, List·getD-append}
 use Rattle.chart.specs.declared.Chain.{Chain}
 use Rattle.chart.specs.Chains.{isSound}
 use Rattle.records.specs.declared.Job.{Job}
@@ -19,8 +19,8 @@ use Rattle.parsing.specs.declared.ParsedChain.the-variants as parsed-chain
 use Rattle.parsing.specs.declared.Form.the-variants as form
 use Rattle.parsing.specs.declared.Taken.the-variants as taken
 use Rattle.parsing.specs.Words.{wordAt, noWord, isPassed}
-use Rattle.parsing.specs.Numbers.{isLength, centimetresIn, valueAt, lengthAt}
-use Rattle.parsing.specs.Forms.{wordsOf, takenFor, isTaken, isForm}
+use Rattle.parsing.specs.Numbers.{centimetresIn, valueAt, lengthAt}
+use Rattle.parsing.specs.Forms.{wordsOf, takenFor, isTaken}
 use Rattle.parsing.specs.Parsed.{parsedJob, parsedChain}
 use Rattle.parsing.proofs.WordLaws.{EachIsWord, spacedWords, spaced-one, spaced-both, words-back}
 use Rattle.parsing.proofs.TypedLaws.{digits-word, digits-number-taken, digits-allowance-taken, words-form}

@@ -1,6 +1,6 @@
 -- `laychain::accepted` is true if no line before was refused, and this one is not.
 use mathlib.Core.Path.{sym, ap, _∙_}
-use mathlib.Core.Bool.{Bool, _&&_, and-true, and-false}
+use mathlib.Core.Bool.{_&&_, and-true, and-false}
 use Rattle.laychain.specs.declared.Verdict.{Verdict}
 use Rattle.laychain.specs.Tables.{isWell}
 use borrow.Author.Needs.{needs}

@@ -1,5 +1,4 @@
 -- `laychain::chains` returns the number of lines with chains if none was refused, and 0 if one was.
-use Prim.Native.Nat.{ℕ}
 use mathlib.Core.Bool.{Bool, cond}
 use mathlib.Core.Path.{sym, ap, _∙_}
 use borrow.Author.Tests.{not-true, not-false}

@@ -1,5 +1,5 @@
 -- `parsing::allowance` meets its contract: the usual allowance fits its field.
-use mathlib.Core.Path.{sym, ap, _∙_}
+use mathlib.Core.Path.{sym, _∙_}
 use native.Mathlib.Omega.{arith}
 use Rattle.parsing.specs.Numbers.{valueAt}
 use Rattle.parsing.proofs.Values.{held-told}
