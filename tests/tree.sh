@@ -35,7 +35,7 @@ definitions=$(declared crates/*/specs/*.antt crates/*/src/*.rt)
 pass_if 'no two definitions have one name' none $(uniq -d <<<"$definitions")
 pass_if 'no law has the name of a definition' none $(comm -12 <(uniq <<<"$definitions") <(declared crates/*/proofs/*.antt | uniq))
 
-# public FILE: a line for each public function of a crate, whose modules are private: its name, and `full` where it has an ensures and no requires.
+# public FILE: a line for each public function, its name, and `full` where it has an ensures and no requires.
 public() {
     awk '
         /^ *pub (extern "C" )?fn / { name = $0; sub(/^ *pub (extern "C" )?fn /, "", name); sub(/[(<].*/, "", name); kind = "bare" }
@@ -70,7 +70,7 @@ for crate in crates/*/; do
         pass_if "$name::$function is proved to have one answer" one_answer "$name" "$function"
         pass_if "docs/CONTRACTS.md has a row for $name::$function" grep -qx "$function" <<<"$rows"
         pass_if "$name::$function has two faults" faulty "$function" 2 <<<"$there"
-    done < <(cat "$crate"/src/{lib,main}.rt 2>/dev/null | public -)
+    done < <(cat "$crate"/src/*.rt | public -)
     for function in $rows; do
         pass_if "$name::$function has a fault" faulty "$function" 1 <<<"$there"
     done

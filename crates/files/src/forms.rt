@@ -7,7 +7,7 @@ use parsing::Taken;
 use parsing::Wrong;
 
 // The sentence about the word i of a line, counted from 0: what it is, and what it may be.
-pub fn put_fault(out: &mut [u8], line: &[u8], form: Form, i: usize) -> usize
+pub(crate) fn put_fault(out: &mut [u8], line: &[u8], form: Form, i: usize) -> usize
     ensures { λ r. ⌜ r ≤ length (now (out .exit)) ⌝ }
 {
     match parsing::wrong_at(line, form, i) {

@@ -8,7 +8,7 @@ use crate::Words;
 use crate::print;
 
 // If help is asked for, it is printed, and there is no line.
-pub fn words_of(tool: &[u8], asked: bool, line: &mut [u8], help: &[u8]) -> Words
+pub(crate) fn words_of(tool: &[u8], asked: bool, line: &mut [u8], help: &[u8]) -> Words
     ensures { λ r. ⌜ IsGiven asked (now (line .exit)) r ⌝ }
 {
     if asked {
@@ -20,7 +20,7 @@ pub fn words_of(tool: &[u8], asked: bool, line: &mut [u8], help: &[u8]) -> Words
 
 // A program may be started with standard input, output or error closed. A file that it opens would then get that descriptor, and
 // what is printed would go into the file. So the three descriptors, 0 to 2, are taken first.
-pub fn take_standard() {
+pub(crate) fn take_standard() {
     if takes_one() && takes_one() {
         takes_one();
     }
@@ -35,7 +35,7 @@ fn takes_one() -> bool {
     false
 }
 
-pub fn asks_help() -> bool {
+pub(crate) fn asks_help() -> bool {
     let mut word = [0u8; 6];
     // An argument that is longer gives no bytes.
     let n = os::arg(1, &mut word);

@@ -8,7 +8,7 @@ use crate::Input;
 use crate::failed;
 use libc::STDIN_FILENO;
 
-pub fn least(a: usize, b: usize) -> usize
+pub(crate) fn least(a: usize, b: usize) -> usize
     ensures { λ r. ⌜ r ≡ min a b ⌝ }
 {
     if a < b {
@@ -18,7 +18,7 @@ pub fn least(a: usize, b: usize) -> usize
 }
 
 // What comes next in the text from `from` up to `to` in a buffer.
-pub fn next_in(buffer: &[u8], from: usize, to: usize) -> Input
+pub(crate) fn next_in(buffer: &[u8], from: usize, to: usize) -> Input
     requires { ⌜ to ≤ length (now buffer) ⌝ }
     ensures { λ r. ⌜ r ≡ nextIn (now (buffer .entry)) from to ⌝ }
 {
@@ -37,7 +37,7 @@ pub fn next_in(buffer: &[u8], from: usize, to: usize) -> Input
 }
 
 // Moves the text from `from` up to `to` to the front of the buffer, reads more after it, and returns what comes next.
-pub fn read_more(tool: &[u8], buffer: &mut [u8], from: usize, to: usize) -> Input
+pub(crate) fn read_more(tool: &[u8], buffer: &mut [u8], from: usize, to: usize) -> Input
     requires { ⌜ to ≤ length (now buffer) ⌝ }
     ensures { λ r. ⌜ IsRead (now (buffer .entry)) from to (now (buffer .exit)) r ⌝ }
 {

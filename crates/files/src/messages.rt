@@ -8,7 +8,7 @@ ghost use Rattle.files.specs.Messages.{shownByte};
 const SHOWN_BYTES: usize = 40;
 
 // TOOL: SUBJECT: SENTENCE, and a newline.
-pub fn put_message(out: &mut [u8], tool: &[u8], subject: &[u8], sentence: &[u8]) -> usize
+pub(crate) fn put_message(out: &mut [u8], tool: &[u8], subject: &[u8], sentence: &[u8]) -> usize
     ensures { λ r. ⌜ r ≤ length (now (out .exit)) ⌝ }
 {
     let a = put_subject(out, tool, subject);
@@ -18,7 +18,7 @@ pub fn put_message(out: &mut [u8], tool: &[u8], subject: &[u8], sentence: &[u8])
 }
 
 // TOOL: SENTENCE, and a newline.
-pub fn put_said(out: &mut [u8], tool: &[u8], sentence: &[u8]) -> usize
+pub(crate) fn put_said(out: &mut [u8], tool: &[u8], sentence: &[u8]) -> usize
     ensures { λ r. ⌜ r ≤ length (now (out .exit)) ⌝ }
 {
     let a = put_subject(out, tool, sentence);
@@ -26,7 +26,7 @@ pub fn put_said(out: &mut [u8], tool: &[u8], sentence: &[u8]) -> usize
 }
 
 // TOOL: SUBJECT
-pub fn put_subject(out: &mut [u8], tool: &[u8], subject: &[u8]) -> usize
+pub(crate) fn put_subject(out: &mut [u8], tool: &[u8], subject: &[u8]) -> usize
     ensures { λ r. ⌜ r ≤ length (now (out .exit)) ⌝ }
 {
     let a = put(out, 0, tool);
@@ -35,7 +35,13 @@ pub fn put_subject(out: &mut [u8], tool: &[u8], subject: &[u8]) -> usize
 }
 
 // TOOL: REFUSED N: SENTENCE, with the number of the line before it if that is not 0, and a newline.
-pub fn put_refusal(out: &mut [u8], tool: &[u8], line: u64, number: u32, sentence: &[u8]) -> usize
+pub(crate) fn put_refusal(
+    out: &mut [u8],
+    tool: &[u8],
+    line: u64,
+    number: u32,
+    sentence: &[u8],
+) -> usize
     ensures { λ r. ⌜ r ≤ length (now (out .exit)) ⌝ }
 {
     let a = put(out, 0, tool);
@@ -61,7 +67,7 @@ fn put_line(out: &mut [u8], at: usize, line: u64) -> usize
 }
 
 // word W, `TEXT`: SENTENCE. The word is counted from 0, and shown from 1.
-pub fn put_word(out: &mut [u8], word: usize, text: &[u8], sentence: &[u8]) -> usize
+pub(crate) fn put_word(out: &mut [u8], word: usize, text: &[u8], sentence: &[u8]) -> usize
     ensures { λ r. ⌜ r ≤ length (now (out .exit)) ⌝ }
 {
     let a = put_place(out, word);
@@ -72,7 +78,7 @@ pub fn put_word(out: &mut [u8], word: usize, text: &[u8], sentence: &[u8]) -> us
 }
 
 // word W is missing: SENTENCE
-pub fn put_missing(out: &mut [u8], word: usize, sentence: &[u8]) -> usize
+pub(crate) fn put_missing(out: &mut [u8], word: usize, sentence: &[u8]) -> usize
     ensures { λ r. ⌜ r ≤ length (now (out .exit)) ⌝ }
 {
     let a = put_place(out, word);
@@ -118,7 +124,7 @@ fn shown_byte(b: u8) -> u8
 }
 
 // NAME is missing, and counts as empty
-pub fn put_empty(out: &mut [u8], name: &[u8]) -> usize
+pub(crate) fn put_empty(out: &mut [u8], name: &[u8]) -> usize
     ensures { λ r. ⌜ r ≤ length (now (out .exit)) ⌝ }
 {
     let a = put(out, 0, name);
@@ -126,7 +132,7 @@ pub fn put_empty(out: &mut [u8], name: &[u8]) -> usize
 }
 
 // That a fresh file is there and is waited for.
-pub fn put_waiting(out: &mut [u8], name: &[u8], fresh: &[u8]) -> usize
+pub(crate) fn put_waiting(out: &mut [u8], name: &[u8], fresh: &[u8]) -> usize
     ensures { λ r. ⌜ r ≤ length (now (out .exit)) ⌝ }
 {
     let a = put(out, 0, fresh);
@@ -137,7 +143,7 @@ pub fn put_waiting(out: &mut [u8], name: &[u8], fresh: &[u8]) -> usize
 }
 
 // That a fresh file is there, and what to do about it.
-pub fn put_taken(out: &mut [u8], name: &[u8], fresh: &[u8]) -> usize
+pub(crate) fn put_taken(out: &mut [u8], name: &[u8], fresh: &[u8]) -> usize
     ensures { λ r. ⌜ r ≤ length (now (out .exit)) ⌝ }
 {
     let a = put(out, 0, fresh);
@@ -158,7 +164,7 @@ fn put_remedy(out: &mut [u8], at: usize, name: &[u8], fresh: &[u8]) -> usize
 }
 
 // job.dat: 1 job written, 1 there now; a search may make ALLOWANCE visits, and a newline.
-pub fn put_job_written(out: &mut [u8], allowance: u64) -> usize
+pub(crate) fn put_job_written(out: &mut [u8], allowance: u64) -> usize
     ensures { λ r. ⌜ r ≤ length (now (out .exit)) ⌝ }
 {
     let a = put(
@@ -171,7 +177,7 @@ pub fn put_job_written(out: &mut [u8], allowance: u64) -> usize
 }
 
 // NAME is written all the same
-pub fn put_all_the_same(out: &mut [u8], name: &[u8]) -> usize
+pub(crate) fn put_all_the_same(out: &mut [u8], name: &[u8]) -> usize
     ensures { λ r. ⌜ r ≤ length (now (out .exit)) ⌝ }
 {
     let a = put(out, 0, name);
@@ -179,7 +185,7 @@ pub fn put_all_the_same(out: &mut [u8], name: &[u8]) -> usize
 }
 
 // COUNT records name a chain that chain.dat does not have (the first is line FIRST)
-pub fn put_unknown(out: &mut [u8], count: u64, first: u64) -> usize
+pub(crate) fn put_unknown(out: &mut [u8], count: u64, first: u64) -> usize
     ensures { λ r. ⌜ r ≤ length (now (out .exit)) ⌝ }
 {
     let a = put_number(out, 0, count);
@@ -207,7 +213,7 @@ fn put_naming(out: &mut [u8], at: usize, count: u64) -> usize
 }
 
 // That the fresh file is not the one that was made.
-pub fn put_lost(out: &mut [u8], fresh: &[u8]) -> usize
+pub(crate) fn put_lost(out: &mut [u8], fresh: &[u8]) -> usize
     ensures { λ r. ⌜ r ≤ length (now (out .exit)) ⌝ }
 {
     let a = put(out, 0, fresh);
@@ -219,7 +225,7 @@ pub fn put_lost(out: &mut [u8], fresh: &[u8]) -> usize
 }
 
 // NAME: COUNT NOUNs written, TOTAL there now, and a newline.
-pub fn put_written(out: &mut [u8], name: &[u8], noun: &[u8], count: u64, total: u64) -> usize
+pub(crate) fn put_written(out: &mut [u8], name: &[u8], noun: &[u8], count: u64, total: u64) -> usize
     ensures { λ r. ⌜ r ≤ length (now (out .exit)) ⌝ }
 {
     let a = put(out, 0, name);
@@ -241,7 +247,7 @@ fn put_count(out: &mut [u8], at: usize, noun: &[u8], count: u64) -> usize
 }
 
 // COUNT lines refused (the first is line FIRST), ACCEPTED accepted; SENTENCE.
-pub fn put_lines_refused(
+pub(crate) fn put_lines_refused(
     out: &mut [u8],
     count: u64,
     first: u64,
@@ -279,7 +285,7 @@ fn put_plural(out: &mut [u8], at: usize, count: u64) -> usize
     put(out, at, b"s")
 }
 
-pub fn put(out: &mut [u8], at: usize, s: &[u8]) -> usize
+pub(crate) fn put(out: &mut [u8], at: usize, s: &[u8]) -> usize
     requires { ⌜ at ≤ length (now out) ⌝ }
     ensures { λ r. ⌜ r ≤ length (now (out .exit)) ⌝ }
 {

@@ -11,7 +11,7 @@ use crate::trouble;
 
 // Whether a file may be replaced: it is a regular file with one name, which is no link, and it is not write-protected. One that is
 // missing may be made. If not, the reason is printed.
-pub fn may_replace(tool: &[u8], name: &[u8]) -> bool {
+pub(crate) fn may_replace(tool: &[u8], name: &[u8]) -> bool {
     let link = system::is_link(name);
     let old = system::of_name(name);
     let missing = os::errno() == libc::ENOENT;
@@ -75,7 +75,7 @@ fn may_be_made(tool: &[u8], name: &[u8], missing: bool) -> bool
 }
 
 // Prints that a file is of another kind.
-pub fn not_regular(tool: &[u8], name: &[u8]) -> bool
+pub(crate) fn not_regular(tool: &[u8], name: &[u8]) -> bool
     ensures { λ r. ⌜ r ≡ false ⌝ }
 {
     trouble(
@@ -100,7 +100,7 @@ fn is_writable(mode: u32) -> bool
 
 // Makes the fresh file. While there is one, it is tried again, up to `tries` times. Returns a descriptor, or what is below 0, and
 // then errno says why.
-pub fn made(tool: &[u8], name: &[u8], fresh: &[u8], tries: u32) -> i32 {
+pub(crate) fn made(tool: &[u8], name: &[u8], fresh: &[u8], tries: u32) -> i32 {
     let mut i = 0;
     while i < tries {
         let file = os::create(fresh);
@@ -114,7 +114,7 @@ pub fn made(tool: &[u8], name: &[u8], fresh: &[u8], tries: u32) -> i32 {
 }
 
 // Whether nothing is in the way: there is no fresh file, the folder may be written to, and the file may be replaced.
-pub fn is_free(tool: &[u8], name: &[u8], fresh: &[u8], tries: u32) -> bool {
+pub(crate) fn is_free(tool: &[u8], name: &[u8], fresh: &[u8], tries: u32) -> bool {
     if !is_gone(tool, name, fresh, tries) {
         return taken(tool, name, fresh);
     }
@@ -155,7 +155,7 @@ fn is_there(name: &[u8]) -> bool {
 }
 
 // Prints that there is a fresh file.
-pub fn taken(tool: &[u8], name: &[u8], fresh: &[u8]) -> bool
+pub(crate) fn taken(tool: &[u8], name: &[u8], fresh: &[u8]) -> bool
     ensures { λ r. ⌜ r ≡ false ⌝ }
 {
     let mut text = [0u8; 1024];
@@ -164,7 +164,7 @@ pub fn taken(tool: &[u8], name: &[u8], fresh: &[u8]) -> bool
 }
 
 // Whether the fresh file is still the one behind the descriptor. If it cannot be looked at, it is looked at once more.
-pub fn is_ours(fresh: &[u8], file: i32) -> bool {
+pub(crate) fn is_ours(fresh: &[u8], file: i32) -> bool {
     seems_ours(fresh, file) || seems_ours(fresh, file)
 }
 
@@ -176,7 +176,7 @@ fn seems_ours(fresh: &[u8], file: i32) -> bool {
 }
 
 // Prints that it is not.
-pub fn lost(tool: &[u8], name: &[u8], fresh: &[u8]) -> bool
+pub(crate) fn lost(tool: &[u8], name: &[u8], fresh: &[u8]) -> bool
     ensures { λ r. ⌜ r ≡ false ⌝ }
 {
     let mut text = [0u8; 1024];
@@ -185,7 +185,7 @@ pub fn lost(tool: &[u8], name: &[u8], fresh: &[u8]) -> bool
 }
 
 // Whether the old file may be replaced, and the fresh one has its mode.
-pub fn is_prepared(tool: &[u8], name: &[u8], file: i32) -> bool {
+pub(crate) fn is_prepared(tool: &[u8], name: &[u8], file: i32) -> bool {
     may_replace(tool, name) && has_mode(tool, name, file)
 }
 
@@ -206,7 +206,7 @@ fn has_mode(tool: &[u8], name: &[u8], file: i32) -> bool {
 }
 
 // Asks that the folder, and with it a new name in it, is stored. Returns whether it is.
-pub fn stored_folder() -> bool {
+pub(crate) fn stored_folder() -> bool {
     let folder = os::open_read(b".");
     if folder < 0 {
         return false;

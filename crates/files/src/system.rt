@@ -25,33 +25,33 @@ pub struct Seen {
 
 // The file that a name leads to, also through a link. A name that is too long for the operating system is cut, which does no
 // harm: the call that then opens, makes or renames it fails.
-pub fn of_name(name: &[u8]) -> Seen {
+pub(crate) fn of_name(name: &[u8]) -> Seen {
     let path = ended(name);
     of_path(&path)
 }
 
 // Whether a name is a link.
-pub fn is_link(name: &[u8]) -> bool {
+pub(crate) fn is_link(name: &[u8]) -> bool {
     let path = ended(name);
     let mut text = [0u8; 1];
     libc::readlink(&path, &mut text) >= 0
 }
 
 // Whether this user may write to a file, or into a folder.
-pub fn may_write(name: &[u8]) -> bool {
+pub(crate) fn may_write(name: &[u8]) -> bool {
     let path = ended(name);
     libc::access(&path, libc::W_OK) == 0
 }
 
 // Whether the mode is that of a regular file: no folder, FIFO, device or socket.
-pub fn is_regular(mode: u32) -> bool
+pub(crate) fn is_regular(mode: u32) -> bool
     ensures { λ r. ⌜ r ≡ isRegular mode ⌝ }
 {
     mode / 4096 % 16 == 8
 }
 
 // Whether both were found, and are the same file.
-pub fn is_same(a: Seen, b: Seen) -> bool
+pub(crate) fn is_same(a: Seen, b: Seen) -> bool
     ensures { λ r. ⌜ r ≡ sameFile a b ⌝ }
 {
     if !a.found {
@@ -93,14 +93,14 @@ fn of_path(path: &[u8; PATH_MAX]) -> Seen
 }
 
 // The file behind a descriptor. The struct is lent to C.
-pub fn of_file(file: i32) -> Seen {
+pub(crate) fn of_file(file: i32) -> Seen {
     let mut s = nothing();
     let status = libc::fstat(file, &mut s);
     told(status, s)
 }
 
 // Waits 100 ms, or less if a signal ends the wait. The structs are lent to C.
-pub fn wait() {
+pub(crate) fn wait() {
     let asked = tenth();
     let mut left = tenth();
     libc::nanosleep(&asked, &mut left);
