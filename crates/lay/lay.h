@@ -26,7 +26,7 @@ extern "C" {
 
 /* The version of this header. It changes whenever callers must be compiled anew; lay_version() returns the version that the library
  * was built with. */
-#define LAY_VERSION 1
+#define LAY_VERSION 2
 
 /* The numbers of refusal. The comments below name them by number. */
 enum {
@@ -42,6 +42,13 @@ enum {
     LAY_REFUSED_ROOM = 9,        /* no room in the list or the buffer */
     LAY_REFUSED_ALLOWANCE = 10,  /* the allowance is used up */
     LAY_REFUSED_HOLD = 11        /* a hold with nothing to hold: only in the text of a listing, never returned */
+};
+
+/* Where exactly 100 times a number of metres lies, as seen from the whole centimetres that it was rounded to. */
+enum {
+    LAY_EQUAL = 0,   /* it is that whole number: nothing was lost */
+    LAY_BELOW = 1,
+    LAY_ABOVE = 2
 };
 
 /* Sizes in bytes, and how many numbers and readings a chain has. */
@@ -71,20 +78,23 @@ struct lay_found {
     uint64_t visits;
 };
 
-/* A part of a listing: the length of its text in bytes and, if `held` is 1, the place that a hold right after it repeats. */
+/* A part of a listing: the length of its text in bytes and, if `held` is 1, the place that a hold right after it repeats, with the
+ * last field of that place's line: `rounded` is 1 if a number of its record was rounded, else 0. */
 struct lay_part {
     uint64_t length;
     uint32_t held;
     uint32_t easting;
     uint32_t northing;
+    uint32_t rounded;
 };
 
 /* Returns the LAY_VERSION of the header that the library was built with. */
 uint32_t lay_version(void);
 
-/* Converts metres to whole centimetres: the whole number nearest to exactly 100 times the metres; a tie goes to the even one.
- * Returns 3 for NaN, for an infinity and for anything over 10,000,000 in size. */
-uint32_t lay_centimetres(double metres, int64_t *centimetres);
+/* Converts metres to whole centimetres: the whole number nearest to exactly 100 times the metres; a tie goes to the even one. The
+ * mark says where exactly 100 times the metres lies: LAY_EQUAL, LAY_BELOW or LAY_ABOVE these centimetres. Returns 3 for NaN, for an
+ * infinity and for anything over 10,000,000 in size, and then sets LAY_EQUAL. */
+uint32_t lay_centimetres(double metres, int64_t *centimetres, uint32_t *mark);
 
 /* Converts whole centimetres to metres: one division by 100, rounded once. lay_centimetres turns the result back into the same
  * centimetres. Returns 3 for anything over 1,000,000,000 in size, and then sets plus zero. */
@@ -108,10 +118,11 @@ uint32_t lay_search(uint32_t *list, size_t entries, const uint8_t *chain, size_t
                     size_t readings_length, const uint8_t *job, size_t job_length, struct lay_found *found);
 
 /* Reads a log record of LAY_RECORD_BYTES: its kind (1 hyperbolic, 2 grid, 3 hold); its chain number, which is 0 for kinds 2 and 3;
- * its line number; and, as x and y in whole centimetres, readings A and B, or easting and northing, or two zeros for a hold.
- * Returns 1 for another length, then 2, 3, 4 in this order. The line number is set after 2, 3 and 4 too, since any is allowed. */
+ * its line number; and, as x and y in whole centimetres, readings A and B, or easting and northing, or two zeros for a hold. Each of
+ * x and y has its mark, as lay_centimetres gives it; those of a hold are LAY_EQUAL. Returns 1 for another length, then 2, 3, 4 in
+ * this order. The line number is set after 2, 3 and 4 too, since any is allowed. */
 uint32_t lay_read_record(const uint8_t *bytes, size_t length, uint32_t *kind, uint32_t *chain, uint32_t *line, int64_t *x,
-                         int64_t *y);
+                         int64_t *y, uint32_t *x_mark, uint32_t *y_mark);
 
 /* Writes a log record into a buffer of LAY_RECORD_BYTES, from the same numbers. What the kind does not use is ignored. Refuses with
  * 1 to 5, tested in this order. When this or a writing function below refuses, the whole buffer is zero, whatever its length. */
@@ -145,8 +156,9 @@ uint32_t lay_write_chain(uint8_t *buffer, size_t length, const uint32_t *station
  * LAY_RECORD_BYTES, that is the line of one record.
  *
  * Set `part` to all zeros before the first part of a log, then pass it on unchanged from each part to the next. On entry it says
- * what place a hold at the start of this part repeats (any `held` other than 0 is taken as 1). On return it says how long the
- * text is and what place is held after it; an empty log passes on the place that it was given.
+ * what place a hold at the start of this part repeats, and with what last field (any `held` or `rounded` other than 0 is taken as
+ * 1). On return it says how long the text is, what place is held after it, and its last field; an empty log passes on what it was
+ * given.
  *
  * If the job or the table is refused, this call itself is not: it returns LAY_OK, and the text is the one line that the program
  * would print, whatever the log, for example `JOB REFUSED 6` and a newline. No place is held then.
