@@ -45,7 +45,7 @@ size-less true false zero (suc y) = size-sub 0 (suc y) ∙ omega arith
 size-less true false (suc x) zero = size-sub 0 (suc x) ∙ omega arith
 size-less true false (suc x) (suc y) = omega arith
 
-times : (t : Bool) (n b : ℕ) → signed t n *ℤ pos b ≡ signed t (n * b)
+pub times : (t : Bool) (n b : ℕ) → signed t n *ℤ pos b ≡ signed t (n * b)
 times false n b = refl
 times true zero b = rw (zero-mul b)
 times true (suc n) b = refl

@@ -5,6 +5,7 @@ pub mod Back
 pub mod PatternLaws
 mod Sizes
 mod Exact
+pub mod MarkLaws
 mod Digits
 mod Worked
 pub mod Negatives

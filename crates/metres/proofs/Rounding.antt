@@ -1,10 +1,11 @@
 -- The whole number nearest to a fraction a / b, a tie going to the even one: it is `closest a b`, and no other number.
-use Prim.Native.Nat.{ℕ, suc, _+_, _-_, _*_, _/_, _%_, _≤_, _<_, compare, Ordering, Ordering·lt, Ordering·eq, Ordering·gt}
+use Prim.Native.Nat.{ℕ, suc, _+_, _-_, _*_, _/_, _%_, _^_, _≤_, _<_, compare, Ordering, Ordering·lt, Ordering·eq, Ordering·gt}
 use mathlib.Core.Path.{_≡_, subst}
 use mathlib.Core.Bool.{not}
-use native.Mathlib.Nat.{add-mul, suc-mul, div-add-mod', mod-lt, mul-le-mul-right, eq-of-mul-eq-mul-right, le-antisymm, lt-of-not-le, le-of-suc-le-suc}
+use native.Mathlib.Nat.{zero-mul, add-mul, suc-mul, div-add-mod', mod-lt, mul-le-mul-right, eq-of-mul-eq-mul-right, le-antisymm, lt-of-not-le, le-of-suc-le-suc}
 use native.Mathlib.Numerals.{add-one}
 use native.Mathlib.Omega.{arith}
+use lib.Pow.{pow-pos, pow-mono}
 use lib.Dec.{T, isLe, isEq, eqb, leb→le, nleb→lt, eqb→eq, eqb-refl}
 use lib.Ieee.{nearest}
 use lib.Ieee.Nearest.{closest}
@@ -70,3 +71,15 @@ near-only a b c pos n =
     let d = closest a b in
     let m = closest-near a b pos in
     le-antisymm (le-of-suc-le-suc (lt-of-not-le (not-less a b d c pos m n))) (le-of-suc-le-suc (lt-of-not-le (not-less a b c d pos n m)))
+
+-- Fewer than 2 ^ 60 parts, of which at least 2 ^ 62 make one, are less than a half.
+pub none : (parts halvings : ℕ) → parts < 2 ^ 60 → 62 ≤ halvings → 0 ≡ closest parts (2 ^ halvings)
+none parts halvings few many =
+    let big : 2 ^ 62 ≤ 2 ^ halvings = pow-mono many in
+    near-only parts (2 ^ halvings) 0 (pow-pos halvings) (less-than-half parts (2 ^ halvings) 0 (omega (arith, zero-mul (2 ^ halvings))))
+
+-- What n centimetres are in parts, if n is nearest: less than the parts and one centimetre.
+pub parts-few : (parts b : ℕ) → 0 < b → closest parts b * b ≤ parts + b
+parts-few parts b some =
+    let near = closest-near parts b some .near in
+    omega arith

@@ -1,5 +1,6 @@
 -- Metres and whole centimetres, and the bytes of a number.
 pub mod Metres
 pub mod Nearest
+pub mod Marks
 pub mod Hundredfolds
 pub mod Patterns

@@ -1,11 +1,12 @@
 // Metres and whole centimetres, and binary64 numbers in bytes.
 ghost use mathlib.Core.Path.{_≡_};
-ghost use Prim.Native.Nat.{_<_, _^_};
-ghost use lib.IntN.{natAbs};
+ghost use Prim.Native.Nat.{_*_, _<_, _^_};
+ghost use lib.IntN.{natAbs, pos};
 ghost use lib.Ieee.Nearest.{closest};
 ghost use Rattle.fields.specs.Fields.{inside};
 ghost use Rattle.metres.specs.Metres.{signed, centimetresOf, metresOf, wholeFigures, lengthFigures, ReadsBack};
-ghost use Rattle.metres.specs.Hundredfolds.{IsHundredfold};
+ghost use Rattle.metres.specs.Marks.{seenFrom, markedOf, isRounded};
+ghost use Rattle.metres.specs.Hundredfolds.{IsHundredfold, nearestTo};
 ghost use Rattle.metres.specs.Patterns.{numberOf, patternOf, isPlusZero, numberAt, putNumberAt, ReadsThere};
 use fields::Eight;
 
@@ -13,6 +14,19 @@ use fields::Eight;
 pub enum Whole {
     Centimetres(i64),
     Refused,
+}
+
+// Where exactly 100 times a number of metres lies, as seen from its whole centimetres. `Equal`: nothing was lost.
+pub enum Mark {
+    Equal,
+    Below,
+    Above,
+}
+
+// What a number of metres becomes, and how it was rounded. A number that is refused has the mark `Equal`.
+pub struct MarkedWhole {
+    pub whole: Whole,
+    pub mark: Mark,
 }
 
 // What a whole number of centimetres becomes: a number of metres, or a refusal.
@@ -54,16 +68,34 @@ pub const MOST_CENTIMETRES: u64 = 1_000_000_000;
 pub fn centimetres(x: f64) -> Whole
     ensures { λ r. ⌜ r ≡ centimetresOf x ⌝ }
 {
+    marked(x).whole
+}
+
+// The same, and how the number was rounded.
+pub fn marked(x: f64) -> MarkedWhole
+    ensures { λ r. ⌜ r ≡ markedOf x ⌝ }
+{
     match times_hundred(x) {
         Hundredfold::Exact {
             minus,
             parts,
             halvings,
-        } => {
-            let n = with_sign(minus, rounded(parts, halvings));
-            Whole::Centimetres(n)
-        }
-        Hundredfold::Refused => Whole::Refused,
+        } => nearest(minus, parts, halvings),
+        Hundredfold::Refused => MarkedWhole {
+            whole: Whole::Refused,
+            mark: Mark::Equal,
+        },
+    }
+}
+
+// Whether a number with this mark lost something on the way to centimetres.
+pub fn is_rounded(mark: Mark) -> bool
+    ensures { λ r. ⌜ r ≡ isRounded mark ⌝ }
+{
+    match mark {
+        Mark::Equal => false,
+        Mark::Below => true,
+        Mark::Above => true,
     }
 }
 
@@ -204,6 +236,55 @@ fn times_hundred(x: f64) -> Hundredfold
         parts,
         halvings,
     }
+}
+
+// parts / 2 ^ halvings, with a sign, in whole centimetres, and where it lies as seen from these.
+fn nearest(minus: bool, parts: u64, halvings: u64) -> MarkedWhole
+    requires { ⌜ parts < 2 ^ 60 ⌝ }
+    ensures { λ r. ⌜ r ≡ nearestTo minus parts halvings ⌝ }
+{
+    let n = rounded(parts, halvings);
+    let centimetres = with_sign(minus, n);
+    let mark = side(minus, parts, scaled(parts, halvings, n));
+    MarkedWhole {
+        whole: Whole::Centimetres(centimetres),
+        mark,
+    }
+}
+
+// How many parts make n centimetres, where n is what `parts` were rounded to.
+fn scaled(parts: u64, halvings: u64, n: u64) -> u64
+    requires { ⌜ (parts < 2 ^ 60) × (n ≡ closest parts (2 ^ halvings)) ⌝ }
+    ensures { λ r. ⌜ r ≡ n * 2 ^ halvings ⌝ }
+{
+    // Then n is 0.
+    if halvings >= 62 {
+        return 0;
+    }
+    n * power(halvings)
+}
+
+// Where a size lies as seen from another, both with the same sign.
+fn side(minus: bool, size: u64, from: u64) -> Mark
+    ensures { λ r. ⌜ r ≡ seenFrom (signed minus from) (signed minus size) ⌝ }
+{
+    if minus {
+        return compared(from, size);
+    }
+    compared(size, from)
+}
+
+// Where a number lies as seen from another.
+fn compared(n: u64, from: u64) -> Mark
+    ensures { λ r. ⌜ r ≡ seenFrom (pos from) (pos n) ⌝ }
+{
+    if n < from {
+        return Mark::Below;
+    }
+    if n > from {
+        return Mark::Above;
+    }
+    Mark::Equal
 }
 
 // parts / 2 ^ halvings to the nearest whole number, a tie going to the even one.

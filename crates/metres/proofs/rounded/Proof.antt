@@ -1,19 +1,13 @@
 -- `metres::rounded` meets its contract: the quotient, or the next number if the remainder asks for it, is near, and no other is.
-use Prim.Native.Nat.{ℕ, _+_, _/_, _%_, _*_, _^_, _<_, _≤_}
+use Prim.Native.Nat.{ℕ, _+_, _/_, _%_, _*_, _^_, _<_}
 use mathlib.Core.Path.{_≡_, ap, _∙_, subst⁻¹}
-use native.Mathlib.Nat.{le-antisymm, mod-lt, div-add-mod', div-le-self, zero-mul}
+use native.Mathlib.Nat.{le-antisymm, mod-lt, div-add-mod', div-le-self}
 use native.Mathlib.Omega.{arith}
-use lib.Pow.{pow-pos, pow-lt, pow-mono}
+use lib.Pow.{pow-pos, pow-lt}
 use lib.Ieee.Nearest.{closest}
-use Rattle.metres.proofs.Rounding.{Near, less-than-half, rest-less, rest-more, rest-half, near-only}
+use Rattle.metres.proofs.Rounding.{Near, rest-less, rest-more, rest-half, near-only, none}
 use Rattle.metres.proofs.rounded.Statement.{statement}
 use Rattle.metres.proofs.rounded.Tie as tie
-
--- Fewer than 2 ^ 60 parts, of which at least 2 ^ 62 make one, are less than a half.
-none : (parts halvings : ℕ) → parts < 2 ^ 60 → 62 ≤ halvings → 0 ≡ closest parts (2 ^ halvings)
-none parts halvings few many =
-    let big : 2 ^ 62 ≤ 2 ^ halvings = pow-mono many in
-    near-only parts (2 ^ halvings) 0 (pow-pos halvings) (less-than-half parts (2 ^ halvings) 0 (omega (arith, zero-mul (2 ^ halvings))))
 
 returns : tie.Need-returns
 returns c = none (c .before .args .parts) (c .before .args .halvings) (c .before .pre) (c .if1 .taken)
