@@ -3,6 +3,7 @@ pub mod Theorems
 mod ByteLaws
 mod ReadLaws
 mod LogLaws
+pub mod MarkLaws
 pub mod GridLaws
 pub mod TableLaws
 pub mod JobLaws

@@ -4,4 +4,5 @@ pub mod LogRecords
 pub mod ChainTables
 pub mod Jobs
 pub mod Refusals
+pub mod Marks
 pub mod Gathered

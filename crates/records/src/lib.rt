@@ -5,18 +5,20 @@ ghost use mathlib.Core.List.{List};
 ghost use Prim.Native.Nat.{ℕ, _+_, _≤_};
 ghost use lib.ListN.{length};
 ghost use Rattle.fields.specs.Fields.{fieldAt};
-ghost use Rattle.metres.specs.Metres.{centimetresOf};
 ghost use Rattle.records.specs.declared.JobAnswer.the-variants as answer;
 ghost use Rattle.records.specs.declared.LogEntry.the-variants as entry;
+ghost use Rattle.records.specs.declared.LogRecord.the-variants as log;
 ghost use Rattle.records.specs.Bytes.{byteAt, numberIn, areZero, pieceEnd};
 ghost use Rattle.records.specs.LogRecords.{logBytes, rawRecordOf, isHyperbolic, isGrid, isHold, logRecordOf, isPlace, placed, pairOf, withPair, logEntryOf};
 ghost use Rattle.records.specs.ChainTables.{chainBytes, isTable, oneTo, chainCountOf, placeAt, chainAt, rawChainOf, chainOf};
 ghost use Rattle.records.specs.Jobs.{jobBytes, jobIn, rawJobOf, formedJobOf, acceptedJob, jobOf};
-ghost use Rattle.records.specs.Gathered.{IsRaw};
+ghost use Rattle.records.specs.Marks.{withMarksOf, markedEntryOf};
+ghost use Rattle.records.specs.Gathered.{IsRaw, markedAs};
 use chart::Chain;
 use chart::Place;
 use fields::Eight;
 use fields::Four;
+use metres::Mark;
 use metres::Whole;
 use search::Window;
 
@@ -52,6 +54,13 @@ pub enum LogEntry {
     Place(Place),
     Hold,
     Refused(u32),
+}
+
+// The same, with the marks of its two numbers. A number that is not used, and one of a refused record, has the mark `Equal`.
+pub struct MarkedEntry {
+    pub entry: LogEntry,
+    pub first: Mark,
+    pub second: Mark,
 }
 
 // How many chains a table has.
@@ -123,11 +132,20 @@ pub fn log_record(s: &[u8]) -> LogRecord
 pub fn log_entry(s: &[u8]) -> LogEntry
     ensures { λ r. ⌜ r ≡ logEntryOf (now (s .entry)) ⌝ }
 {
+    marked_entry(s).entry
+}
+
+// The same, and how its numbers were rounded.
+pub fn marked_entry(s: &[u8]) -> MarkedEntry
+    ensures { λ r. ⌜ r ≡ markedEntryOf (now (s .entry)) ⌝ }
+{
     match log_record(s) {
-        LogRecord::Hyperbolic { a, b } => readings(both(a, b)),
-        LogRecord::Grid { easting, northing } => place(both(easting, northing)),
-        LogRecord::Hold => LogEntry::Hold,
-        LogRecord::Refused(number) => LogEntry::Refused(number),
+        LogRecord::Hyperbolic { a, b } => marked_readings(a, b),
+        LogRecord::Grid { easting, northing } => marked_place(easting, northing),
+        LogRecord::Hold => with_marks(LogEntry::Hold, Mark::Equal, Mark::Equal),
+        LogRecord::Refused(number) => {
+            with_marks(LogEntry::Refused(number), Mark::Equal, Mark::Equal)
+        }
     }
 }
 
@@ -367,12 +385,52 @@ fn last_zero(r: RawRecord) -> bool
     metres::is_plus_zero(third)
 }
 
-// Two numbers of metres in centimetres.
-fn both(x: f64, y: f64) -> Pair
-    ensures { λ r. ⌜ r ≡ pairOf (centimetresOf x) (centimetresOf y) ⌝ }
+fn marked_readings(a: f64, b: f64) -> MarkedEntry
+    ensures { λ r. ⌜ r ≡ withMarksOf (log.Hyperbolic a b) ⌝ }
 {
-    let first = metres::centimetres(x);
-    let second = metres::centimetres(y);
+    let x = metres::marked(a);
+    let y = metres::marked(b);
+    let first = x.whole;
+    let second = y.whole;
+    let first_mark = x.mark;
+    let second_mark = y.mark;
+    with_marks(readings(both(first, second)), first_mark, second_mark)
+}
+
+fn marked_place(e: f64, n: f64) -> MarkedEntry
+    ensures { λ r. ⌜ r ≡ withMarksOf (log.Grid e n) ⌝ }
+{
+    let x = metres::marked(e);
+    let y = metres::marked(n);
+    let first = x.whole;
+    let second = y.whole;
+    let first_mark = x.mark;
+    let second_mark = y.mark;
+    with_marks(place(both(first, second)), first_mark, second_mark)
+}
+
+// An entry with these marks; with `Equal` if it is refused.
+fn with_marks(entry: LogEntry, first: Mark, second: Mark) -> MarkedEntry
+    ensures { λ r. ⌜ r ≡ markedAs entry first second ⌝ }
+{
+    if let LogEntry::Refused(_) = entry {
+        return MarkedEntry {
+            entry,
+            first: Mark::Equal,
+            second: Mark::Equal,
+        };
+    }
+    MarkedEntry {
+        entry,
+        first,
+        second,
+    }
+}
+
+// Two numbers in centimetres, or that one of them is refused.
+fn both(first: Whole, second: Whole) -> Pair
+    ensures { λ r. ⌜ r ≡ pairOf first second ⌝ }
+{
     let Whole::Centimetres(x) = first else {
         return Pair::Unusable;
     };
