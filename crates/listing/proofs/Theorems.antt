@@ -2,6 +2,7 @@
 -- refused job or table, and a hold. The contracts of `listing` are stated with the same definitions.
 use Prim.Native.Nat.{ℕ, _%_, _≤_, _<_}
 use mathlib.Core.Path.{_≡_, refl, ap, ap₂, _∙_}
+use mathlib.Core.Bool.{Bool}
 use mathlib.Core.List.{List, [], _∷_, _++_}
 use lib.ListN.{length}
 use Rattle.chart.specs.declared.Place.{Place}
@@ -17,7 +18,7 @@ use Rattle.records.specs.Jobs.{jobOf}
 use Rattle.text.specs.Texts.{spaced, bytesIn}
 use Rattle.listing.specs.declared.Carried.{Carried}
 use Rattle.listing.specs.declared.Carried.the-variants as carried
-use Rattle.listing.specs.Answers.{Fix, Grid, Hold, Refused, holdOf, answerBy, answerOf, placesOf, only, carriedBy}
+use Rattle.listing.specs.Answers.{Fix, Grid, Hold, Refused, holdOf, answerBy, answerOf, placesOf, saysRounded, only, carriedBy}
 use Rattle.listing.specs.Listings.{Part, joined, linesFrom, listingBy, listingFrom, listingOf}
 use Rattle.listing.proofs.Parts.{short-line, listing-lines, listing-joined}
 
@@ -69,31 +70,31 @@ then-chain job table log j number good e =
 
 -- What a record hands on to a hold after it. A refused record hands on nothing.
 pub refused-carries : (number visits : ℕ) → carriedBy (Refused number visits) ≡ carried.Nothing
-unfolding placesOf only
+unfolding placesOf saysRounded only
 refused-carries number visits = refl
 
 -- A fix hands on a place exactly if that is its only one.
-pub fix-carries : (visits : ℕ) (ps : List Place) (p : Place) →
-    (carriedBy (Fix visits ps) ≡ carried.Place p → ps ≡ p ∷ []) × (ps ≡ p ∷ [] → carriedBy (Fix visits ps) ≡ carried.Place p)
-unfolding placesOf only
-fix-carries visits [] p = ((λ e. cc), (λ e. cc))
-fix-carries visits (q ∷ []) p = ((λ e. cc), (λ e. cc))
-fix-carries visits (q ∷ r ∷ ps) p = ((λ e. cc), (λ e. cc))
+pub fix-carries : (visits : ℕ) (ps : List Place) (p : Place) (rounded : Bool) →
+    (carriedBy (Fix visits ps rounded) ≡ carried.Place p rounded → ps ≡ p ∷ []) × (ps ≡ p ∷ [] → carriedBy (Fix visits ps rounded) ≡ carried.Place p rounded)
+unfolding placesOf saysRounded only
+fix-carries visits [] p rounded = ((λ e. cc), (λ e. cc))
+fix-carries visits (q ∷ []) p rounded = ((λ e. cc), (λ e. cc))
+fix-carries visits (q ∷ r ∷ ps) p rounded = ((λ e. cc), (λ e. cc))
 
--- A grid record and a hold hand on their place.
-pub grid-carries : (p : Place) → carriedBy (Grid p) ≡ carried.Place p
-unfolding placesOf only
-grid-carries p = refl
+-- A grid record and a hold hand on their place. Each of the three hands on its last field with it.
+pub grid-carries : (p : Place) (rounded : Bool) → carriedBy (Grid p rounded) ≡ carried.Place p rounded
+unfolding placesOf saysRounded only
+grid-carries p rounded = refl
 
-pub hold-carries : (p : Place) → carriedBy (Hold p) ≡ carried.Place p
-unfolding placesOf only
-hold-carries p = refl
+pub hold-carries : (p : Place) (rounded : Bool) → carriedBy (Hold p rounded) ≡ carried.Place p rounded
+unfolding placesOf saysRounded only
+hold-carries p rounded = refl
 
--- A hold repeats the place carried to it. If nothing is carried to it, it is refused with 11.
-pub hold-repeats : (j : Job) (table s : List ℕ) (p : Place) → logEntryOf s ≡ entry.Hold →
-    answerOf j table (carried.Place p) s ≡ Hold p
+-- A hold repeats the place carried to it, and the last field. If nothing is carried to it, it is refused with 11.
+pub hold-repeats : (j : Job) (table s : List ℕ) (p : Place) (rounded : Bool) → logEntryOf s ≡ entry.Hold →
+    answerOf j table (carried.Place p rounded) s ≡ Hold p rounded
 unfolding answerOf answerBy holdOf
-hold-repeats j table s p e = rw e
+hold-repeats j table s p rounded e = rw e
 
 pub hold-alone : (j : Job) (table s : List ℕ) → logEntryOf s ≡ entry.Hold → answerOf j table carried.Nothing s ≡ Refused 11 0
 unfolding answerOf answerBy holdOf

@@ -5,6 +5,7 @@ use mathlib.Core.List.{List, [], _∷_, _++_}
 use lib.Ieee.{ofBits}
 use Rattle.fields.specs.Fields.{valueOf}
 use Rattle.metres.specs.Metres.{centimetresOf}
+use Rattle.metres.specs.Marks.{seenFrom, markBy, markOf, isRounded}
 use Rattle.squares.specs.Root.{root}
 use Rattle.chart.specs.Places.{inRange, samePlace, distanceOf}
 use Rattle.chart.specs.Chains.{isSound}
@@ -15,10 +16,11 @@ use Rattle.search.specs.Walk.{visited, cell, visit}
 use Rattle.search.specs.Answers.{ended, searchOf, searchFigures}
 use Rattle.records.specs.Bytes.{allZero}
 use Rattle.records.specs.LogRecords.{logRecordOf, isPlace, placed, inCentimetres, logEntryOf}
+use Rattle.records.specs.Marks.{numbersUsed, isAccepted, marksOf, anyRounded}
 use Rattle.records.specs.ChainTables.{chainCountOf, chainOf}
 use Rattle.records.specs.Jobs.{formedJobOf, acceptedJob, jobOf}
-use Rattle.text.specs.Texts.{lastDigits, digitsOf, bytesIn}
-use Rattle.listing.specs.Answers.{searched, fixBy, holdOf, answerBy, answerOf, placesOf, only}
+use Rattle.text.specs.Texts.{lastDigits, digitsOf, bytesIn, flagText}
+use Rattle.listing.specs.Answers.{searched, fixBy, holdOf, answerBy, answerOf, placesOf, saysRounded, only}
 use Rattle.listing.specs.Listings.{headOf, placesText, answerText, linesFrom, listingBy, listingFrom, listingOf}
 
 -- The window from (30000, 40000) with k 1, tolerance 0, allowance 100.
@@ -62,9 +64,9 @@ line-3 =
 
 -- The whole listing.
 whole-listing : listingOf job table (line-1 ++ (line-2 ++ line-3))
-    ≡ bytesIn "1 FIX 2 5 30000 40000 30001 40001\n2 GRID 1 0 30001 40000\n3 HOLD 1 0 30001 40000\n"
+    ≡ bytesIn "1 FIX 2 5 30000 40000 30001 40001 0\n2 GRID 1 0 30001 40000 1\n3 HOLD 1 0 30001 40000 1\n"
 unfolding listingOf listingFrom listingBy linesFrom headOf placesText answerText answerOf answerBy fixBy holdOf searched
-    placesOf only bytesIn digitsOf lastDigits jobOf acceptedJob formedJobOf chainCountOf chainOf logEntryOf logRecordOf inCentimetres placed
+    placesOf saysRounded only marksOf numbersUsed isAccepted anyRounded markOf markBy seenFrom isRounded bytesIn flagText digitsOf lastDigits jobOf acceptedJob formedJobOf chainCountOf chainOf logEntryOf logRecordOf inCentimetres placed
     isPlace allZero valueOf centimetresOf ofBits searchOf searchFigures ended visit visited cell noneTooLarge isWindow
     within differ readingOf rangeOf distanceOf isSound inRange samePlace root
 whole-listing = refl

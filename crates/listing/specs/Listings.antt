@@ -14,7 +14,7 @@ use Rattle.records.specs.Bytes.{piecesIn}
 use Rattle.records.specs.LogRecords.{logBytes, rawIn}
 use Rattle.records.specs.ChainTables.{chainCountOf}
 use Rattle.records.specs.Jobs.{jobOf}
-use Rattle.text.specs.Texts.{digitsOf, spaced, bytesIn}
+use Rattle.text.specs.Texts.{digitsOf, spaced, flagText, bytesIn}
 use Rattle.listing.specs.declared.Carried.{Carried}
 use Rattle.listing.specs.declared.Carried.the-variants as carried
 use Rattle.listing.specs.declared.Listed.{Listed}
@@ -30,18 +30,19 @@ unfoldable pub placesText : List Place → List ℕ
 placesText [] = []
 placesText (p ∷ ps) = spaced (p .easting) ++ (spaced (p .northing) ++ placesText ps)
 
--- The rest of the line: the word; the count of places, or the number of the refusal; the visits; the places.
+-- The rest of the line: the word; the count of places, or the number of the refusal; the visits; the places; and, unless it is refused,
+-- 1 if a number was rounded, 0 if all were exact.
 unfoldable pub answerText : RecordAnswer → List ℕ
-answerText (Fix visits ps) = bytesIn " FIX" ++ (spaced (length ps) ++ (spaced visits ++ placesText ps))
-answerText (Grid p) = bytesIn " GRID" ++ (spaced 1 ++ (spaced 0 ++ placesText (p ∷ [])))
-answerText (Hold p) = bytesIn " HOLD" ++ (spaced 1 ++ (spaced 0 ++ placesText (p ∷ [])))
+answerText (Fix visits ps rounded) = bytesIn " FIX" ++ (spaced (length ps) ++ (spaced visits ++ (placesText ps ++ flagText rounded)))
+answerText (Grid p rounded) = bytesIn " GRID" ++ (spaced 1 ++ (spaced 0 ++ (placesText (p ∷ []) ++ flagText rounded)))
+answerText (Hold p rounded) = bytesIn " HOLD" ++ (spaced 1 ++ (spaced 0 ++ (placesText (p ∷ []) ++ flagText rounded)))
 answerText (Refused number visits) = bytesIn " REFUSED" ++ (spaced number ++ spaced visits)
 
 -- A record's line.
 abbrev pub lineOf : List ℕ → RecordAnswer → List ℕ
 lineOf s a = headOf s ++ (answerText a ++ bytesIn "\n")
 
--- Some text of a listing, and the place that is carried on from it.
+-- Some text of a listing, and what is carried on from it: the place that a hold right after it repeats.
 pub record Part : Type 0 where
   pub text : List ℕ
   pub carried : Carried

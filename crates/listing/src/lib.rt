@@ -8,13 +8,15 @@ ghost use Rattle.search.specs.Answers.{Outcome, searchFigures};
 ghost use Rattle.records.specs.declared.JobAnswer.the-variants as job;
 ghost use Rattle.records.specs.Bytes.{byteAt};
 ghost use Rattle.records.specs.LogRecords.{logBytes};
+ghost use Rattle.records.specs.Marks.{anyRounded};
 ghost use Rattle.records.specs.ChainTables.{chainCountOf};
 ghost use Rattle.text.specs.Texts.{spaced, figuresText};
 ghost use Rattle.text.specs.Puts.{Put};
 ghost use Rattle.listing.specs.Answers.{RecordAnswer, Refused, fixBy, holdOf, answerOf, searched, carriedBy, only, programRoom};
 ghost use Rattle.listing.specs.Listings.{headOf, lineOf, linesOf, noticeOf, listingBy, longestLine, listLeft};
-ghost use Rattle.listing.specs.Putting.{Gives, Begins, Tells, listEntries, wordText};
+ghost use Rattle.listing.specs.Putting.{Gives, Begins, Tells, listEntries, wordText, lastText};
 use chart::Place;
+use metres::Mark;
 use records::ChainCount;
 use records::Job;
 use records::JobAnswer;
@@ -24,9 +26,9 @@ use records::NamedChain;
 use records::RawAnswer;
 use search::SearchFigures;
 
-// The place that a record hands on to the next one, for a hold.
+// The place that a record hands on to the next one, for a hold, and whether a number of the record was rounded.
 pub enum Carried {
-    Place(Place),
+    Place { place: Place, rounded: bool },
     Nothing,
 }
 
@@ -50,6 +52,7 @@ struct Told {
     figure: u64,
     visits: u64,
     count: usize,
+    rounded: bool,
 }
 
 // Where the text of the lines so far ends, and the place carried on to the next record.
@@ -151,7 +154,7 @@ fn one(
 {
     let t = answer(list, j, table, s, before);
     let end = put_line(out, at, list, s, t);
-    let carried = carry(list, t.count);
+    let carried = carry(list, t.count, t.rounded);
     LinesSoFar { end, carried }
 }
 
@@ -160,12 +163,30 @@ fn answer(list: &mut [u32], j: Job, table: &[u8], s: &[u8], before: Carried) -> 
     requires { ⌜ length (now list) ≡ listEntries ⌝ }
     ensures { λ r. ⌜ Tells (answerOf j (now (table .entry)) before (now (s .entry))) r (now (list .exit)) ⌝ }
 {
-    match records::log_entry(s) {
-        LogEntry::Readings { a, b } => fix(list, j, records::chain_of(table, chain_byte(s)), a, b),
-        LogEntry::Place(p) => single(list, Word::Grid, p),
+    let m = records::marked_entry(s);
+    let first = m.first;
+    let second = m.second;
+    let rounded = any_rounded(first, second);
+    let entry = m.entry;
+    match entry {
+        LogEntry::Readings { a, b } => {
+            let chain = records::chain_of(table, chain_byte(s));
+            fix(list, j, chain, a, b, rounded)
+        }
+        LogEntry::Place(p) => single(list, Word::Grid, p, rounded),
         LogEntry::Hold => hold(list, before),
         LogEntry::Refused(number) => refused(number, 0),
     }
+}
+
+// Whether one of two numbers was rounded.
+fn any_rounded(first: Mark, second: Mark) -> bool
+    ensures { λ r. ⌜ r ≡ anyRounded (first ∷ second ∷ []) ⌝ }
+{
+    if metres::is_rounded(first) {
+        return true;
+    }
+    metres::is_rounded(second)
 }
 
 fn chain_byte(s: &[u8]) -> u32
@@ -177,27 +198,22 @@ fn chain_byte(s: &[u8]) -> u32
     s[1] as u32
 }
 
-fn fix(list: &mut [u32], j: Job, chain: NamedChain, a: i64, b: i64) -> Told
+fn fix(list: &mut [u32], j: Job, chain: NamedChain, a: i64, b: i64, rounded: bool) -> Told
     requires { ⌜ length (now list) ≡ listEntries ⌝ }
-    ensures { λ r. ⌜ Tells (fixBy j (a ∷ b ∷ []) chain) r (now (list .exit)) ⌝ }
+    ensures { λ r. ⌜ Tells (fixBy j (a ∷ b ∷ []) rounded chain) r (now (list .exit)) ⌝ }
 {
     match chain {
-        NamedChain::Chain(c) => found(search::as_figures(search::search(
-            list,
-            c,
-            a,
-            b,
-            j.window,
-            j.tolerance,
-            j.allowance,
-        ))),
+        NamedChain::Chain(c) => {
+            let answer = search::search(list, c, a, b, j.window, j.tolerance, j.allowance);
+            found(search::as_figures(answer), rounded)
+        }
         NamedChain::Refused(number) => refused(number, 0),
     }
 }
 
 // What a record answers, from the figures of its search, whose places are in a list.
-fn found(f: SearchFigures) -> Told
-    ensures { λ r. ⌜ ((o : Outcome) (list : List ℕ) → f ≡ searchFigures (o .answer) → Begins (o .places) (f .count) list → Tells (searched o) r list) ⌝ }
+fn found(f: SearchFigures, rounded: bool) -> Told
+    ensures { λ r. ⌜ ((o : Outcome) (list : List ℕ) → f ≡ searchFigures (o .answer) → Begins (o .places) (f .count) list → Tells (searched rounded o) r list) ⌝ }
 {
     if f.refusal != 0 {
         return refused(f.refusal, f.visits);
@@ -207,23 +223,24 @@ fn found(f: SearchFigures) -> Told
         figure: f.count as u64,
         visits: f.visits,
         count: f.count,
+        rounded,
     }
 }
 
-// A hold repeats the place carried to it.
+// A hold repeats the place carried to it, and how its line ends.
 fn hold(list: &mut [u32], before: Carried) -> Told
     requires { ⌜ length (now list) ≡ listEntries ⌝ }
     ensures { λ r. ⌜ Tells (holdOf before) r (now (list .exit)) ⌝ }
 {
     match before {
-        Carried::Place(p) => single(list, Word::Hold, p),
+        Carried::Place { place, rounded } => single(list, Word::Hold, place, rounded),
         Carried::Nothing => refused(11, 0),
     }
 }
 
-fn single(list: &mut [u32], word: Word, p: Place) -> Told
+fn single(list: &mut [u32], word: Word, p: Place, rounded: bool) -> Told
     requires { ⌜ length (now list) ≡ listEntries ⌝ }
-    ensures told { λ r. ⌜ r ≡ record { word = word; figure = 1; visits = 0; count = 1 } ⌝ }
+    ensures told { λ r. ⌜ r ≡ record { word = word; figure = 1; visits = 0; count = 1; rounded = rounded } ⌝ }
     ensures list { λ _. ⌜ take 2 (now (list .exit)) ≡ p .easting ∷ p .northing ∷ [] ⌝ }
 {
     list[0] = p.easting;
@@ -233,6 +250,7 @@ fn single(list: &mut [u32], word: Word, p: Place) -> Told
         figure: 1,
         visits: 0,
         count: 1,
+        rounded,
     }
 }
 
@@ -244,21 +262,23 @@ fn refused(number: u32, visits: u64) -> Told
         figure: number as u64,
         visits,
         count: 0,
+        rounded: false,
     }
 }
 
 // The place carried on: the only place of the answer, or nothing if it has none or several.
-fn carry(list: &[u32], count: usize) -> Carried
+fn carry(list: &[u32], count: usize, rounded: bool) -> Carried
     requires { ⌜ length (now list) ≡ listEntries ⌝ }
-    ensures { λ r. ⌜ ((ps : List Place) → Begins ps count (now (list .entry)) → r ≡ only ps) ⌝ }
+    ensures { λ r. ⌜ ((ps : List Place) → Begins ps count (now (list .entry)) → r ≡ only rounded ps) ⌝ }
 {
     if count != 1 {
         return Carried::Nothing;
     }
-    Carried::Place(Place {
+    let place = Place {
         easting: list[0],
         northing: list[1],
-    })
+    };
+    Carried::Place { place, rounded }
 }
 
 fn put_line(out: &mut [u8], at: usize, list: &[u32], s: &[u8], t: Told) -> usize
@@ -272,7 +292,8 @@ fn put_line(out: &mut [u8], at: usize, list: &[u32], s: &[u8], t: Told) -> usize
     let c = put_figure(out, b, t.figure);
     let d = put_figure(out, c, t.visits);
     let e = put_entries(out, d, list, 2 * t.count);
-    text::put(out, e, b"\n")
+    let f = put_last(out, e, w, t.rounded);
+    text::put(out, f, b"\n")
 }
 
 // Puts the line number, or a dash if the record does not have 32 bytes.
@@ -298,6 +319,18 @@ fn put_word(out: &mut [u8], at: usize, w: Word) -> usize
         Word::Hold => text::put(out, at, b" HOLD"),
         Word::Refused => text::put(out, at, b" REFUSED"),
     }
+}
+
+// Puts whether a number was rounded, unless the record is refused.
+fn put_last(out: &mut [u8], at: usize, w: Word, rounded: bool) -> usize
+    requires { ⌜ at + 2 ≤ length (now out) ⌝ }
+    ensures text { λ r. ⌜ Put (now (out .entry)) at (lastText w rounded) (now (out .exit)) r ⌝ }
+    ensures end { λ r. ⌜ r ≤ at + 2 ⌝ }
+{
+    if let Word::Refused = w {
+        return at;
+    }
+    text::put_flag(out, at, rounded)
 }
 
 // Puts the first `count` entries of a list.

@@ -11,15 +11,15 @@ use denote.Enum.Declared.{tagOf}
 use types.Run.{OneOf}
 use Rattle.metres.specs.declared.Mark.{Mark}
 use Rattle.metres.specs.declared.Mark.the-variants.{Equal}
-use Rattle.metres.specs.Marks.{markOf, markedOf}
+use Rattle.metres.specs.Marks.{markOf, markedOf, isRounded}
 use Rattle.records.specs.declared.LogRecord.{LogRecord}
 use Rattle.records.specs.declared.LogRecord.the-variants as log
 use Rattle.records.specs.declared.LogEntry.{LogEntry}
 use Rattle.records.proofs.LogEntry.{the-type}
 use Rattle.records.specs.declared.LogEntry.the-variants as entry
 use Rattle.records.specs.declared.MarkedEntry.{MarkedEntry}
-use Rattle.records.specs.LogRecords.{placed, pairOf, withPair, inCentimetres}
-use Rattle.records.specs.Marks.{numbersUsed, isAccepted, marksOf, anyRounded, withMarksOf}
+use Rattle.records.specs.LogRecords.{logRecordOf, placed, pairOf, withPair, inCentimetres, logEntryOf}
+use Rattle.records.specs.Marks.{numbersUsed, isAccepted, marksOf, anyRounded, isRoundedIn, withMarksOf, markedEntryOf}
 use Rattle.records.specs.Gathered.{markedAs}
 
 -- An entry of any other kind than `Refused` is accepted.
@@ -61,3 +61,25 @@ hold-marked = refl
 pub refused-marked : (number : ℕ) → markedAs (entry.Refused number) Equal Equal ≡ withMarksOf (log.Refused number)
 unfolding markedAs withMarksOf marksOf inCentimetres numbersUsed isAccepted
 refused-marked number = refl
+
+-- Of the two marks of a record one is that of a rounded number exactly if one of its numbers was rounded.
+two-rounded : (t : Bool) (x y : Mark) → let marks = cond t (x ∷ y ∷ []) [] in anyRounded (getD marks 0 Equal ∷ getD marks 1 Equal ∷ []) ≡ anyRounded marks
+unfolding anyRounded isRounded
+two-rounded true x y = refl
+two-rounded false x y = refl
+
+any-of : (r : LogRecord) → anyRounded (withMarksOf r .first ∷ withMarksOf r .second ∷ []) ≡ anyRounded (marksOf r)
+unfolding withMarksOf marksOf numbersUsed inCentimetres isAccepted anyRounded isRounded
+any-of (log.Hyperbolic a b) = two-rounded (isAccepted (inCentimetres (log.Hyperbolic a b))) (markOf a) (markOf b)
+any-of (log.Grid e n) = two-rounded (isAccepted (inCentimetres (log.Grid e n))) (markOf e) (markOf n)
+any-of log.Hold = refl
+any-of (log.Refused number) = refl
+
+module _ (s : List ℕ) (m : MarkedEntry) (read : m ≡ markedEntryOf s) where
+  pub rounded-read : anyRounded (m .first ∷ m .second ∷ []) ≡ isRoundedIn s
+  unfolding markedEntryOf
+  rounded-read = ap (λ (x : MarkedEntry). anyRounded (x .first ∷ x .second ∷ [])) read ∙ any-of (logRecordOf s)
+
+  pub entry-read : logEntryOf s ≡ m .entry
+  unfolding markedEntryOf withMarksOf logEntryOf
+  entry-read = sym (ap (λ (x : MarkedEntry). x .entry) read)

@@ -8,7 +8,7 @@ use native.Mathlib.Numerals.{add-one}
 use borrow.Author.Tests.{le-leb, lt-leb, leb-true, leb-false}
 use lib.ListN.{length, getD, take, drop, set, take-append-drop, length-append, length-drop}
 use lib.Seq.{length-take-le, take-at, drop-append-add, drop-drop, set-split, take-suc}
-use Rattle.text.specs.Texts.{digitsOf}
+use Rattle.text.specs.Texts.{digitsOf, flagText, bytesIn}
 use Rattle.text.specs.Puts.{roomFor, endAfter, withText, Put}
 use Rattle.text.proofs.Digits.{digits-32}
 
@@ -68,6 +68,12 @@ end-within p h = omega (arith, p .end-is, h)
 -- Room for ten bytes is room for a number of 32 bits.
 pub room-32 : (at room : ℕ) {n : ℕ} → n < 2 ^ 32 → at + 10 ≤ room → at + length (digitsOf n) ≤ room
 room-32 at room {n} small h = omega (arith, digits-32 n small, h)
+
+-- What `put_flag` puts has two bytes.
+pub flag-length : (so : Bool) → length (flagText so) ≡ 2
+unfolding flagText bytesIn
+flag-length true = refl
+flag-length false = refl
 
 -- Putting no text.
 pub put-none : (o : List ℕ) (at : ℕ) → at ≤ length o → Put o at [] o at

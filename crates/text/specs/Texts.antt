@@ -1,6 +1,6 @@
 -- Text as bytes in ASCII: numbers in decimal, bytes in hexadecimal, and quoted words (01, The program; docs/FORMATS.md, Text).
 use Prim.Native.Nat.{ℕ, zero, suc, _+_, _-_, _*_, _/_, _%_}
-use mathlib.Core.Bool.{cond}
+use mathlib.Core.Bool.{Bool, true, false, cond}
 use mathlib.Core.List.{List, [], _∷_, _++_}
 use lib.Dec.{leb, ltb}
 use lib.IntN.{ℤ, pos, negsuc}
@@ -52,3 +52,8 @@ hexOf (b ∷ bs) = hexDigit (b / 16) ∷ hexDigit (b % 16) ∷ hexOf bs
 unfoldable pub bytesIn : String → List ℕ
 bytesIn ε = []
 bytesIn (c ∷ˢ s) = code c ∷ bytesIn s
+
+-- A space, then 1 if something is so, 0 if not.
+unfoldable pub flagText : Bool → List ℕ
+flagText true = bytesIn " 1"
+flagText false = bytesIn " 0"

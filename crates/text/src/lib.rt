@@ -4,7 +4,7 @@ ghost use mathlib.Core.Path.{_≡_};
 ghost use mathlib.Core.List.{_∷_, []};
 ghost use Prim.Native.Nat.{_+_, _*_, _≤_, _<_};
 ghost use lib.ListN.{length};
-ghost use Rattle.text.specs.Texts.{digitsOf, wholeText, hexDigit, hexOf};
+ghost use Rattle.text.specs.Texts.{digitsOf, flagText, wholeText, hexDigit, hexOf};
 ghost use Rattle.text.specs.Puts.{endAfter, withText, Put};
 
 // Puts some bytes, as they are.
@@ -38,6 +38,17 @@ pub fn put_whole(out: &mut [u8], at: usize, z: i64) -> usize
         return put_below(out, at, metres::size(z));
     }
     put_number(out, at, metres::size(z))
+}
+
+// Puts a space, then 1 if something is so, 0 if not.
+pub fn put_flag(out: &mut [u8], at: usize, so: bool) -> usize
+    ensures end { λ r. ⌜ r ≡ endAfter (length (now (out .entry))) at (flagText so) ⌝ }
+    ensures out { λ _. ⌜ now (out .exit) ≡ withText (now (out .entry)) at (flagText so) ⌝ }
+{
+    if so {
+        return put(out, at, b" 1");
+    }
+    put(out, at, b" 0")
 }
 
 // Puts bytes in hexadecimal, two digits each.

@@ -34,11 +34,11 @@ returns c =
     let asked = c .before .before .before .before in
     let start = asked .before .before .before .before .before .before in
     let a = start .args in
-    fix-tells (a .j) (a .chain) _ (a .a) (a .b) _ _ _ (asked .before .before .before .chain .given .1) (toZ-ofZ w64 (a .a) (start .fits .a)) (toZ-ofZ w64 (a .b) (start .fits .b)) (start .pre) _ _ _ _ (c .before .as-figures .ensures) (asked .search .ensures .0) (asked .search .ensures .1) (asked .search .kept .0 ∙ start .pre) (c .found .ensures)
+    fix-tells (a .j) (a .rounded) (a .chain) _ (a .a) (a .b) _ _ _ (asked .before .before .before .chain .given .1) (toZ-ofZ w64 (a .a) (start .fits .a)) (toZ-ofZ w64 (a .b) (start .fits .b)) (start .pre) _ _ _ _ (c .before .as-figures .ensures) (asked .search .ensures .0) (asked .search .ensures .1) (asked .search .kept .0 ∙ start .pre) (c .found .ensures)
 
 returns-2 : tie.Need-returns-2
 unfolding fixBy
-returns-2 c = tells-as (sym (ap (fixBy _ _) (c .before .before .chain2 .given .1))) (c .refused .ensures _)
+returns-2 c = tells-as (sym (ap (fixBy _ _ _) (c .before .before .chain2 .given .1))) (c .refused .ensures _)
 
 pub fix-spec : {M : Type 1} → statement M
 fix-spec =

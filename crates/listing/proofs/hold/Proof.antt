@@ -26,7 +26,7 @@ unfolding holdOf
 returns c =
     let told = c .before .before .single in
     tells-as (sym (ap holdOf (c .before .before .before .before .before .before2 .given .1)))
-    (told-as (told .ensures .0) (hold-tells _ (told .last .0) (told .ensures .1)))
+    (told-as (told .ensures .0) (hold-tells _ _ (told .last .0) (told .ensures .1)))
 
 returns-2 : tie.Need-returns-2
 unfolding holdOf

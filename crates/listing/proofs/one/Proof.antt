@@ -1,6 +1,8 @@
 -- `listing::one` meets its contract: the answer, its line, and the place that it carries.
+use mathlib.Core.Path.{ap, _∙_}
+use mathlib.Core.Bool.{Bool}
 use borrow.Author.Needs.{needs}
-use Rattle.listing.specs.Answers.{answerOf, placesOf}
+use Rattle.listing.specs.Answers.{answerOf, placesOf, only}
 use Rattle.listing.proofs.one.Statement.{statement}
 use Rattle.listing.proofs.one.Tie as tie
 
@@ -26,7 +28,7 @@ returns c =
     let a = told .before .before .before .before .before .before .args in
     let answer = answerOf (a .j) (a .table .now) (a .before) (a .s .now) in
     let tells = told .answer .ensures in
-    (put .put-line .ensures .0 answer tells, (put .put-line .ensures .1, c .carry .ensures (placesOf answer) (tells .places)))
+    (put .put-line .ensures .0 answer tells, (put .put-line .ensures .1, c .carry .ensures (placesOf answer) (tells .places) ∙ ap (λ (t : Bool). only t (placesOf answer)) (tells .rounded)))
 
 pub one-spec : {M : Type 1} → statement M
 one-spec =

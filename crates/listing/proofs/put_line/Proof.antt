@@ -1,4 +1,4 @@
--- `listing::put_line` meets its contract: its six pieces, one after the other.
+-- `listing::put_line` meets its contract: its seven pieces, one after the other.
 use native.Mathlib.Omega.{arith}
 use borrow.Author.Needs.{needs}
 use Rattle.text.specs.Texts.{bytesIn}
@@ -56,6 +56,19 @@ put-entries-requires c κs =
       omega (arith, start .pre .1, start .pre .2, head .put-head .ensures .1, word .put-word .ensures .1, figure .put-figure .ensures .1, visits .put-figure2 .ensures .1, head .put-head .kept .0, word .put-word .kept .0, figure .put-figure .kept .0, visits .put-figure2 .kept .0),
     )
 
+abbrev entries-of : tie.After-put-last → tie.After-put-entries
+entries-of c = c .before .before .before .before
+
+put-last-requires : tie.Need-put-last-requires
+put-last-requires c κs =
+    let entries = c .before .before .before in
+    let visits = visits-of entries in
+    let figure = figure-of visits in
+    let word = word-of figure in
+    let head = head-of word in
+    let start = started head in
+    omega (arith, start .pre .1, start .pre .2, head .put-head .ensures .1, word .put-word .ensures .1, figure .put-figure .ensures .1, visits .put-figure2 .ensures .1, entries .put-entries .ensures .1, head .put-head .kept .0, word .put-word .kept .0, figure .put-figure .kept .0, visits .put-figure2 .kept .0, entries .put-entries .kept .0)
+
 slice-aggregate-put : tie.Need-slice-aggregate-put
 slice-aggregate-put c = search needs
 
@@ -69,21 +82,22 @@ returns : tie.Need-returns
 unfolding bytesIn
 returns c =
     let end = c .before .before in
-    let entries = end .before .before .before .before .before in
+    let last = end .before .before .before .before .before in
+    let entries = entries-of last in
     let visits = visits-of entries in
     let figure = figure-of visits in
     let word = word-of figure in
     let head = head-of word in
     let start = started head in
     let newline =
-    put-from (end .put .ensures) (omega (arith, start .pre .1, start .pre .2, head .put-head .ensures .1, word .put-word .ensures .1, figure .put-figure .ensures .1, visits .put-figure2 .ensures .1, entries .put-entries .ensures .1, head .put-head .kept .0, word .put-word .kept .0, figure .put-figure .kept .0, visits .put-figure2 .kept .0, entries .put-entries .kept .0)) in (
+    put-from (end .put .ensures) (omega (arith, start .pre .1, start .pre .2, head .put-head .ensures .1, word .put-word .ensures .1, figure .put-figure .ensures .1, visits .put-figure2 .ensures .1, entries .put-entries .ensures .1, last .put-last .ensures .1, head .put-head .kept .0, word .put-word .kept .0, figure .put-figure .kept .0, visits .put-figure2 .kept .0, entries .put-entries .kept .0, last .put-last .kept .0)) in (
       λ a told.
           put-as (line-text (start .args .s .now) a (start .args .t) (start .args .list .now) told)
           (put-then (head .put-head .ensures .0)
           (put-then (word .put-word .ensures .0)
           (put-then (figure .put-figure .ensures .0)
-          (put-then (visits .put-figure2 .ensures .0) (put-then (entries .put-entries .ensures .0) newline))))),
-      omega (arith, start .pre .1, newline .end-is, head .put-head .ensures .1, word .put-word .ensures .1, figure .put-figure .ensures .1, visits .put-figure2 .ensures .1, entries .put-entries .ensures .1),
+          (put-then (visits .put-figure2 .ensures .0) (put-then (entries .put-entries .ensures .0) (put-then (last .put-last .ensures .0) newline)))))),
+      omega (arith, start .pre .1, newline .end-is, head .put-head .ensures .1, word .put-word .ensures .1, figure .put-figure .ensures .1, visits .put-figure2 .ensures .1, entries .put-entries .ensures .1, last .put-last .ensures .1),
     )
 
 pub put-line-spec : {M : Type 1} → statement M
@@ -96,6 +110,7 @@ put-line-spec =
     put-figure-requires-2
     mul-put-entries
     put-entries-requires
+    put-last-requires
     slice-aggregate-put
     put-requires
     same-length
