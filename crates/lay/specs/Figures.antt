@@ -2,11 +2,13 @@
 -- numbers, which are 0 after a refusal (01, Numbers of refusal). The figures of metres, expected readings and searches are defined
 -- in their own crates.
 use Prim.Native.Nat.{ℕ, _/_, _%_, _^_}
-use mathlib.Core.Bool.{cond}
+use mathlib.Core.Bool.{cond, not}
 use mathlib.Core.List.{List, [], _∷_, _++_}
 use lib.Dec.{eqb}
 use lib.IntN.{ℤ, pos}
 use lib.ListN.{length, getD, replicate}
+use Rattle.metres.specs.declared.Mark.{Mark}
+use Rattle.metres.specs.declared.Mark.the-variants.{Equal, Below, Above}
 use Rattle.chart.specs.declared.Place.{Place}
 use Rattle.chart.specs.declared.Chain.{Chain}
 use Rattle.chart.specs.declared.Figures.{Figures}
@@ -27,7 +29,9 @@ use Rattle.records.specs.declared.NamedChain.{NamedChain}
 use Rattle.records.specs.declared.NamedChain.the-variants as named
 use Rattle.records.specs.declared.JobAnswer.{JobAnswer}
 use Rattle.records.specs.declared.JobAnswer.the-variants as job
-use Rattle.records.specs.LogRecords.{rawRecordOf, logEntryOf}
+use Rattle.records.specs.declared.MarkedEntry.{MarkedEntry}
+use Rattle.records.specs.LogRecords.{rawRecordOf}
+use Rattle.records.specs.Marks.{markedEntryOf}
 use Rattle.records.specs.Bytes.{unless}
 use Rattle.records.specs.ChainTables.{chainCountOf, rawChainOf, chainOf}
 use Rattle.records.specs.Jobs.{formedJobOf, jobOf}
@@ -38,6 +42,7 @@ use Rattle.listing.specs.declared.Carried.the-variants as carried
 use Rattle.listing.specs.declared.Listed.{Listed}
 use Rattle.listing.specs.declared.Listed.the-variants as listed
 use Rattle.listing.specs.Listings.{listLeft}
+use Rattle.lay.specs.declared.EntryFigures.{EntryFigures}
 use Rattle.lay.specs.declared.RecordFigures.{RecordFigures}
 use Rattle.lay.specs.declared.CountFigures.{CountFigures}
 use Rattle.lay.specs.declared.JobFigures.{JobFigures}
@@ -46,7 +51,13 @@ use Rattle.lay.specs.declared.ListedFigures.{ListedFigures}
 
 -- The version of what lay.h declares. It changes whenever callers must be compiled anew.
 abbrev pub version : ℕ
-version = 1
+version = 2
+
+-- The number of a mark. 0 says that nothing was lost.
+unfoldable pub markFigure : Mark → ℕ
+markFigure Equal = 0
+markFigure Below = 1
+markFigure Above = 2
 
 -- A window, a job and a draft, made from their numbers.
 abbrev pub windowBy : ℕ → ℕ → ℕ → Window
@@ -155,20 +166,25 @@ abbrev pub foundIn : SearchFigures → List ℕ
 foundIn f = f .count ∷ f .visits ∷ []
 
 -- A log record in centimetres, with its line number. Only a hyperbolic record has a chain number.
-unfoldable pub entryFigures : ℕ → ℕ → LogEntry → RecordFigures
+unfoldable pub entryFigures : ℕ → ℕ → LogEntry → EntryFigures
 entryFigures line chain (entry.Readings a b) = record { refusal = 0; kind = 1; chain = chain; line = line; x = a; y = b }
 entryFigures line chain (entry.Place p) = record { refusal = 0; kind = 2; chain = 0; line = line; x = pos (p .easting); y = pos (p .northing) }
 entryFigures line chain entry.Hold = record { refusal = 0; kind = 3; chain = 0; line = line; x = pos 0; y = pos 0 }
 entryFigures line chain (entry.Refused number) = record { refusal = number; kind = 0; chain = 0; line = line; x = pos 0; y = pos 0 }
 
+-- The same with the marks of x and y.
+unfoldable pub markedFigures : ℕ → ℕ → MarkedEntry → RecordFigures
+markedFigures line chain m =
+    record { entry = entryFigures line chain (m .entry); xmark = markFigure (m .first); ymark = markFigure (m .second) }
+
 -- The line number is given whenever there are 32 bytes, even if they are refused, since any is allowed.
-unfoldable pub recordBy : RawAnswer → LogEntry → RecordFigures
-recordBy (raw.Record r) e = entryFigures (r .line) (r .chain) e
-recordBy (raw.Refused number) e = entryFigures 0 0 (entry.Refused number)
+unfoldable pub recordBy : RawAnswer → MarkedEntry → RecordFigures
+recordBy (raw.Record r) m = markedFigures (r .line) (r .chain) m
+recordBy (raw.Refused number) m = record { entry = entryFigures 0 0 (entry.Refused number); xmark = 0; ymark = 0 }
 
 -- A log record from its bytes.
 abbrev pub recordFigures : List ℕ → RecordFigures
-recordFigures s = recordBy (rawRecordOf s) (logEntryOf s)
+recordFigures s = recordBy (rawRecordOf s) (markedEntryOf s)
 
 -- How many chains a table has.
 unfoldable pub countFigures : ChainCount → CountFigures
@@ -186,14 +202,14 @@ jobAnswered (job.Refused number) = record { refusal = number; job = jobBy 0 0 0 
 abbrev pub jobTold : List ℕ → JobFigures
 jobTold s = jobAnswered (jobOf s)
 
--- The place carried to a record: none if `held` is 0.
-unfoldable pub carriedIn : ℕ → ℕ → ℕ → Carried
-carriedIn held e n = cond (eqb held 0) carried.Nothing (carried.Place (placeOf e n))
+-- The place carried to a record: none if `held` is 0. A number of its record was rounded, unless `rounded` is 0.
+unfoldable pub carriedIn : ℕ → ℕ → ℕ → ℕ → Carried
+carriedIn held e n rounded = cond (eqb held 0) carried.Nothing (carried.Place (placeOf e n) (not (eqb rounded 0)))
 
 -- A carried place as figures.
 unfoldable pub heldFigures : Carried → HeldFigures
-heldFigures (carried.Place p) = record { held = 1; place = p }
-heldFigures carried.Nothing = record { held = 0; place = placeOf 0 0 }
+heldFigures (carried.Place p rounded) = record { held = 1; place = p; rounded = cond rounded 1 0 }
+heldFigures carried.Nothing = record { held = 0; place = placeOf 0 0; rounded = 0 }
 
 -- The figures of a listing in a buffer.
 unfoldable pub listedFigures : Listed → ListedFigures
@@ -204,13 +220,15 @@ listedFigures (listed.Refused number) = record { refusal = number; length = 0; c
 abbrev pub halves : ℕ → List ℕ
 halves n = n % 2 ^ 32 ∷ n / 2 ^ 32 ∷ []
 
--- A part of a listing in five numbers: the halves of its length, then the place carried on from it.
+-- A part of a listing in six numbers: the halves of its length, then the place carried on from it.
 abbrev pub partOf : ListedFigures → List ℕ
-partOf f = halves (f .length) ++ (f .carried .held ∷ f .carried .place .easting ∷ f .carried .place .northing ∷ [])
+partOf f =
+    halves (f .length)
+    ++ (f .carried .held ∷ f .carried .place .easting ∷ f .carried .place .northing ∷ f .carried .rounded ∷ [])
 
--- The place carried to a part, from the same five numbers.
+-- The place carried to a part, from the same six numbers.
 abbrev pub carriedTo : List ℕ → Carried
-carriedTo part = carriedIn (getD part 2 0) (getD part 3 0) (getD part 4 0)
+carriedTo part = carriedIn (getD part 2 0) (getD part 3 0) (getD part 4 0) (getD part 5 0)
 
 -- All that the listing of a log, or of a further part of one, returns: its figures, and every byte of its buffer.
 pub record ListTold : Type 0 where

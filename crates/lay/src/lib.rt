@@ -1,6 +1,7 @@
 // The library for C and Rust: the functions that lay.h declares. Each but lay_version takes numbers and slices, sets the results
 // that are lent to it, and returns the number of the refusal, 0 for none. A struct of lay.h is an array here: its fields lie in
 // memory as the array's elements do.
+ghost use mathlib.Core.Bool.{cond};
 ghost use mathlib.Core.List.{[], _∷_};
 ghost use mathlib.Core.Path.{_≡_};
 ghost use lib.IntN.{pos};
@@ -8,18 +9,21 @@ ghost use lib.ListN.{length, getD, replicate};
 ghost use Prim.Native.Nat.{_+_, _<_};
 ghost use Rattle.chart.specs.Places.{placeOf};
 ghost use Rattle.metres.specs.Metres.{centimetresOf, metresOf, wholeFigures, lengthFigures};
+ghost use Rattle.metres.specs.Marks.{markOf};
 ghost use Rattle.records.specs.declared.NamedChain.the-variants as named;
 ghost use Rattle.writing.specs.Writing.{refusalOf, bufferOf};
 ghost use Rattle.writing.specs.JobWriting.{jobRefusalOf, jobBufferOf};
-ghost use Rattle.lay.specs.Figures.{version, jobBy, draftBy, chainBy, chainLent, chainTold, chainWritten, stationsLent, stationsTold, expectedLent, expectedTold, unsearched, searchedBy, searchedIn, searchTold, foundIn, entryFigures, recordFigures, countFigures, countTold, jobAnswered, jobTold, carriedIn, heldFigures, listedFigures, partOf, listTold};
+ghost use Rattle.lay.specs.Figures.{version, markFigure, jobBy, draftBy, chainBy, chainLent, chainTold, chainWritten, stationsLent, stationsTold, expectedLent, expectedTold, unsearched, searchedBy, searchedIn, searchTold, foundIn, entryFigures, markedFigures, recordFigures, countFigures, countTold, jobAnswered, jobTold, carriedIn, heldFigures, listedFigures, partOf, listTold};
 use chart::Chain;
 use chart::Place;
 use listing::Carried;
 use listing::Listed;
+use metres::Mark;
 use records::ChainCount;
 use records::Job;
 use records::JobAnswer;
 use records::LogEntry;
+use records::MarkedEntry;
 use records::NamedChain;
 use records::RawAnswer;
 use search::SearchFigures;
@@ -27,13 +31,20 @@ use search::Window;
 use writing::Draft;
 
 // A log record in centimetres.
-struct RecordFigures {
+struct EntryFigures {
     refusal: u32,
     kind: u32,
     chain: u32,
     line: u32,
     x: i64,
     y: i64,
+}
+
+// The same with the marks of x and y.
+struct RecordFigures {
+    entry: EntryFigures,
+    xmark: u32,
+    ymark: u32,
 }
 
 struct CountFigures {
@@ -50,6 +61,7 @@ struct JobFigures {
 struct HeldFigures {
     held: u32,
     place: Place,
+    rounded: u32,
 }
 
 struct ListedFigures {
@@ -59,7 +71,7 @@ struct ListedFigures {
 }
 
 // The version of what lay.h declares.
-const VERSION: u32 = 1;
+const VERSION: u32 = 2;
 
 // How many numbers the stations of a chain have, and how many readings a chain has.
 const CHAIN_NUMBERS: usize = 6;
@@ -77,15 +89,20 @@ pub extern "C" fn lay_version() -> u32
     VERSION
 }
 
-// Metres to whole centimetres.
+// Metres to whole centimetres, and how they were rounded.
 #[no_mangle]
-pub extern "C" fn lay_centimetres(metres: f64, centimetres: &mut i64) -> u32
+pub extern "C" fn lay_centimetres(metres: f64, centimetres: &mut i64, mark: &mut u32) -> u32
     ensures answer { λ r. ⌜ r ≡ wholeFigures (centimetresOf metres) .refusal ⌝ }
     ensures centimetres { λ _. ⌜ now (centimetres .exit) ≡ wholeFigures (centimetresOf metres) .centimetres ⌝ }
+    ensures mark { λ _. ⌜ now (mark .exit) ≡ markFigure (markOf metres) ⌝ }
 {
-    let f = metres::whole_figures(metres::centimetres(metres));
-    let whole = f.centimetres;
-    *centimetres = whole;
+    let m = metres::marked(metres);
+    let whole = m.whole;
+    let rounded = m.mark;
+    let f = metres::whole_figures(whole);
+    let z = f.centimetres;
+    *centimetres = z;
+    *mark = mark_figure(rounded);
     f.refusal
 }
 
@@ -145,15 +162,22 @@ pub extern "C" fn lay_read_record(
     line: &mut u32,
     x: &mut i64,
     y: &mut i64,
+    xmark: &mut u32,
+    ymark: &mut u32,
 ) -> u32
-    ensures answer { λ r. ⌜ r ≡ recordFigures (now (bytes .entry)) .refusal ⌝ }
-    ensures kind { λ _. ⌜ now (kind .exit) ≡ recordFigures (now (bytes .entry)) .kind ⌝ }
-    ensures chain { λ _. ⌜ now (chain .exit) ≡ recordFigures (now (bytes .entry)) .chain ⌝ }
-    ensures line { λ _. ⌜ now (line .exit) ≡ recordFigures (now (bytes .entry)) .line ⌝ }
-    ensures x { λ _. ⌜ now (x .exit) ≡ recordFigures (now (bytes .entry)) .x ⌝ }
-    ensures y { λ _. ⌜ now (y .exit) ≡ recordFigures (now (bytes .entry)) .y ⌝ }
+    ensures answer { λ r. ⌜ r ≡ recordFigures (now (bytes .entry)) .entry .refusal ⌝ }
+    ensures kind { λ _. ⌜ now (kind .exit) ≡ recordFigures (now (bytes .entry)) .entry .kind ⌝ }
+    ensures chain { λ _. ⌜ now (chain .exit) ≡ recordFigures (now (bytes .entry)) .entry .chain ⌝ }
+    ensures line { λ _. ⌜ now (line .exit) ≡ recordFigures (now (bytes .entry)) .entry .line ⌝ }
+    ensures x { λ _. ⌜ now (x .exit) ≡ recordFigures (now (bytes .entry)) .entry .x ⌝ }
+    ensures y { λ _. ⌜ now (y .exit) ≡ recordFigures (now (bytes .entry)) .entry .y ⌝ }
+    ensures xmark { λ _. ⌜ now (xmark .exit) ≡ recordFigures (now (bytes .entry)) .xmark ⌝ }
+    ensures ymark { λ _. ⌜ now (ymark .exit) ≡ recordFigures (now (bytes .entry)) .ymark ⌝ }
 {
-    let f = record_figures(bytes);
+    let r = record_figures(bytes);
+    *xmark = r.xmark;
+    *ymark = r.ymark;
+    let f = r.entry;
     *kind = f.kind;
     *chain = f.chain;
     *line = f.line;
@@ -290,7 +314,7 @@ pub extern "C" fn lay_list(
     job: &[u8],
     table: &[u8],
     log: &[u8],
-    part: &mut [u32; 5],
+    part: &mut [u32; 6],
 ) -> u32
     ensures answer { λ r. ⌜ r ≡ listTold (now (text .entry)) (now (job .entry)) (now (table .entry)) (now (log .entry)) (now (part .entry)) .figures .refusal ⌝ }
     ensures text { λ _. ⌜ now (text .exit) ≡ listTold (now (text .entry)) (now (job .entry)) (now (table .entry)) (now (log .entry)) (now (part .entry)) .text ⌝ }
@@ -300,12 +324,19 @@ pub extern "C" fn lay_list(
         easting: part[3],
         northing: part[4],
     };
-    let before = carried_in(part[2], place);
+    let before = carried_in(part[2], place, part[5]);
     let f = listed_figures(listing::list(text, job, table, log, before));
     let low = (f.length % HALF) as u32;
     let high = (f.length / HALF) as u32;
     let to = f.carried;
-    *part = [low, high, to.held, to.place.easting, to.place.northing];
+    *part = [
+        low,
+        high,
+        to.held,
+        to.place.easting,
+        to.place.northing,
+        to.rounded,
+    ];
     f.refusal
 }
 
@@ -477,16 +508,43 @@ fn record_figures(bytes: &[u8]) -> RecordFigures
     ensures { λ r. ⌜ r ≡ recordFigures (now (bytes .entry)) ⌝ }
 {
     match records::raw_record(bytes) {
-        RawAnswer::Record(raw) => entry_figures(
+        RawAnswer::Record(raw) => marked_figures(
             raw.line,
             raw.chain as u32,
-            records::log_entry(bytes),
+            records::marked_entry(bytes),
         ),
-        RawAnswer::Refused(number) => entry_figures(0, 0, LogEntry::Refused(number)),
+        RawAnswer::Refused(number) => RecordFigures {
+            entry: entry_figures(0, 0, LogEntry::Refused(number)),
+            xmark: 0,
+            ymark: 0,
+        },
     }
 }
 
-fn entry_figures(line: u32, chain: u32, e: LogEntry) -> RecordFigures
+fn marked_figures(line: u32, chain: u32, m: MarkedEntry) -> RecordFigures
+    ensures { λ r. ⌜ r ≡ markedFigures line chain m ⌝ }
+{
+    let e = m.entry;
+    let first = m.first;
+    let second = m.second;
+    RecordFigures {
+        entry: entry_figures(line, chain, e),
+        xmark: mark_figure(first),
+        ymark: mark_figure(second),
+    }
+}
+
+fn mark_figure(mark: Mark) -> u32
+    ensures { λ r. ⌜ r ≡ markFigure mark ⌝ }
+{
+    match mark {
+        Mark::Equal => 0,
+        Mark::Below => 1,
+        Mark::Above => 2,
+    }
+}
+
+fn entry_figures(line: u32, chain: u32, e: LogEntry) -> EntryFigures
     ensures { λ r. ⌜ r ≡ entryFigures line chain e ⌝ }
 {
     match e {
@@ -497,10 +555,10 @@ fn entry_figures(line: u32, chain: u32, e: LogEntry) -> RecordFigures
     }
 }
 
-fn told(refusal: u32, kind: u32, chain: u32, line: u32, x: i64, y: i64) -> RecordFigures
+fn told(refusal: u32, kind: u32, chain: u32, line: u32, x: i64, y: i64) -> EntryFigures
     ensures { λ r. ⌜ r ≡ record { refusal = refusal; kind = kind; chain = chain; line = line; x = x; y = y } ⌝ }
 {
-    RecordFigures {
+    EntryFigures {
         refusal,
         kind,
         chain,
@@ -544,28 +602,45 @@ fn job_figures(a: JobAnswer) -> JobFigures
     }
 }
 
-fn carried_in(held: u32, place: Place) -> Carried
-    ensures { λ r. ⌜ r ≡ carriedIn held (place .easting) (place .northing) ⌝ }
+fn carried_in(held: u32, place: Place, rounded: u32) -> Carried
+    ensures { λ r. ⌜ r ≡ carriedIn held (place .easting) (place .northing) rounded ⌝ }
 {
     if held == 0 {
         return Carried::Nothing;
     }
-    Carried::Place(place)
+    Carried::Place {
+        place,
+        rounded: rounded != 0,
+    }
 }
 
 fn held_figures(c: Carried) -> HeldFigures
     ensures { λ r. ⌜ r ≡ heldFigures c ⌝ }
 {
     match c {
-        Carried::Place(place) => HeldFigures { held: 1, place },
+        Carried::Place { place, rounded } => HeldFigures {
+            held: 1,
+            place,
+            rounded: one_if(rounded),
+        },
         Carried::Nothing => HeldFigures {
             held: 0,
             place: Place {
                 easting: 0,
                 northing: 0,
             },
+            rounded: 0,
         },
     }
+}
+
+fn one_if(so: bool) -> u32
+    ensures { λ r. ⌜ r ≡ cond so 1 0 ⌝ }
+{
+    if so {
+        return 1;
+    }
+    0
 }
 
 fn listed_figures(l: Listed) -> ListedFigures

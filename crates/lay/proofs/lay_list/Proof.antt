@@ -13,11 +13,14 @@ use Rattle.lay.proofs.lay_list.Tie as tie
 element-copy-out-carried-in : tie.Need-element-copy-out-carried-in
 element-copy-out-carried-in c = search needs
 
-element-copy-out-t17 : tie.Need-element-copy-out-t17
-element-copy-out-t17 c = search needs
-
 element-copy-out-carried-in-2 : tie.Need-element-copy-out-carried-in-2
 element-copy-out-carried-in-2 c = search needs
+
+element-copy-out-carried-in-3 : tie.Need-element-copy-out-carried-in-3
+element-copy-out-carried-in-3 c = search needs
+
+element-copy-out-carried-in-4 : tie.Need-element-copy-out-carried-in-4
+element-copy-out-carried-in-4 c = search needs
 
 carried-in-requires : tie.Need-carried-in-requires
 carried-in-requires c κs = search needs
@@ -42,7 +45,7 @@ returns c =
     let figures = c .before .before .before .before in
     let call = figures .before .before .before in
     let carry = call .before .before in
-    let d = carry .before .before .before .before .before .before .before .before .args in
+    let d = carry .before .before .before .before .before .before .before .before .before .args in
     let part : Carried → Part = λ x. listingFrom (now (d .job)) (now (d .table)) (now (d .log)) x in
     let told =
     figures .listed-figures .ensures
@@ -59,8 +62,9 @@ lay-list-spec =
     tie.close
     (tie.spec
     element-copy-out-carried-in
-    element-copy-out-t17
     element-copy-out-carried-in-2
+    element-copy-out-carried-in-3
+    element-copy-out-carried-in-4
     carried-in-requires
     list-requires
     listed-figures-requires
