@@ -21,7 +21,8 @@ fn main() {
          in digits alone, or in metres with two decimals: 30001 is 300.01
 
 A line is printed for slave A and one for slave B: the reading in centimetres, the same in metres,
-and its eight bytes in a log record. A refusal is printed with its number.
+its eight bytes in a log record, and 0 if these are exactly the reading, 1 if they are rounded when
+they are read back. A refusal is printed with its number.
 The readings at (30000, 40000) for chain 1:
 
   layexpect 1 30000 40000

@@ -18,11 +18,11 @@ use Rattle.chart.specs.Readings.{NoneFor}
 use Rattle.records.specs.declared.ChainCount.the-variants.{Chains}
 use Rattle.records.specs.ChainTables.{chainOf}
 use Rattle.writing.specs.Writing.{metresBytes}
-use Rattle.text.specs.Texts.{spaced, figuresText, hexOf, bytesIn}
+use Rattle.text.specs.Texts.{spaced, figuresText, hexOf, bytesIn, flagText}
 use Rattle.text.proofs.PutLaws.{put-none}
 use Rattle.shown.specs.declared.Line.the-variants.{Text, Refused}
 use Rattle.shown.specs.Fields.{hexText, refusedText, signText, decimalText, metresText}
-use Rattle.shown.specs.Expected.{byChain, byTable, writtenText}
+use Rattle.shown.specs.Expected.{byChain, byTable, isRoundedBack, writtenText}
 use Rattle.shown.specs.Rooms.{Reply, Says, lineFor, bufferFor, hasLineRoom, inRoom, Puts}
 
 -- Putting no text, and putting an equal text.
@@ -75,7 +75,7 @@ pub written-refused : (z : ℤ) → mostCentimetres < natAbs z → bytesIn " REF
 unfolding writtenText
 written-refused z h = rw (lt-leb (natAbs z) mostCentimetres h)
 
-pub written-told : (z : ℤ) → natAbs z ≤ mostCentimetres → (32 ∷ metresText z) ++ (32 ∷ hexOf (metresBytes z)) ≡ writtenText z
+pub written-told : (z : ℤ) → natAbs z ≤ mostCentimetres → (32 ∷ metresText z) ++ ((32 ∷ hexOf (metresBytes z)) ++ flagText (isRoundedBack z)) ≡ writtenText z
 unfolding writtenText
 written-told z h = rw (le-leb (natAbs z) mostCentimetres h)
 

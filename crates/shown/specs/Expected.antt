@@ -1,10 +1,11 @@
 -- The readings expected at a place, as text (docs/FORMATS.md, Text; 01, Numbers of refusal: "4 precedes 5").
 use Prim.Native.Nat.{ℕ, suc}
-use mathlib.Core.Bool.{cond}
+use mathlib.Core.Bool.{Bool, cond}
 use mathlib.Core.List.{List, [], _∷_, _++_}
 use lib.Dec.{leb}
 use lib.IntN.{ℤ, natAbs}
 use Rattle.metres.specs.Metres.{mostCentimetres}
+use Rattle.metres.specs.Marks.{markOf, isRounded}
 use Rattle.chart.specs.declared.Place.{Place}
 use Rattle.chart.specs.Places.{inRange}
 use Rattle.chart.specs.Readings.{Expectation, NoneFor, expectedAt}
@@ -14,8 +15,8 @@ use Rattle.records.specs.declared.NamedChain.{NamedChain}
 use Rattle.records.specs.declared.NamedChain.the-variants as named
 use Rattle.records.specs.Bytes.{unless}
 use Rattle.records.specs.ChainTables.{chainCountOf, chainOf}
-use Rattle.writing.specs.Writing.{metresBytes}
-use Rattle.text.specs.Texts.{wholeText, hexOf, bytesIn}
+use Rattle.writing.specs.Writing.{inMetres, metresBytes}
+use Rattle.text.specs.Texts.{wholeText, hexOf, bytesIn, flagText}
 use Rattle.shown.specs.Fields.{metresText}
 
 -- The readings for the chain that was named, or the number of its refusal.
@@ -31,12 +32,19 @@ byTable (count.Chains n) table chain p = unless (inRange p) (NoneFor 4) (byChain
 abbrev pub expectedIn : List ℕ → ℕ → Place → Expectation
 expectedIn table chain p = byTable (chainCountOf table) table chain p
 
--- A reading in metres, and the bytes that a log record has for it; refusal 3 if it is too large to be written.
+-- Whether the number that is written for a reading is rounded when it is read back (02, A1).
+abbrev pub isRoundedBack : ℤ → Bool
+isRoundedBack z = isRounded (markOf (inMetres z))
+
+-- A reading in metres, the bytes that a log record has for it, and 1 if it is rounded when these are read back, 0 if they are exact;
+-- refusal 3 if it is too large to be written.
 unfoldable pub writtenText : ℤ → List ℕ
 writtenText z =
-    cond (leb (natAbs z) mostCentimetres) ((32 ∷ metresText z) ++ (32 ∷ hexOf (metresBytes z))) (bytesIn " REFUSED 3")
+    cond (leb (natAbs z) mostCentimetres)
+    ((32 ∷ metresText z) ++ ((32 ∷ hexOf (metresBytes z)) ++ flagText (isRoundedBack z)))
+    (bytesIn " REFUSED 3")
 
--- The line of a slave: its letter, and its reading in centimetres, in metres and in bytes.
+-- The line of a slave: its letter, and its reading in centimetres, in metres and in bytes, with the flag.
 abbrev pub slaveLine : ℕ → ℤ → List ℕ
 slaveLine letter z = letter ∷ ((32 ∷ wholeText z) ++ (writtenText z ++ bytesIn "\n"))
 

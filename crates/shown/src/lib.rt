@@ -11,7 +11,7 @@ ghost use Rattle.writing.specs.Writing.{metresBytes};
 ghost use Rattle.text.specs.Texts.{figuresText, hexOf, bytesIn};
 ghost use Rattle.shown.specs.Fields.{centimetresText, decimalText, metresText, hexText, refusedText};
 ghost use Rattle.shown.specs.Lines.{jobText, jobLine, chainText, refusalIn, chainLine, rawText, recordText, recordLine};
-ghost use Rattle.shown.specs.Expected.{byChain, expectedIn, writtenText, slaveLine, expectedText};
+ghost use Rattle.shown.specs.Expected.{byChain, expectedIn, isRoundedBack, writtenText, slaveLine, expectedText};
 ghost use Rattle.shown.specs.Rooms.{Says, hasLineRoom, shownIn, replyOf, Puts};
 use chart::Expected;
 use chart::Place;
@@ -296,7 +296,8 @@ fn put_slave(out: &mut [u8], at: usize, letter: u8, z: i64) -> usize
     text::put(out, d, b"\n")
 }
 
-// Puts a reading in metres, and the bytes that a log record has for it; refusal 3 if it is too large to be written.
+// Puts a reading in metres, the bytes that a log record has for it, and whether it is rounded when these are read back; refusal 3
+// if it is too large to be written.
 fn put_written(out: &mut [u8], at: usize, z: i64) -> usize
     ensures text { λ r. ⌜ Puts (now (out .entry)) at (writtenText z) (now (out .exit)) r ⌝ }
     ensures few { λ _. ⌜ length (writtenText z) ≤ 73 ⌝ }
@@ -307,7 +308,17 @@ fn put_written(out: &mut [u8], at: usize, z: i64) -> usize
     let a = text::put(out, at, b" ");
     let b = put_metres(out, a, z);
     let c = text::put(out, b, b" ");
-    put_number_bytes(out, c, z)
+    let d = put_number_bytes(out, c, z);
+    text::put_flag(out, d, is_rounded_back(z))
+}
+
+fn is_rounded_back(z: i64) -> bool
+    ensures { λ r. ⌜ r ≡ isRoundedBack z ⌝ }
+{
+    let f = metres::length_figures(metres::metres(z));
+    let m = metres::marked(f.metres);
+    let mark = m.mark;
+    metres::is_rounded(mark)
 }
 
 // Puts centimetres as metres with two decimals.

@@ -17,12 +17,22 @@ returns c =
     let x-back = toZ-ofZ w64 (given .result .entry .x) (record { sfits = search (needs, c .before .struct-told .given) }) in
     let y-back = toZ-ofZ w64 (given .result .entry .y) (record { sfits = search (needs, c .struct-told2 .given) }) in (
       ap (λ (r : RecordFigures). r .entry .refusal) told,
-      (ap (λ (r : RecordFigures). r .entry .kind) told,
-      (ap (λ (r : RecordFigures). r .entry .chain) told,
-      (ap (λ (r : RecordFigures). r .entry .line) told,
-      (x-back ∙ ap (λ (r : RecordFigures). r .entry .x) told,
-      (y-back ∙ ap (λ (r : RecordFigures). r .entry .y) told,
-      (ap (λ (r : RecordFigures). r .xmark) told, ap (λ (r : RecordFigures). r .ymark) told)))))),
+      (
+        ap (λ (r : RecordFigures). r .entry .kind) told,
+        (
+          ap (λ (r : RecordFigures). r .entry .chain) told,
+          (
+            ap (λ (r : RecordFigures). r .entry .line) told,
+            (
+              x-back ∙ ap (λ (r : RecordFigures). r .entry .x) told,
+              (
+                y-back ∙ ap (λ (r : RecordFigures). r .entry .y) told,
+                (ap (λ (r : RecordFigures). r .xmark) told, ap (λ (r : RecordFigures). r .ymark) told),
+              ),
+            ),
+          ),
+        ),
+      ),
     )
 
 pub lay-read-record-spec : {M : Type 1} → statement M

@@ -1,7 +1,7 @@
--- `shown::put_written` meets its contract: the metres and the bytes, or that the reading cannot be written.
+-- `shown::put_written` meets its contract: the metres, the bytes and the flag, or that the reading cannot be written.
 use Prim.Native.Nat.{ℕ, _≤_}
 use mathlib.Core.Path.{_≡_, ap, _∙_, subst}
-use mathlib.Core.List.{List, _∷_}
+use mathlib.Core.List.{List, _∷_, _++_}
 use native.Mathlib.Omega.{arith}
 use lib.ListN.{length, length-append}
 use lib.IntN.{ℤ, natAbs}
@@ -9,9 +9,10 @@ use mir.Syntax.{w64}
 use mir.Val.{toZ, ofZ}
 use mir.ValLaws.{toZ-ofZ}
 use Rattle.writing.specs.Writing.{metresBytes}
-use Rattle.text.specs.Texts.{hexOf, bytesIn}
-use Rattle.text.proofs.PutLaws.{put-both, put-from}
+use Rattle.text.specs.Texts.{hexOf, bytesIn, flagText}
+use Rattle.text.proofs.PutLaws.{flag-length, put-both, put-from}
 use Rattle.shown.specs.Fields.{metresText}
+use Rattle.shown.specs.Expected.{isRoundedBack}
 use Rattle.shown.proofs.ShownLaws.{puts-as, written-refused, written-told}
 use borrow.Author.Needs.{needs}
 use Rattle.shown.proofs.put_written.Statement.{statement}
@@ -62,12 +63,19 @@ put-requires-3 c κs = search needs
 put-number-bytes-requires : tie.Need-put-number-bytes-requires
 put-number-bytes-requires c κs = search needs
 
+is-rounded-back-requires : tie.Need-is-rounded-back-requires
+is-rounded-back-requires c κs = search needs
+
+put-flag-requires : tie.Need-put-flag-requires
+put-flag-requires c κs = search needs
+
 same-length-2 : tie.Need-same-length-2
 same-length-2 c = search needs
 
 returns-2 : tie.Need-returns-2
 returns-2 c =
-    let bytes = c .before .before in
+    let flag = c .before .before in
+    let bytes = flag .before .before .before .before .before in
     let second = bytes .before .before .before .before in
     let metres = second .before .before .before .before .before in
     let first = metres .before .before .before .before in
@@ -78,10 +86,12 @@ returns-2 c =
     let text = written-told z (omega (arith, n, small .if1 .left)) in
     let shown = puts-as (ap metresText (same start)) (metres .put-metres .ensures .0) in
     let written = puts-as (ap (λ (y : ℤ). hexOf (metresBytes y)) (same start)) (bytes .put-number-bytes .ensures .0) in
+    let last = puts-as (ap flagText (flag .before .is-rounded-back .ensures ∙ ap isRoundedBack (same start))) (put-from (flag .put-flag .ensures)) in
     let few = subst (λ (y : ℤ). length (metresText y) ≤ 24) (same start) (metres .put-metres .ensures .1) in
+    let hex : List ℕ = 32 ∷ hexOf (metresBytes z) in
     let sixteen = subst (λ (y : ℤ). length (hexOf (metresBytes y)) ≤ 16) (same start) (bytes .put-number-bytes .ensures .1) in (
-      puts-as text (put-both (put-both (put-from (first .put2 .ensures)) shown) (put-both (put-from (second .put3 .ensures)) written)),
-      subst (λ (x : List ℕ). length x ≤ 73) text (omega (arith, length-append (32 ∷ metresText z) (32 ∷ hexOf (metresBytes z)), few, sixteen)),
+      puts-as text (put-both (put-both (put-from (first .put2 .ensures)) shown) (put-both (put-both (put-from (second .put3 .ensures)) written) last)),
+      subst (λ (x : List ℕ). length x ≤ 73) text (omega (arith, length-append (32 ∷ metresText z) (hex ++ flagText (isRoundedBack z)), length-append hex (flagText (isRoundedBack z)), flag-length (isRoundedBack z), few, sixteen)),
     )
 
 pub put-written-spec : {M : Type 1} → statement M
@@ -99,5 +109,7 @@ put-written-spec =
     slice-aggregate-put-3
     put-requires-3
     put-number-bytes-requires
+    is-rounded-back-requires
+    put-flag-requires
     same-length-2
     returns-2)
