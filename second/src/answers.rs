@@ -1,19 +1,19 @@
-//! Answers requests: each answer is what the library for C promises, worked out here from 01. The head of tests/lay.c says
-//! what a request may be.
+//! Answers requests: each answer is what the library for C promises, worked out here from 01 and 02. The head of tests/lay.c
+//! says what a request may be.
 
 use std::fmt::Display;
 use std::str::FromStr;
 
 use crate::chart::{self, Place, Readings};
-use crate::listing;
-use crate::numbers;
+use crate::listing::{self, Held};
+use crate::numbers::{self, Mark};
 use crate::records::{self, Draft, Entry};
 use crate::refusals;
 use crate::search::{self, Found, Job};
 use crate::words::{hex, unhex};
 
 /// The version of the library's header.
-const VERSION: u32 = 1;
+const VERSION: u32 = 2;
 
 /// The bytes that the library's buffer must have for each record of a listing, and for one more.
 pub const LINE_BYTES: usize = 5760;
@@ -90,6 +90,14 @@ impl<'a> Request<'a> {
         Ok(chart::place(self.number()?, self.number()?))
     }
 
+    /// What a listing may hold: whether there is anything, the place and the last field; any number but 0 counts as 1.
+    fn held(&mut self) -> Result<Option<Held>, String> {
+        let holds: u32 = self.number()?;
+        let place = self.place()?;
+        let rounded: u32 = self.number()?;
+        Ok((holds != 0).then_some(Held { place, rounded: rounded != 0 }))
+    }
+
     fn end(mut self) -> Result<(), String> {
         self.words.next().map_or(Ok(()), |word| Err(format!("a word too many: {word}")))
     }
@@ -144,13 +152,22 @@ pub fn answer(line: &str) -> Result<String, String> {
     }
 }
 
+/// The library's number for a mark.
+fn mark_number(mark: Mark) -> u32 {
+    match mark {
+        Mark::Equal => 0,
+        Mark::Less => 1,
+        Mark::Greater => 2,
+    }
+}
+
 fn centimetres(mut request: Request) -> Result<String, String> {
     let bytes = request.bytes()?;
     request.end()?;
     let pattern = u64::from_be_bytes(bytes.try_into().map_err(|_| "no pattern")?);
     Ok(match numbers::centimetres(pattern) {
-        Ok(whole) => format!("0 {whole}"),
-        Err(refusal) => format!("{refusal} 0"),
+        Ok((whole, mark)) => format!("0 {whole} {}", mark_number(mark)),
+        Err(refusal) => format!("{refusal} 0 0"),
     })
 }
 
@@ -202,15 +219,16 @@ fn read_record(mut request: Request) -> Result<String, String> {
     let bytes = request.bytes()?;
     request.end()?;
     if bytes.len() != records::RECORD {
-        return Ok(format!("{} 0 0 0 0 0", refusals::LENGTH));
+        return Ok(format!("{} 0 0 0 0 0 0 0", refusals::LENGTH));
     }
     let line = records::line_number(&bytes);
-    Ok(match records::entry(&bytes) {
-        Ok(Entry::Hyperbolic { chain, wanted }) => format!("0 1 {chain} {line} {} {}", wanted.a, wanted.b),
-        Ok(Entry::Grid(place)) => format!("0 2 0 {line} {} {}", place.easting, place.northing),
-        Ok(Entry::Hold) => format!("0 3 0 {line} 0 0"),
-        Err(refusal) => format!("{refusal} 0 0 {line} 0 0"),
-    })
+    let (head, marks) = match records::entry(&bytes) {
+        Ok(Entry::Hyperbolic { chain, wanted, marks }) => (format!("0 1 {chain} {line} {} {}", wanted.a, wanted.b), marks),
+        Ok(Entry::Grid { place, marks }) => (format!("0 2 0 {line} {} {}", place.easting, place.northing), marks),
+        Ok(Entry::Hold) => (format!("0 3 0 {line} 0 0"), [Mark::Equal; 2]),
+        Err(refusal) => (format!("{refusal} 0 0 {line} 0 0"), [Mark::Equal; 2]),
+    };
+    Ok(with_entries(head, &marks.map(mark_number)))
 }
 
 fn write_record(mut request: Request) -> Result<String, String> {
@@ -299,21 +317,26 @@ fn write_chain(mut request: Request) -> Result<String, String> {
 fn list(mut request: Request) -> Result<String, String> {
     let length: usize = request.number()?;
     let dirt: u8 = request.number()?;
-    let holds: u32 = request.number()?;
-    let place = request.place()?;
-    let held = (holds != 0).then_some(place);
+    let held = request.held()?;
     let (job, table, log) = (request.bytes()?, request.bytes()?, request.bytes()?);
     request.end()?;
     if length / LINE_BYTES <= log.len() / records::RECORD {
-        return Ok(format!("{} 0 0 0 0 - kept", refusals::ROOM));
+        return Ok(format!("{} 0 0 0 0 0 - kept", refusals::ROOM));
     }
     let mut text = Vec::new();
     let held = listing::list(&job, &table, &log, held, &mut text).map_err(|error| error.to_string())?;
     let mut lent = vec![dirt; length];
     lent[..text.len()].copy_from_slice(&text);
     let rest = if lent[text.len()..].iter().all(|&byte| byte == dirt) { "kept" } else { "touched" };
-    let held = held.map_or("0 0 0".into(), |place| format!("1 {} {}", place.easting, place.northing));
-    Ok(format!("0 {} {held} {} {rest}", text.len(), hex(&lent[..text.len()])))
+    Ok(format!("0 {} {} {} {rest}", text.len(), held_words(held), hex(&lent[..text.len()])))
+}
+
+/// What is held, as the library gives it back: 1, the place and the last field, each 0 if nothing is held.
+fn held_words(held: Option<Held>) -> String {
+    match held {
+        Some(Held { place, rounded }) => format!("1 {} {} {}", place.easting, place.northing, u8::from(rounded)),
+        None => "0 0 0 0".into(),
+    }
 }
 
 #[cfg(test)]
@@ -331,13 +354,16 @@ mod tests {
 
     #[test]
     fn the_version() {
-        assert_eq!(ok("version"), "1");
+        assert_eq!(ok("version"), "2");
     }
 
     #[test]
     fn numbers_there_and_back() {
-        assert_eq!(ok("centimetres 3fd8000000000000"), "0 38");
-        assert_eq!(ok("centimetres 7ff0000000000000"), "3 0");
+        assert_eq!(ok("centimetres 3fd0000000000000"), "0 25 0");
+        assert_eq!(ok("centimetres 3fd8000000000000"), "0 38 1");
+        assert_eq!(ok("centimetres bfd8000000000000"), "0 -38 2");
+        assert_eq!(ok("centimetres 8000000000000000"), "0 0 0");
+        assert_eq!(ok("centimetres 7ff0000000000000"), "3 0 0");
         assert_eq!(ok("metres -20000"), "0 c069000000000000");
         assert_eq!(ok("metres 1000000001"), "3 0000000000000000");
     }
@@ -403,12 +429,16 @@ mod tests {
     #[test]
     fn records_read_and_written() {
         let bytes = "010100000100000000000000000059c000000000000069c00000000000000000";
-        assert_eq!(ok(&format!("read_record {bytes}")), "0 1 1 1 -10000 -20000");
+        assert_eq!(ok(&format!("read_record {bytes}")), "0 1 1 1 -10000 -20000 0 0");
+        assert_eq!(ok(&format!("read_record {}01{}", &bytes[..16], &bytes[18..])), "0 1 1 1 -10000 -20000 1 0");
+        assert_eq!(ok(&format!("read_record 0200{}", &bytes[4..])), "4 0 0 1 0 0 0 0");
+        assert_eq!(ok(&format!("read_record {}{}ff{}", &bytes[..16], "01".repeat(15), &bytes[48..])), "3 0 0 1 0 0 0 0");
+        assert_eq!(ok(&format!("read_record 03{}", "0".repeat(62))), "0 3 0 0 0 0 0 0");
         assert_eq!(ok("write_record 32 255 1 1 1 -10000 -20000"), format!("0 {bytes}"));
         assert_eq!(ok("write_record 3 255 1 1 1 0 0"), "1 000000");
         assert_eq!(ok("write_record 0 255 1 1 1 0 0"), "1 -");
-        assert_eq!(ok(&format!("read_record 09{}", &bytes[2..])), "2 0 0 1 0 0");
-        assert_eq!(ok("read_record -"), "1 0 0 0 0 0");
+        assert_eq!(ok(&format!("read_record 09{}", &bytes[2..])), "2 0 0 1 0 0 0 0");
+        assert_eq!(ok("read_record -"), "1 0 0 0 0 0 0 0");
     }
 
     #[test]
@@ -441,12 +471,17 @@ mod tests {
 
     #[test]
     fn a_listing_needs_room_for_one_record_more() {
-        assert_eq!(ok("list 5759 9 1 2 3 - - -"), "9 0 0 0 0 - kept");
-        assert_eq!(ok("list 5760 9 1 2 3 - - -"), "0 14 0 0 0 4a4f4220524546555345442031 0a kept".replace(" 0a", "0a"));
-        let job = "0".repeat(64);
-        let table = "0".repeat(48);
-        assert_eq!(ok(&format!("list 5760 9 5 2 3 {job} {table} -")), "0 0 1 2 3 - kept");
-        assert_eq!(ok(&format!("list 5760 9 0 2 3 {job} {table} -")), "0 0 0 0 0 - kept");
+        assert_eq!(ok("list 5759 9 1 2 3 1 - - -"), "9 0 0 0 0 0 - kept");
+        assert_eq!(ok("list 5760 9 1 2 3 1 - - -"), "0 14 0 0 0 0 4a4f42205245465553454420310a kept");
+    }
+
+    #[test]
+    fn an_empty_log_passes_on_what_is_held() {
+        let passed_on = |held: &str| ok(&format!("list 5760 9 {held} {} {} -", "0".repeat(64), "0".repeat(48)));
+        assert_eq!(passed_on("1 2 3 0"), "0 0 1 2 3 0 - kept");
+        assert_eq!(passed_on("5 2 3 0"), "0 0 1 2 3 0 - kept");
+        assert_eq!(passed_on("5 2 3 9"), "0 0 1 2 3 1 - kept");
+        assert_eq!(passed_on("0 2 3 9"), "0 0 0 0 0 0 - kept");
     }
 
     #[test]

@@ -458,9 +458,10 @@ fn listing(random: &mut Random) -> String {
         _ => enough,
     };
     let (dirt, held) = (random.pick(&[0, 10, 0x55, 0xff]), random.pick(&[0, 0, 1, 1, 2, u32::MAX]));
+    let rounded = random.pick(&[0, 1, 7]);
     let held_place = if random.once_in(2) { place } else { pieces::edge_place(random) };
     let files = [&job, &table, &log].map(|file| hex(file)).join(" ");
-    format!("list {length} {dirt} {held} {} {files}", place_words(held_place))
+    format!("list {length} {dirt} {held} {} {rounded} {files}", place_words(held_place))
 }
 
 fn spoilt_job(random: &mut Random, place: Place, chain: &Chain) -> Vec<u8> {

@@ -1,8 +1,9 @@
-//! The listing of a job, a table and a log (01, The program).
+//! The listing of a job, a table and a log (01, The program; 02, A1).
 
 use std::io::{self, Write};
 
 use crate::chart::Place;
+use crate::numbers::Mark;
 use crate::records::{self, Entry, RECORD};
 use crate::refusals;
 use crate::search::{self, Job};
@@ -10,18 +11,26 @@ use crate::search::{self, Job};
 /// The places that the program's list has room for.
 pub const ROOM: usize = 256;
 
-/// What a record of the log gives, with the word that is printed for it.
+/// What a record of the log gives, with the word that is printed for it; `rounded` is the last field of its line.
 struct Answer {
     word: &'static str,
     places: Vec<Place>,
     visits: u64,
+    rounded: bool,
+}
+
+/// What a hold repeats: a place, and the last field of its line.
+#[derive(Clone, Copy, PartialEq, Eq, Debug)]
+pub struct Held {
+    pub place: Place,
+    pub rounded: bool,
 }
 
 /// A refusal and the visits made before it.
 type Refused = (u32, u64);
 
-/// Prints the listing, and returns the place that a hold after it would repeat.
-pub fn list(job: &[u8], table: &[u8], log: &[u8], held: Option<Place>, out: &mut impl Write) -> io::Result<Option<Place>> {
+/// Prints the listing, and returns what a hold after it would repeat.
+pub fn list(job: &[u8], table: &[u8], log: &[u8], held: Option<Held>, out: &mut impl Write) -> io::Result<Option<Held>> {
     let job = match records::job(job) {
         Ok(job) => job,
         Err(refusal) => return writeln!(out, "JOB REFUSED {refusal}").map(|_| None),
@@ -33,32 +42,33 @@ pub fn list(job: &[u8], table: &[u8], log: &[u8], held: Option<Place>, out: &mut
     for record in log.chunks(RECORD) {
         let answer = answer(&job, table, record, held);
         print(record, &answer, out)?;
-        held = answer.ok().and_then(single_place);
+        held = answer.ok().and_then(held_after);
     }
     Ok(held)
 }
 
-fn single_place(answer: Answer) -> Option<Place> {
+fn held_after(answer: Answer) -> Option<Held> {
     match answer.places[..] {
-        [place] => Some(place),
+        [place] => Some(Held { place, rounded: answer.rounded }),
         _ => None,
     }
 }
 
-fn answer(job: &Job, table: &[u8], record: &[u8], held: Option<Place>) -> Result<Answer, Refused> {
+fn answer(job: &Job, table: &[u8], record: &[u8], held: Option<Held>) -> Result<Answer, Refused> {
     let unvisited = |refusal| (refusal, 0);
-    let one = |word, place| Answer { word, places: vec![place], visits: 0 };
-    let (chain, wanted) = match records::entry(record).map_err(unvisited)? {
-        Entry::Grid(place) => return Ok(one("GRID", place)),
-        Entry::Hold => return held.map(|place| one("HOLD", place)).ok_or((refusals::HOLD, 0)),
-        Entry::Hyperbolic { chain, wanted } => (chain, wanted),
+    let one = |word, place, rounded| Answer { word, places: vec![place], visits: 0, rounded };
+    let rounded = |marks: [Mark; 2]| marks != [Mark::Equal; 2];
+    let (chain, wanted, marks) = match records::entry(record).map_err(unvisited)? {
+        Entry::Grid { place, marks } => return Ok(one("GRID", place, rounded(marks))),
+        Entry::Hold => return held.map(|held| one("HOLD", held.place, held.rounded)).ok_or((refusals::HOLD, 0)),
+        Entry::Hyperbolic { chain, wanted, marks } => (chain, wanted, marks),
     };
     let chain = records::chain(table, u32::from(chain)).map_err(unvisited)?;
     let found = search::search(&chain, wanted, job, ROOM);
     if found.refusal != 0 {
         return Err((found.refusal, found.visits));
     }
-    Ok(Answer { word: "FIX", places: found.places, visits: found.visits })
+    Ok(Answer { word: "FIX", places: found.places, visits: found.visits, rounded: rounded(marks) })
 }
 
 fn print(record: &[u8], answer: &Result<Answer, Refused>, out: &mut impl Write) -> io::Result<()> {
@@ -74,7 +84,7 @@ fn print(record: &[u8], answer: &Result<Answer, Refused>, out: &mut impl Write) 
     for place in &answer.places {
         write!(out, " {} {}", place.easting, place.northing)?;
     }
-    writeln!(out)
+    writeln!(out, " {}", u8::from(answer.rounded))
 }
 
 #[cfg(test)]
@@ -87,9 +97,14 @@ mod tests {
     const TABLE: &str = "0000000000000000307500000000000000000000409c0000";
     const FIX: &str = "010100000100000000000000000059c000000000000069c00000000000000000";
     const GRID: &str = "02000000020000005c8fc2f528c0724000000000000079400000000000000000";
+    const EXACT: &str = "0200000004000000000000000000d03f0000000000cc72400000000000000000";
     const HOLD: &str = "0300000003000000000000000000000000000000000000000000000000000000";
 
-    fn text(job: &str, table: &str, log: &str, held: Option<Place>) -> (String, Option<Place>) {
+    fn held(easting: u32, northing: u32, rounded: bool) -> Option<Held> {
+        Some(Held { place: chart::place(easting, northing), rounded })
+    }
+
+    fn text(job: &str, table: &str, log: &str, held: Option<Held>) -> (String, Option<Held>) {
         let [job, table, log] = [job, table, log].map(|bytes| words::unhex(bytes).unwrap());
         let mut out = Vec::new();
         let held = list(&job, &table, &log, held, &mut out).unwrap();
@@ -100,31 +115,52 @@ mod tests {
         text(JOB, TABLE, log, None).0
     }
 
+    fn last_fields(log: &str) -> String {
+        printed(log).lines().flat_map(|line| line.chars().last()).collect()
+    }
+
     #[test]
     fn the_log_of_three_records() {
-        let lines = "1 FIX 2 5 30000 40000 30001 40001\n2 GRID 1 0 30001 40000\n3 HOLD 1 0 30001 40000\n";
+        let lines = "1 FIX 2 5 30000 40000 30001 40001 0\n2 GRID 1 0 30001 40000 1\n3 HOLD 1 0 30001 40000 1\n";
         assert_eq!(printed(&format!("{FIX}{GRID}{HOLD}")), lines);
+    }
+
+    #[test]
+    fn one_rounded_number_is_enough() {
+        assert_eq!(printed(EXACT), "4 GRID 1 0 25 30075 0\n");
+        for record in [FIX, EXACT] {
+            assert_eq!(last_fields(record), "0");
+            for start in [16, 32] {
+                let rounded = format!("{}01{}", &record[..start], &record[start + 2..]);
+                assert_eq!(last_fields(&rounded), "1");
+            }
+        }
+    }
+
+    #[test]
+    fn a_hold_repeats_the_field_through_holds() {
+        assert_eq!(last_fields(&format!("{GRID}{HOLD}{HOLD}{HOLD}{EXACT}{HOLD}{HOLD}{GRID}{HOLD}")), "111100011");
     }
 
     #[test]
     fn a_hold_needs_exactly_one_place_just_before() {
         assert_eq!(printed(&format!("{HOLD}{HOLD}")), "3 REFUSED 11 0\n3 REFUSED 11 0\n");
         assert!(printed(&format!("{FIX}{HOLD}")).ends_with("\n3 REFUSED 11 0\n"));
-        assert!(printed(&format!("{GRID}{HOLD}{HOLD}")).ends_with("\n3 HOLD 1 0 30001 40000\n"));
+        assert!(printed(&format!("{GRID}{HOLD}{HOLD}")).ends_with("\n3 HOLD 1 0 30001 40000 1\n"));
         assert!(printed(&format!("{GRID}{FIX}{HOLD}")).ends_with("\n3 REFUSED 11 0\n"));
     }
 
     #[test]
     fn a_short_last_record() {
-        assert_eq!(printed(&format!("{GRID}00")), "2 GRID 1 0 30001 40000\n- REFUSED 1 0\n");
-        assert_eq!(text(JOB, TABLE, "02", Some(chart::place(1, 2))), ("- REFUSED 1 0\n".into(), None));
+        assert_eq!(printed(&format!("{GRID}00")), "2 GRID 1 0 30001 40000 1\n- REFUSED 1 0\n");
+        assert_eq!(text(JOB, TABLE, "02", held(1, 2, true)), ("- REFUSED 1 0\n".into(), None));
     }
 
     #[test]
     fn a_bad_job_or_table_is_all_that_is_printed() {
         assert_eq!(text("-", "-", FIX, None).0, "JOB REFUSED 1\n");
         assert_eq!(text(JOB, "-", FIX, None).0, "CHAIN REFUSED 1\n");
-        assert_eq!(text(JOB, TABLE, "-", Some(chart::place(1, 2))), (String::new(), Some(chart::place(1, 2))));
+        assert_eq!(text(JOB, TABLE, "-", held(1, 2, true)), (String::new(), held(1, 2, true)));
     }
 
     #[test]
@@ -136,6 +172,7 @@ mod tests {
 
     #[test]
     fn a_held_place_is_given() {
-        assert_eq!(text(JOB, TABLE, HOLD, Some(chart::place(7, u32::MAX))).0, "3 HOLD 1 0 7 4294967295\n");
+        assert_eq!(text(JOB, TABLE, HOLD, held(7, u32::MAX, false)).0, "3 HOLD 1 0 7 4294967295 0\n");
+        assert_eq!(text(JOB, TABLE, HOLD, held(7, u32::MAX, true)).0, "3 HOLD 1 0 7 4294967295 1\n");
     }
 }

@@ -1,4 +1,5 @@
-//! A second program for the rules of document 01, written from that document alone, to be compared with the first.
+//! A second program for the rules of document 01 with request A1 of 02, written from these alone, to be compared with the
+//! first.
 
 mod answers;
 mod asking;

@@ -56,7 +56,7 @@ fn is_cheap(folder: &Folder) -> bool {
 /// The chain and the readings of a record's search, if it has one that is not refused before it begins.
 fn named(table: &[u8], record: &[u8]) -> Option<(Chain, Readings)> {
     match records::entry(record).ok()? {
-        Entry::Hyperbolic { chain, wanted } => Some((records::chain(table, chain.into()).ok()?, wanted)),
+        Entry::Hyperbolic { chain, wanted, .. } => Some((records::chain(table, chain.into()).ok()?, wanted)),
         _ => None,
     }
 }

@@ -226,7 +226,7 @@ mod tests {
         let mut random = Random::new(5);
         for _ in 0..2000 {
             let place = anywhere(&mut random);
-            assert_eq!(records::entry(&grid(1, place)), Ok(Entry::Grid(place)));
+            assert!(matches!(records::entry(&grid(1, place)), Ok(Entry::Grid { place: read, .. }) if read == place));
             let k = random.below(25) as u32;
             let made = Job { corner: corner_for(&mut random, place, k), k, tolerance: 100_000, allowance: random.next() };
             assert_eq!(records::job(&job(&made)), Ok(made));
@@ -234,14 +234,15 @@ mod tests {
             assert_eq!(records::chain(&table(&[chain, chain]), 2), Ok(chain));
             assert_eq!(records::chain(&table(&[unsound_chain(&mut random)]), 1), Err(5));
             let wanted = chart::readings(&chain, place);
-            assert_eq!(records::entry(&fix(9, 1, wanted)), Ok(Entry::Hyperbolic { chain: 9, wanted }));
+            let entry = records::entry(&fix(9, 1, wanted));
+            assert!(matches!(entry, Ok(Entry::Hyperbolic { chain: 9, wanted: read, .. }) if read == wanted));
             assert!(chart::is_sound(&square_chain(&mut random, place)));
             let station = below_a_square(&mut random, place);
             let east = u64::from(station.easting.abs_diff(place.easting));
             let north = u64::from(station.northing.abs_diff(place.northing));
             assert_eq!(east * east + north * north, (north + 1) * (north + 1) - 1);
             let inexact = inexact_pattern(&mut random, wanted.a);
-            assert_eq!(numbers::centimetres(inexact), Ok(wanted.a));
+            assert_eq!(numbers::centimetres(inexact).unwrap().0, wanted.a);
         }
     }
 }

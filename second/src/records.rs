@@ -1,7 +1,7 @@
 //! Reads and writes the records (01, The records). Masks have one bit for each byte, set if the byte must be zero.
 
 use crate::chart::{self, Chain, Place, Readings};
-use crate::numbers;
+use crate::numbers::{self, Mark};
 use crate::refusals;
 use crate::search::{self, Job};
 
@@ -14,11 +14,12 @@ const GRID_ZEROS: u32 = 0xff00_000e;
 const HOLD_ZEROS: u32 = 0xffff_ff0e;
 const JOB_ZEROS: u32 = 0xff00_0e00;
 
-/// A log record in whole centimetres. The chain number is not tested here; that needs the table.
+/// A log record in whole centimetres, with the marks of its two numbers. The chain number is not tested here; that needs the
+/// table.
 #[derive(Clone, Copy, PartialEq, Eq, Debug)]
 pub enum Entry {
-    Hyperbolic { chain: u8, wanted: Readings },
-    Grid(Place),
+    Hyperbolic { chain: u8, wanted: Readings, marks: [Mark; 2] },
+    Grid { place: Place, marks: [Mark; 2] },
     Hold,
 }
 
@@ -65,12 +66,13 @@ pub fn entry(record: &[u8]) -> Result<Entry, u32> {
     if record[0] == 3 {
         return Ok(Entry::Hold);
     }
-    let first = numbers::centimetres(long(record, 8))?;
-    let second = numbers::centimetres(long(record, 16))?;
+    let (first, first_mark) = numbers::centimetres(long(record, 8))?;
+    let (second, second_mark) = numbers::centimetres(long(record, 16))?;
+    let marks = [first_mark, second_mark];
     if record[0] == 1 {
-        return Ok(Entry::Hyperbolic { chain: record[1], wanted: Readings { a: first, b: second } });
+        return Ok(Entry::Hyperbolic { chain: record[1], wanted: Readings { a: first, b: second }, marks });
     }
-    grid_place(first, second).map(Entry::Grid)
+    Ok(Entry::Grid { place: grid_place(first, second)?, marks })
 }
 
 /// The place of two numbers of centimetres, if it is in range.
@@ -192,6 +194,7 @@ pub fn write(length: usize, draft: &Draft) -> Result<[u8; RECORD], u32> {
 #[cfg(test)]
 mod tests {
     use super::*;
+    use std::cmp::Ordering::{Equal, Less};
 
     fn grid(easting: f64, northing: f64) -> [u8; 32] {
         let mut record = [0; 32];
@@ -203,9 +206,10 @@ mod tests {
 
     #[test]
     fn places_are_tested_after_rounding() {
-        assert_eq!(entry(&grid(-0.001, 0.0)), Ok(Entry::Grid(chart::place(0, 0))));
+        assert_eq!(entry(&grid(-0.001, 0.0)), Ok(Entry::Grid { place: chart::place(0, 0), marks: [Less, Equal] }));
         assert_eq!(entry(&grid(-0.01, 0.0)), Err(4));
-        assert_eq!(entry(&grid(1_000_000.0, 10_000_000.0)), Ok(Entry::Grid(chart::place(100_000_000, 1_000_000_000))));
+        let place = chart::place(100_000_000, 1_000_000_000);
+        assert_eq!(entry(&grid(1_000_000.0, 10_000_000.0)), Ok(Entry::Grid { place, marks: [Equal; 2] }));
         assert_eq!(entry(&grid(1_000_000.005, 0.0)), Err(4));
         assert_eq!(entry(&grid(-1.0, f64::NAN)), Err(3));
     }
@@ -218,7 +222,7 @@ mod tests {
             assert_eq!(entry(&record), Err(2));
         }
         let mut record = grid(-0.0, -0.0);
-        assert_eq!(entry(&record), Ok(Entry::Grid(chart::place(0, 0))));
+        assert_eq!(entry(&record), Ok(Entry::Grid { place: chart::place(0, 0), marks: [Equal; 2] }));
         record[0] = 3;
         assert_eq!(entry(&record), Err(2));
         assert_eq!(entry(&record[..31]), Err(1));
@@ -226,10 +230,10 @@ mod tests {
 
     #[test]
     fn any_chain_number_is_read() {
-        let mut record = grid(0.0, 0.0);
+        let mut record = grid(0.0, -0.01);
         record[..2].copy_from_slice(&[1, 255]);
-        let wanted = Readings { a: 0, b: 0 };
-        assert_eq!(entry(&record), Ok(Entry::Hyperbolic { chain: 255, wanted }));
+        let wanted = Readings { a: 0, b: -1 };
+        assert_eq!(entry(&record), Ok(Entry::Hyperbolic { chain: 255, wanted, marks: [Equal, Less] }));
     }
 
     #[test]
@@ -297,7 +301,8 @@ mod tests {
     fn what_is_written_is_read() {
         let draft = Draft { kind: 1, chain: 16, line: u32::MAX, x: -10000, y: 0 };
         let record = write(32, &draft).unwrap();
-        assert_eq!(entry(&record), Ok(Entry::Hyperbolic { chain: 16, wanted: Readings { a: -10000, b: 0 } }));
+        let wanted = Readings { a: -10000, b: 0 };
+        assert_eq!(entry(&record), Ok(Entry::Hyperbolic { chain: 16, wanted, marks: [Equal; 2] }));
         assert_eq!(line_number(&record), u32::MAX);
     }
 }
