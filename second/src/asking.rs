@@ -41,10 +41,11 @@ pub fn request(seed: u64, index: u64) -> String {
 }
 
 fn pattern(random: &mut Random) -> u64 {
-    match random.below(4) {
+    match random.below(5) {
         0 => pieces::edge_pattern(random),
         1 => pieces::tie_pattern(random),
         2 => pieces::edge_pattern(random).wrapping_add(random.between(-3, 3) as u64),
+        3 => pieces::exact_pattern(random),
         _ => pieces::any_pattern(random),
     }
 }
@@ -309,7 +310,8 @@ fn record(random: &mut Random) -> Vec<u8> {
     let mut numbers = || if random.once_in(3) { pattern(random) } else { pieces::pattern(centimetres(random)) };
     let fields = [numbers(), numbers(), 0];
     let small = [pieces::pattern(random.between(-2, 200)), pieces::pattern(random.between(-2, 200)), 0];
-    let mut bytes = match random.below(10) {
+    let quarters = Readings { a: 25 * random.between(-99, 99), b: 25 * random.between(-99, 99) };
+    let mut bytes = match random.below(12) {
         0 => random.bytes(RECORD),
         1 | 2 => pieces::record(1, chain, line, fields).to_vec(),
         3 => pieces::record(2, 0, line, fields).to_vec(),
@@ -317,6 +319,8 @@ fn record(random: &mut Random) -> Vec<u8> {
         5 => pieces::record(random.byte(), 0, line, small).to_vec(),
         6 => pieces::grid(line, pieces::anywhere(random)).to_vec(),
         7 => pieces::hold(line).to_vec(),
+        8 => pieces::rounded_fix(random, chain, line, quarters).to_vec(),
+        9 => pieces::rounded_grid(random, line).to_vec(),
         _ => with_wrong_byte(random, line),
     };
     spoil(random, &mut bytes);
@@ -326,7 +330,9 @@ fn record(random: &mut Random) -> Vec<u8> {
 /// A record that is sound but for one byte, often the sign of a minus zero.
 fn with_wrong_byte(random: &mut Random, line: u32) -> Vec<u8> {
     let (kind, chain) = random.pick(&[(1, 1), (2, 0), (3, 0)]);
-    let mut bytes = pieces::record(kind, chain, line, [0; 3]).to_vec();
+    let used = kind != 3 && random.once_in(2);
+    let fields = if used { [pieces::place_pattern(random), pieces::place_pattern(random), 0] } else { [0; 3] };
+    let mut bytes = pieces::record(kind, chain, line, fields).to_vec();
     let field = random.between(8, 31) as usize;
     let any = random.pick(&[1, 2, 3, field]);
     bytes[random.pick(&[any, any, 15, 23, 31])] = random.pick(&[1, 0x80]);
@@ -457,11 +463,17 @@ fn listing(random: &mut Random) -> String {
         1..=4 => more,
         _ => enough,
     };
-    let (dirt, held) = (random.pick(&[0, 10, 0x55, 0xff]), random.pick(&[0, 0, 1, 1, 2, u32::MAX]));
-    let rounded = random.pick(&[0, 1, 7]);
-    let held_place = if random.once_in(2) { place } else { pieces::edge_place(random) };
+    let dirt = random.pick(&[0, 10, 0x55, 0xff]);
     let files = [&job, &table, &log].map(|file| hex(file)).join(" ");
-    format!("list {length} {dirt} {held} {} {rounded} {files}", place_words(held_place))
+    format!("list {length} {dirt} {} {files}", held_words(random, place))
+}
+
+/// What is held before a listing: this place or one at an edge, if anything; any number but 0 stands for 1.
+fn held_words(random: &mut Random, place: Place) -> String {
+    let mut flag = || random.pick(&[0, 0, 1, 1, 2, 7, u32::MAX]);
+    let (held, rounded) = (flag(), flag());
+    let place = if random.once_in(2) { place } else { pieces::edge_place(random) };
+    format!("{held} {} {rounded}", place_words(place))
 }
 
 fn spoilt_job(random: &mut Random, place: Place, chain: &Chain) -> Vec<u8> {
@@ -495,7 +507,7 @@ fn listed_job(random: &mut Random, place: Place, chain: &Chain) -> Vec<u8> {
 
 fn listed_record(random: &mut Random, place: Place, chain: &Chain) -> Vec<u8> {
     let line = pieces::line(random);
-    match random.below(8) {
+    match random.below(10) {
         0 | 1 => pieces::hold(line).to_vec(),
         2 => pieces::grid(line, pieces::about(random, place, 9)).to_vec(),
         3 => pieces::fix(random.pick(&[0, 2, 3, 255]), line, Readings { a: 1, b: 2 }).to_vec(),
@@ -505,6 +517,8 @@ fn listed_record(random: &mut Random, place: Place, chain: &Chain) -> Vec<u8> {
             bytes[random.below(32) as usize] = random.byte();
             bytes
         }
+        6 => pieces::rounded_grid(random, line).to_vec(),
+        7 => pieces::fix(1, line, pieces::exact_readings(chart::readings(chain, place))).to_vec(),
         _ => pieces::fix(1, line, chart::readings(chain, place)).to_vec(),
     }
 }

@@ -1,4 +1,5 @@
-//! Makes logs at the edges of the rules: refusals, limits, holds, lengths, missing files, unsound chains and line numbers.
+//! Makes logs at the edges of the rules: refusals, limits, rounding, holds, lengths, missing files, unsound chains and line
+//! numbers.
 
 use crate::chart::{self, Chain, Place, Readings, MOST_EASTING, MOST_NORTHING};
 use crate::folder::Folder;
@@ -24,7 +25,7 @@ type Record = [u8; RECORD];
 /// A grid record, a hold, or readings of one, two or no places in 01's window.
 fn sound(random: &mut Random, line: u32) -> Record {
     match random.below(10) {
-        0..=2 => pieces::grid(line, pieces::anywhere(random)),
+        0..=2 => pieces::grid(line, pieces::any_place(random)),
         3 | 4 => pieces::fix(1, line, ONE_PLACE),
         5 => pieces::fix(1, line, TWO_PLACES),
         6 => pieces::fix(1, line, NO_PLACE),
@@ -126,10 +127,11 @@ fn wrong_length(random: &mut Random, folder: &mut Folder) {
 pub fn numbers(random: &mut Random, _turn: u64) -> Folder {
     let mut log = Vec::new();
     for step in 1..=random.between(5, 40) as u32 {
-        let field = |random: &mut Random| match random.below(4) {
+        let field = |random: &mut Random| match random.below(5) {
             0 => pieces::edge_pattern(random),
             1 => pieces::tie_pattern(random) & !(1 << 63),
             2 => pieces::tie_pattern(random),
+            3 => pieces::exact_pattern(random),
             _ => pieces::any_pattern(random),
         };
         let unused = random.pick(&[0, 0, 0, 0, 0, 0, 1 << 63, 1]);
@@ -221,7 +223,7 @@ pub fn holds(random: &mut Random, _turn: u64) -> Folder {
     let mut log = Vec::new();
     for step in 1..=random.between(1, 40) as u32 {
         log.push(match random.below(8) {
-            0 => pieces::grid(step, pieces::anywhere(random)),
+            0 => pieces::grid(step, pieces::any_place(random)),
             1 => pieces::fix(1, step, ONE_PLACE),
             2 => pieces::fix(1, step, TWO_PLACES),
             3 => refused(random, step),
@@ -229,6 +231,22 @@ pub fn holds(random: &mut Random, _turn: u64) -> Folder {
         });
     }
     Folder::new(&JOB, &[CHAIN], &log)
+}
+
+/// Records with both numbers exact, with one rounded and with both, and holds of them. Every other window is a single cell,
+/// so that exact readings have one place too.
+pub fn marks(random: &mut Random, turn: u64) -> Folder {
+    let mut log = Vec::new();
+    for step in 1..=random.between(5, 40) as u32 {
+        log.push(match random.below(8) {
+            0..=2 => pieces::rounded_grid(random, step),
+            3 => pieces::fix(1, step, TWO_PLACES),
+            4 => pieces::rounded_fix(random, 1, step, TWO_PLACES),
+            5 => pieces::rounded_fix(random, 1, step, ONE_PLACE),
+            _ => pieces::hold(step),
+        });
+    }
+    Folder::new(&Job { k: turn as u32 % 2, ..JOB }, &[CHAIN], &log)
 }
 
 /// A short last record of every length.

@@ -13,7 +13,7 @@ use crate::tracks::{self, Purse};
 type Kind = fn(&mut Random, u64) -> Folder;
 
 /// The kinds of logs, taken in turn.
-const KINDS: [Kind; 17] = [
+const KINDS: [Kind; 18] = [
     tracks::track,
     edges::refusals,
     tracks::damaged,
@@ -26,6 +26,7 @@ const KINDS: [Kind; 17] = [
     edges::tables,
     tracks::track,
     edges::holds,
+    edges::marks,
     tracks::squares,
     edges::tails,
     edges::absences,
@@ -95,12 +96,19 @@ mod tests {
             .flat_map(|text| text.lines())
             .filter_map(|line| line.split_once(' '))
             .map(|(_, rest)| rest.split_once(' ').unwrap())
-            .map(|(word, rest)| (word, if word == "REFUSED" { rest.split(' ').next().unwrap() } else { "" }))
+            .map(|(word, rest)| (word, if word == "REFUSED" { rest.split(' ').next().unwrap() } else { last_field(rest) }))
             .collect();
-        let mut expected: BTreeSet<(&str, &str)> = [("FIX", ""), ("GRID", ""), ("HOLD", "")].into();
+        let mut expected: BTreeSet<(&str, &str)> = BTreeSet::new();
+        for word in ["FIX", "GRID", "HOLD"] {
+            expected.extend([(word, "0"), (word, "1")]);
+        }
         let numbers = ["1", "2", "3", "4", "5", "6", "7", "8", "9", "10", "11"];
         expected.extend(numbers.map(|number| ("REFUSED", number)));
         assert_eq!(words, expected);
+    }
+
+    fn last_field(line: &str) -> &str {
+        line.rsplit(' ').next().unwrap()
     }
 
     #[test]

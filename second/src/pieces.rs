@@ -8,13 +8,19 @@ use crate::search::Job;
 
 const SIGN: u64 = 1 << 63;
 
-/// Patterns at the limits of binary64 and of 01: both zeros, subnormals, 10,000,000 and its neighbours, infinities, NaNs.
-const EDGE_PATTERNS: [u64; 16] = [
+/// The binary64 number nearest to half a centimetre; a little above it.
+const HALF_CENTIMETRE: u64 = 0x3f74_7ae1_47ae_147b;
+
+/// Patterns at the limits of binary64 and of 01: both zeros, subnormals, half a centimetre and 10,000,000 metres with their
+/// neighbours, infinities, NaNs.
+const EDGE_PATTERNS: [u64; 18] = [
     0,
     1,
     0x000f_ffff_ffff_ffff,
     0x0010_0000_0000_0000,
-    0x3f74_7ae1_47ae_147b,
+    HALF_CENTIMETRE - 1,
+    HALF_CENTIMETRE,
+    HALF_CENTIMETRE + 1,
     0x3f84_7ae1_47ae_147b,
     0x412e_8480_0000_0000,
     0x412e_8480_028f_5c29,
@@ -30,6 +36,15 @@ const EDGE_PATTERNS: [u64; 16] = [
 
 pub fn anywhere(random: &mut Random) -> Place {
     chart::place(random.between(0, MOST_EASTING.into()) as u32, random.between(0, MOST_NORTHING.into()) as u32)
+}
+
+/// Any place, or one in whole quarters of a metre, whose numbers are exact.
+pub fn any_place(random: &mut Random) -> Place {
+    let place = anywhere(random);
+    if random.once_in(2) {
+        return place;
+    }
+    chart::place(place.easting / 25 * 25, place.northing / 25 * 25)
 }
 
 /// A place in range, at most `reach` from another in easting and in northing.
@@ -138,6 +153,26 @@ pub fn tie_pattern(random: &mut Random) -> u64 {
     half_centimetre.wrapping_add(random.between(-2, 2) as u64)
 }
 
+/// A number of whole quarters of a metre, the only ones that are not rounded.
+pub fn exact_pattern(random: &mut Random) -> u64 {
+    let reach = random.pick(&[4, 4000, 40_000_000]);
+    numbers::pattern_of(random.between(-reach, reach), 4)
+}
+
+/// A number that a place may have: exact, rounded up or down, a tie, about half a centimetre, or nearly nothing.
+pub fn place_pattern(random: &mut Random) -> u64 {
+    let reach = random.pick(&[0, 100, 40_000, i64::from(MOST_EASTING) - 1]);
+    let centimetres = random.between(0, reach);
+    match random.below(8) {
+        0..=2 => numbers::pattern_of(centimetres / 25, 4),
+        3 => random.below(2) * SIGN,
+        4 => numbers::pattern_of(centimetres / 25 * 2 + 1, 8),
+        5 => HALF_CENTIMETRE.wrapping_add(random.between(-1, 1) as u64),
+        6 => random.below(1 << 52) | random.next() & SIGN,
+        _ => rounding_to(random, centimetres),
+    }
+}
+
 /// A pattern of any exponent.
 pub fn any_pattern(random: &mut Random) -> u64 {
     match random.below(4) {
@@ -153,10 +188,22 @@ pub fn pattern(centimetres: i64) -> u64 {
     numbers::pattern_of(centimetres.clamp(-MOST_CENTIMETRES, MOST_CENTIMETRES), 100)
 }
 
-/// A number of metres that rounds to these centimetres but is mostly not the nearest to them.
-pub fn inexact_pattern(random: &mut Random, centimetres: i64) -> u64 {
+/// A number of metres that rounds to these centimetres: the nearest to them, one beside it, or mostly any other.
+pub fn rounding_to(random: &mut Random, centimetres: i64) -> u64 {
     let inside = centimetres.clamp(1 - MOST_CENTIMETRES, MOST_CENTIMETRES - 1);
-    numbers::pattern_of(1000 * inside + random.between(-499, 499), 100_000)
+    let nearest = pattern(inside);
+    match random.below(4) {
+        0 => nearest,
+        1 if inside == 0 => random.below(2) * SIGN + random.below(2),
+        1 => nearest - 1 + 2 * random.below(2),
+        _ => numbers::pattern_of(1000 * inside + random.between(-499, 499), 100_000),
+    }
+}
+
+/// The readings in whole quarters of a metre that are nearest to these; they differ by 12 centimetres at most.
+pub fn exact_readings(near: Readings) -> Readings {
+    let quarters = |reading: i64| (reading + 12).div_euclid(25) * 25;
+    Readings { a: quarters(near.a), b: quarters(near.b) }
 }
 
 pub fn record(kind: u8, chain: u8, line: u32, fields: [u64; 3]) -> [u8; RECORD] {
@@ -174,8 +221,18 @@ pub fn fix(chain: u8, line: u32, wanted: Readings) -> [u8; RECORD] {
     record(1, chain, line, [pattern(wanted.a), pattern(wanted.b), 0])
 }
 
+/// Readings that round to these, each of them exact or not.
+pub fn rounded_fix(random: &mut Random, chain: u8, line: u32, wanted: Readings) -> [u8; RECORD] {
+    record(1, chain, line, [rounding_to(random, wanted.a), rounding_to(random, wanted.b), 0])
+}
+
 pub fn grid(line: u32, place: Place) -> [u8; RECORD] {
     record(2, 0, line, [pattern(place.easting.into()), pattern(place.northing.into()), 0])
+}
+
+/// A place whose numbers are each exact or not.
+pub fn rounded_grid(random: &mut Random, line: u32) -> [u8; RECORD] {
+    record(2, 0, line, [place_pattern(random), place_pattern(random), 0])
 }
 
 pub fn hold(line: u32) -> [u8; RECORD] {
@@ -219,6 +276,7 @@ pub fn damage(random: &mut Random, bytes: &mut Vec<u8>) {
 #[cfg(test)]
 mod tests {
     use super::*;
+    use crate::numbers::Mark;
     use crate::records::Entry;
 
     #[test]
@@ -241,8 +299,22 @@ mod tests {
             let east = u64::from(station.easting.abs_diff(place.easting));
             let north = u64::from(station.northing.abs_diff(place.northing));
             assert_eq!(east * east + north * north, (north + 1) * (north + 1) - 1);
-            let inexact = inexact_pattern(&mut random, wanted.a);
-            assert_eq!(numbers::centimetres(inexact).unwrap().0, wanted.a);
+        }
+    }
+
+    #[test]
+    fn numbers_are_rounded_as_they_should() {
+        let mut random = Random::new(6);
+        let mark = |pattern| numbers::centimetres(pattern).unwrap().1;
+        for _ in 0..20_000 {
+            let centimetres = random.between(-3, 3) + random.pick(&[0, 25, -40_000, 999_999_000, -999_999_000]);
+            let rounding = rounding_to(&mut random, centimetres);
+            assert_eq!(numbers::centimetres(rounding).unwrap().0, centimetres);
+            assert_eq!(mark(exact_pattern(&mut random)), Mark::Equal);
+            let exact = exact_readings(Readings { a: centimetres, b: -centimetres });
+            assert!(exact.a.abs_diff(centimetres) <= 12 && exact.b.abs_diff(-centimetres) <= 12);
+            assert_eq!([mark(pattern(exact.a)), mark(pattern(exact.b))], [Mark::Equal; 2]);
+            assert!(records::entry(&rounded_grid(&mut random, 1)).is_ok());
         }
     }
 }

@@ -74,12 +74,12 @@ pub fn track(random: &mut Random, _turn: u64) -> Folder {
     let mut purse = Purse(12_000);
     let mut log = Vec::new();
     for step in 1..=random.between(1, 40) as u32 {
-        let wanted = chart::readings(&chain, place);
+        let wanted = track_readings(random, &chain, place, job.tolerance);
         match random.below(8) {
             0 => log.push(pieces::grid(step, place)),
             1 => log.push(pieces::hold(step)),
             _ if !purse.pays(&chain, wanted, &job) => {}
-            2 => log.push(inexact_fix(random, number, step, wanted)),
+            2 => log.push(pieces::rounded_fix(random, number, step, wanted)),
             _ => log.push(pieces::fix(number, step, wanted)),
         }
         place = pieces::about(random, place, 2 + (1 << k) / 16);
@@ -87,9 +87,13 @@ pub fn track(random: &mut Random, _turn: u64) -> Folder {
     Folder::new(&job, &chains, &log)
 }
 
-fn inexact_fix(random: &mut Random, number: u8, line: u32, wanted: Readings) -> [u8; 32] {
-    let fields = [pieces::inexact_pattern(random, wanted.a), pieces::inexact_pattern(random, wanted.b), 0];
-    pieces::record(1, number, line, fields)
+/// The readings at a place; sometimes the nearest exact ones, where the tolerance allows it.
+fn track_readings(random: &mut Random, chain: &Chain, place: Place, tolerance: u32) -> Readings {
+    let wanted = chart::readings(chain, place);
+    if tolerance >= 12 && random.once_in(2) {
+        return pieces::exact_readings(wanted);
+    }
+    wanted
 }
 
 /// One place in many chains, at distances where a rounded root would be one too large.
@@ -155,7 +159,8 @@ pub fn double_crossings(random: &mut Random, turn: u64) -> Folder {
     let mut purse = Purse(12_000);
     let mut log = Vec::new();
     for step in 1..=random.between(1, 12) as u32 {
-        let place = beside(middle, bearing, random.between(-extent, extent), random.between(-extent, extent));
+        let mut any = || beside(middle, bearing, random.between(-extent, extent), random.between(-extent, extent));
+        let place = if step % 2 == 0 { exact_place(&chain, any) } else { any() };
         let wanted = chart::readings(&chain, place);
         if purse.pays(&chain, wanted, &job) {
             log.push(pieces::fix(1, step, wanted));
@@ -163,6 +168,18 @@ pub fn double_crossings(random: &mut Random, turn: u64) -> Folder {
         log.push(if random.once_in(3) { pieces::grid(step, place) } else { pieces::hold(step) });
     }
     Folder::new(&job, &[chain], &log)
+}
+
+/// A place whose readings are both exact, or just any if chance does not soon find one.
+fn exact_place(chain: &Chain, mut any: impl FnMut() -> Place) -> Place {
+    for _ in 0..2000 {
+        let place = any();
+        let wanted = chart::readings(chain, place);
+        if wanted == pieces::exact_readings(wanted) {
+            return place;
+        }
+    }
+    any()
 }
 
 /// The stations of source document 002, with readings that cross twice in one window.
