@@ -4,15 +4,15 @@
  * Words are separated by single spaces. Numbers are decimal. BYTES, CHAIN, JOB, TABLE, LOG and TEXT are lower-case hexadecimal, `-`
  * for no bytes. A CHAIN, and the JOB of a search, may also be its numbers with commas between, as in 0,0,30000,0,0,40000 and
  * 30000,40000,1,0,100; for log records CHAIN is the chain's number. A PATTERN is the bits of a binary64 number in 16 hexadecimal
- * digits, the highest first. READING.. and N.. are any number of numbers. R is the number of the refusal, 0 for none. LENGTH is how
- * many elements a lent buffer or list has, and DIRT is what each of them holds before the call.
+ * digits, the highest first. READING.. and N.. are any number of numbers. R is the number of the refusal, 0 for none. A MARK is 0, 1
+ * or 2 as in lay.h. LENGTH is how many elements a lent buffer or list has, and DIRT is what each of them holds before the call.
  *
  *   version                                      ->  VERSION
- *   centimetres PATTERN                          ->  R C
+ *   centimetres PATTERN                          ->  R C MARK
  *   metres C                                     ->  R PATTERN
  *   expected LENGTH DIRT CHAIN E N               ->  R and every entry of the list
  *   search LENGTH DIRT CHAIN JOB READING..       ->  R COUNT VISITS and every entry of the list
- *   read_record BYTES                            ->  R KIND CHAIN LINE X Y
+ *   read_record BYTES                            ->  R KIND CHAIN LINE X Y XMARK YMARK
  *   write_record LENGTH DIRT KIND CHAIN LINE X Y ->  R BYTES, the whole buffer
  *   read_job BYTES                               ->  R E N K T ALLOWANCE
  *   write_job LENGTH DIRT E N K T ALLOWANCE      ->  R BYTES
@@ -20,8 +20,9 @@
  *   chain LENGTH DIRT NUMBER TABLE               ->  R BYTES
  *   read_chain LENGTH DIRT CHAIN                 ->  R and every entry of the list
  *   write_chain LENGTH DIRT N..                  ->  R BYTES
- *   list LENGTH DIRT HELD E N JOB TABLE LOG      ->  R TEXTLENGTH HELD E N TEXT, and `kept` if every byte after the text
- *                                                    still holds DIRT, else `touched`
+ *   list LENGTH DIRT HELD E N ROUNDED JOB TABLE LOG
+ *                                                ->  R TEXTLENGTH HELD E N ROUNDED TEXT, and `kept` if every byte after the
+ *                                                    text still holds DIRT, else `touched`
  *
  * Each buffer, list and result that is lent to a call has exactly its length and lies between guard bytes; a result holds dirt
  * before the call. If the call has changed a guard, or bytes that it may only read, the answer ends with `damaged`. The program
@@ -39,7 +40,8 @@
 _Static_assert(sizeof(struct lay_found) == 2 * sizeof(uint64_t), "two numbers of 64 bits");
 _Static_assert(offsetof(struct lay_found, visits) == 8, "the second of them");
 _Static_assert(offsetof(struct lay_part, held) == 8 && offsetof(struct lay_part, easting) == 12, "behind the length");
-_Static_assert(offsetof(struct lay_part, northing) == 16, "the last of five numbers of 32 bits");
+_Static_assert(offsetof(struct lay_part, northing) == 16 && offsetof(struct lay_part, rounded) == 20, "behind these");
+_Static_assert(sizeof(struct lay_part) == 24, "and nothing else");
 
 enum { GUARD = 64, GUARD_BYTE = 0xC3, RESULT_DIRT = 0xA5, MOST_LENT = 8 };
 
@@ -288,8 +290,9 @@ static void ask_centimetres(void)
 {
     double metres = pattern();
     int64_t *centimetres = result_signed();
-    uint32_t refusal = lay_centimetres(metres, centimetres);
-    printf("%" PRIu32 " %" PRId64, refusal, *centimetres);
+    uint32_t *mark = result32();
+    uint32_t refusal = lay_centimetres(metres, centimetres, mark);
+    printf("%" PRIu32 " %" PRId64 " %" PRIu32, refusal, *centimetres, *mark);
 }
 
 static void ask_metres(void)
@@ -356,8 +359,10 @@ static void ask_read_record(void)
     struct bytes s = bytes();
     uint32_t *kind = result32(), *number = result32(), *line = result32();
     int64_t *x = result_signed(), *y = result_signed();
-    uint32_t refusal = lay_read_record(s.at, s.length, kind, number, line, x, y);
-    printf("%" PRIu32 " %" PRIu32 " %" PRIu32 " %" PRIu32 " %" PRId64 " %" PRId64, refusal, *kind, *number, *line, *x, *y);
+    uint32_t *x_mark = result32(), *y_mark = result32();
+    uint32_t refusal = lay_read_record(s.at, s.length, kind, number, line, x, y, x_mark, y_mark);
+    printf("%" PRIu32 " %" PRIu32 " %" PRIu32 " %" PRIu32, refusal, *kind, *number, *line);
+    printf(" %" PRId64 " %" PRId64 " %" PRIu32 " %" PRIu32, *x, *y, *x_mark, *y_mark);
 }
 
 static void ask_write_record(void)
@@ -443,11 +448,12 @@ static void ask_list(void)
     part->held = number32();
     part->easting = number32();
     part->northing = number32();
+    part->rounded = number32();
     struct bytes job = bytes(), table = bytes(), log = bytes();
     uint32_t refusal =
         lay_list(text, length, job.at, job.length, table.at, table.length, log.at, log.length, part);
-    printf("%" PRIu32 " %" PRIu64 " %" PRIu32 " %" PRIu32 " %" PRIu32, refusal, part->length, part->held, part->easting,
-           part->northing);
+    printf("%" PRIu32 " %" PRIu64 " %" PRIu32 " %" PRIu32 " %" PRIu32 " %" PRIu32, refusal, part->length, part->held,
+           part->easting, part->northing, part->rounded);
     if (part->length > length) {
         fputs(" beyond", stdout);
         return;
@@ -476,7 +482,7 @@ static const struct verb {
     {"chain", 4, false, ask_chain},
     {"read_chain", 3, false, ask_read_chain},
     {"write_chain", 2, true, ask_write_chain},
-    {"list", 8, false, ask_list},
+    {"list", 9, false, ask_list},
 };
 
 static const struct verb *verb(void)
