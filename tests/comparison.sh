@@ -61,10 +61,14 @@ ask "$second" answers
 while read -r line; do
     pass_if "a line $line is among the listings" grep -qE "^$line" "$listed"
 done <<'END'
-[0-9]+ FIX 1 [0-9]+ [0-9]+ [0-9]+$
-[0-9]+ FIX 2 [0-9]+ [0-9]+ [0-9]+ [0-9]+ [0-9]+$
-[0-9]+ GRID 1 0 [0-9]+ [0-9]+$
-[0-9]+ HOLD 1 0 [0-9]+ [0-9]+$
+[0-9]+ FIX 1 [0-9]+ [0-9]+ [0-9]+ 0$
+[0-9]+ FIX 1 [0-9]+ [0-9]+ [0-9]+ 1$
+[0-9]+ FIX 2 [0-9]+ [0-9]+ [0-9]+ [0-9]+ [0-9]+ 0$
+[0-9]+ FIX 2 [0-9]+ [0-9]+ [0-9]+ [0-9]+ [0-9]+ 1$
+[0-9]+ GRID 1 0 [0-9]+ [0-9]+ 0$
+[0-9]+ GRID 1 0 [0-9]+ [0-9]+ 1$
+[0-9]+ HOLD 1 0 [0-9]+ [0-9]+ 0$
+[0-9]+ HOLD 1 0 [0-9]+ [0-9]+ 1$
 [0-9]+ REFUSED 2 0$
 [0-9]+ REFUSED 3 0$
 [0-9]+ REFUSED 4 0$
@@ -80,6 +84,20 @@ JOB REFUSED 6$
 JOB REFUSED 7$
 CHAIN REFUSED 1$
 END
+
+# hold_of WORD FIELD: that a line with this word and this last field has a HOLD below it, which repeats the field
+hold_of() {
+    awk -v word="$1" -v field="$2" '
+        $2 == "HOLD" && above == word && last == field && $NF == field { found = 1; exit }
+        { above = $2; last = $NF }
+        END { exit !found }' "$listed"
+}
+for word in FIX GRID HOLD; do
+    for field in 0 1; do
+        pass_if "a HOLD of a $word line ends with $field" hold_of $word $field
+    done
+done
+
 pass_if 'a log of 20,000 records is among them' [ -n "$(find "$logs" -name lay.dat -size +639999c -print -quit)" ]
 for file in job.dat chain.dat lay.dat; do
     pass_if "$file is missing somewhere" [ "$(find "$logs" -name "$file" | wc -l)" -lt "$folders" ]
@@ -99,10 +117,70 @@ refuses chain 0 1 5
 refuses read_chain 0 1 5
 refuses write_chain 0 1 5
 refuses list 0 9
-told version 1
+told version 2
+
+# Each mark, above and below zero; then half a centimetre, which is no binary64 number, and its neighbours; ties; quarters of a metre;
+# zeros and the smallest numbers; the limit. A refusal has no mark.
+for mark in 0 1 2; do
+    told 'centimetres [0-7][0-9a-f]{15}' "0 [1-9][0-9]* $mark"
+    told 'centimetres [89a-f][0-9a-f]{15}' "0 -[1-9][0-9]* $mark"
+done
+while read -r number answer; do
+    told "centimetres $number" "$answer"
+done <<'END'
+3f747ae147ae147a 0 0 2
+3f747ae147ae147b 0 1 1
+3f747ae147ae147c 0 1 1
+bf747ae147ae147a 0 0 1
+bf747ae147ae147b 0 -1 2
+bf747ae147ae147c 0 -1 2
+3fc0000000000000 0 12 2
+3fd8000000000000 0 38 1
+bfc0000000000000 0 -12 1
+bfd8000000000000 0 -38 2
+3fd0000000000000 0 25 0
+bfd0000000000000 0 -25 0
+0000000000000000 0 0 0
+8000000000000000 0 0 0
+0000000000000001 0 0 2
+8000000000000001 0 0 1
+416312cfffffffff 0 1000000000 1
+416312d000000000 0 1000000000 0
+416312d000000001 3 0 0
+c16312cfffffffff 0 -1000000000 2
+c16312d000000000 0 -1000000000 0
+c16312d000000001 3 0 0
+7ff0000000000000 3 0 0
+END
+
+# Records with every two marks. A hold has none, and neither has a refused record whose first number is rounded: one below 2 metres
+# with the last bit set.
+for kind in 1 2; do
+    for marks in {0,1,2}' '{0,1,2}; do
+        told 'read_record [0-9a-f]{64}' "0 $kind [0-9]+ [0-9]+ -?[0-9]+ -?[0-9]+ $marks"
+    done
+done
+told 'read_record 03.{62}' '0 3 0 [0-9]+ 0 0 0 0'
+for refusal in 2 3 4; do
+    told 'read_record 0[12].{14}.[13579bdf].{12}[3b]f.{32}' "$refusal 0 0 [0-9]+ 0 0 0 0"
+done
+
+# What is held: an empty log passes it on as 0 or 1, a hold prints it, and a refusal leaves nothing of it.
+lent='[0-9]+ [0-9]+' place='[0-9]+ [0-9]+' files='[0-9a-f]+ [0-9a-f]+'
+hold='(3[0-9])+20484f4c442031203020(3[0-9])+20(3[0-9])+20'
+for rounded in 0 1 7; do
+    told "list $lent 0 $place $rounded $files -" '0 0 0 0 0 0 - kept'
+    for held in 1 7; do
+        given="list $lent $held $place $rounded" last=$((rounded > 0))
+        told "$given $files -" "0 0 1 $place $last - kept"
+        told "$given $files 03[0-9a-f]+" "0 [0-9]+ [01] $place [01] ${hold}3${last}0a[0-9a-f]* kept"
+    done
+done
+told "list $lent [17] $place [17] .*" '9 0 0 0 0 0 - kept'
+told "list $lent [17] $place [17] .*" '0 14 0 0 0 0 4a4f422052454655534544203[1267]0a kept'
 
 # Searches with the chain and the job given by numbers and by bytes, and with lengths that do not fit.
-lent='[0-9]+ [0-9]+' numbers='[0-9]+(,[0-9]+)+' readings='-?[0-9]+ -?[0-9]+'
+numbers='[0-9]+(,[0-9]+)+' readings='-?[0-9]+ -?[0-9]+'
 told "search $lent $numbers $numbers $readings" '0 .*'
 told "search $lent [0-9a-f]{48} [0-9a-f]{64} $readings" '0 .*'
 for digits in 46 50 96; do
