@@ -2,7 +2,7 @@
 """Makes requests about metres and centimetres in the words of lay.c, and answers them by rule.py and in a second way.
 
     metres.py named        prints the chosen requests, one to a line
-    metres.py random SEED  prints 1,000 of each of six kinds at random
+    metres.py random SEED  prints 1,000 of each of eight kinds at random
     metres.py answers      answers the requests on standard input
 
 rule.py leaves it to Python to turn bit patterns into floats and to round. Here a pattern is taken apart into its fields and becomes
@@ -52,12 +52,15 @@ def pattern_of(value):
 
 
 def centimetres(pattern):
-    """The refusal and the centimetres of a number of metres."""
+    """The refusal, the centimetres and the mark of a number of metres. Below zero, what is nearer to zero lies above."""
     size = size_of(pattern)
     if size is None or size > 10_000_000:
-        return 3, 0
+        return 3, 0, rule.EQUAL
     whole = nearest(100 * size)
-    return 0, -whole if pattern >= MINUS else whole
+    over = 100 * size - whole
+    if pattern >= MINUS:
+        whole, over = -whole, -over
+    return 0, whole, rule.ABOVE if over > 0 else rule.BELOW if over < 0 else rule.EQUAL
 
 
 def metres(number):
@@ -78,8 +81,10 @@ def answer_to(line):
     verb, word = line.split()
     if verb == "centimetres":
         pattern = int(word, 16)
-        refusal, whole = rule.tried(rule.centimetres, struct.unpack("<d", struct.pack("<Q", pattern))[0])
-        return "{} {}".format(*same(line, (refusal, whole or 0), centimetres(pattern)))
+        (x,) = struct.unpack("<d", struct.pack("<Q", pattern))
+        refusal, whole = rule.tried(rule.centimetres, x)
+        by_rule = (refusal, 0, rule.EQUAL) if refusal else (0, whole, rule.mark(x))
+        return "{} {} {}".format(*same(line, by_rule, centimetres(pattern)))
     refusal, x = rule.tried(rule.metres, int(word))
     (pattern,) = struct.unpack("<Q", struct.pack("<d", x or 0.0))
     return "{} {:016x}".format(*same(line, (refusal, pattern), metres(int(word))))
@@ -117,6 +122,9 @@ def named():
     # ties: odd eighths of a metre, small and up to the limit
     for eighths in *range(1, 42, 2), 1_000_001, 33_554_431, 79_999_997, 79_999_999:
         yield from both([pattern_of(Fraction(eighths, 8))])
+    # multiples of a quarter of a metre, which alone are exact, and their neighbours, which are not
+    for quarters in *range(1, 42), 4_000_001, 33_554_433, 39_999_998, 39_999_999, 40_000_000:
+        yield from both(beside(Fraction(quarters, 4)))
     # odd half centimetres, which are mostly not exact in binary64, and their neighbours on both sides
     for halves in *range(1, 42, 2), 2_001, 200_001, 20_000_001, 1_999_999_999:
         yield from both(beside(Fraction(halves, 200)))
@@ -139,6 +147,8 @@ def at_random(seed):
         yield reading(sign + draw.randrange(1000 * DIGITS, 1050 * DIGITS))
         yield reading(sign + draw.choice(beside(Fraction(draw.randrange(1, 2_000_000_000, 2), 200))))
         yield reading(sign + pattern_of(Fraction(draw.randrange(1, 80_000_000, 2), 8)))
+        yield reading(sign + pattern_of(Fraction(draw.randrange(1, 40_000_001), 4)))
+        yield reading(sign + draw.choice(beside(Fraction(draw.randrange(1, 40_000_000), 4))))
         yield from there_and_back([draw.randint(-1_000_000_000, 1_000_000_000), draw.getrandbits(64) - MINUS])
 
 

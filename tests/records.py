@@ -65,11 +65,11 @@ def told(request):
 
 
 def record_answer(s):
-    """The line number is given for every record of 32 bytes, the other fields only for an accepted one."""
+    """The line number is given for every record of 32 bytes, the other fields and the marks only for an accepted one."""
     refusal, record = rule.tried(rule.log_record, s)
     if refusal:
-        return refusal, 0, 0, rule.raw_record(s).line if len(s) == 32 else 0, 0, 0
-    return 0, record.kind, record.chain, record.line, *(record.numbers or (0, 0))
+        return refusal, 0, 0, rule.raw_record(s).line if len(s) == 32 else 0, 0, 0, 0, 0
+    return 0, record.kind, record.chain, record.line, *(record.numbers or (0, 0)), *(record.marks or (rule.EQUAL,) * 2)
 
 
 def count_answer(s):
@@ -305,6 +305,41 @@ def roundings():
         yield "read_record", grid(first=min(x, 1e6), second=x)
 
 
+# Numbers of metres on the chart that are exact, that lie below their centimetres and that lie above them.
+MARKED = 300.25, 300.01, 300.04
+
+
+def marks():
+    """Every two of these in a record, as they are and as readings below zero; then with a fault, after which no mark is left."""
+    assert [rule.mark(x) for x in MARKED] == [rule.EQUAL, rule.BELOW, rule.ABOVE]
+    for first in MARKED:
+        for second in MARKED:
+            yield "read_record", grid(first, second)
+            for one, other in (first, second), (-first, second), (first, -second), (-first, -second):
+                yield "read_record", log(first=one, second=other)
+            for faults in {"two": 1}, {"third": MINUS}:
+                yield "read_record", log(first=first, second=second, **faults)
+                yield "read_record", grid(first, second, **faults)
+            yield "read_record", grid(first, second)[:31]
+            yield "read_record", log(4, first=first, second=second)
+            yield "read_record", hold(first, second)
+    for x in MARKED:
+        for wrong in NAN, INFINITY, MINUS + INFINITY, nextafter(1e7, inf), -nextafter(1e7, inf):
+            yield "read_record", log(first=x, second=wrong)
+            yield "read_record", log(first=wrong, second=x)
+            yield "read_record", grid(x, wrong)
+            yield "read_record", grid(wrong, x)
+        for outside in -0.01, -0.25, 1_000_000.01, 1_000_000.25:
+            yield "read_record", grid(outside, x)
+        for outside in -0.01, -0.25:
+            yield "read_record", grid(x, outside)
+    # exact in the file, near to it, and nearest to nothing at all
+    for x in (0.25, 0.5, 0.75, 0.125, 0.01, 5e-324, 1e-9, 1_000_000.0, 999_999.75):
+        for each in beside(x):
+            yield "read_record", grid(abs(each), x)
+            yield "read_record", log(first=-x, second=-each)
+
+
 def moved(chain, station, place):
     return chain_of(*(place if i == station else p for i, p in enumerate(chain)))
 
@@ -426,7 +461,7 @@ def rooms():
             yield "read_chain", 6, FAR, s
 
 
-NAMED = examples, kinds, lengths, numbers, zeros, limits, roundings, chains, jobs, drafts, draft_faults, rooms
+NAMED = examples, kinds, lengths, numbers, zeros, limits, roundings, marks, chains, jobs, drafts, draft_faults, rooms
 
 
 def sweep():

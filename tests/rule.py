@@ -1,5 +1,5 @@
-"""The rules of document 01 in whole numbers and exact fractions, section by section in that paper's order. The Python programs of
-the tests share this one statement of them; the second program, second/, does not use it.
+"""The rules of document 01 in whole numbers and exact fractions, section by section in that paper's order, with what document 02
+adds to them. The Python programs of the tests share this one statement of them; the second program, second/, does not use it.
 
 A place is a pair, easting and northing, in centimetres. Readings are a tuple, one for each slave of a chain. A rule that can
 refuse makes its tests in the order that 01 gives, each with the number of its refusal.
@@ -100,6 +100,21 @@ def centimetres(metres):
     return round(100 * Fraction(metres))
 
 
+# 02, A1: where the exact hundredfold lies, as seen from the centimetres
+EQUAL, BELOW, ABOVE = 0, 1, 2
+
+
+def mark(metres):
+    """The mark of a binary64 number of metres, which is refused as its centimetres are."""
+    whole, exact = centimetres(metres), 100 * Fraction(metres)
+    return EQUAL if exact == whole else BELOW if exact < whole else ABOVE
+
+
+def rounded(marks):
+    """The last field of a line: 0 if all numbers of its record were exact, else 1."""
+    return 0 if all(each == EQUAL for each in marks) else 1
+
+
 def metres(centimetres):
     """The centimetres divided by 100 in one rounded operation: so Python divides two whole numbers."""
     refuse(3, abs(centimetres) > SIZE)
@@ -113,10 +128,13 @@ USED = {1: 2, 2: 2, 3: 0}
 
 
 class Record(NamedTuple):
+    """A record; once it is read, with the mark of each of its numbers."""
+
     kind: int
     chain: int
     line: int
     numbers: tuple
+    marks: tuple = ()
 
 
 def raw_record(s):
@@ -131,13 +149,14 @@ def zero_bytes(s):
 
 
 def log_record(s):
-    """A record with the numbers that its kind uses, in centimetres."""
+    """A record with the numbers that its kind uses, in centimetres, and their marks."""
     refuse(1, len(s) != 32)
     raw = raw_record(s)
     refuse(2, raw.kind not in USED or any(zero_bytes(s)))
-    numbers = tuple(map(centimetres, raw.numbers[: USED[raw.kind]]))
+    used = raw.numbers[: USED[raw.kind]]
+    numbers = tuple(map(centimetres, used))
     refuse(4, raw.kind == 2 and not in_range(numbers))
-    return raw._replace(numbers=numbers)
+    return raw._replace(numbers=numbers, marks=tuple(map(mark, used)))
 
 
 def record_bytes(record, length=32):
@@ -282,52 +301,59 @@ def expected(table, number, place):
     return readings(chain_in(table, number), place)
 
 
-# 01, The program
+# 01, The program, with the last field of 02's A1
 
 ROOM = 256
 
 
-def given(word, places, visits=0):
-    return word, len(places), visits, places
+class Held(NamedTuple):
+    """What a hold repeats: a place, and the last field of its line."""
+
+    place: tuple
+    rounded: int
+
+
+def given(word, places, last, visits=0):
+    return word, len(places), visits, places, [last]
 
 
 def refused(number, visits=0):
-    return "REFUSED", number, visits, []
+    return "REFUSED", number, visits, [], []
 
 
 def answer(job, table, held, s, find):
-    """A record's word, the count of its places or the number of its refusal, the visits and the places. `held` is a list of the
-    place that a hold repeats, or an empty list."""
+    """A record's word, the count of its places or the number of its refusal, the visits, the places, and a list of its last field,
+    which is empty for a refused record. `held` is what a hold repeats, or None."""
     refusal, record = tried(log_record, s)
     if refusal:
         return refused(refusal)
     if record.kind == 3:
-        return given("HOLD", held) if held else refused(11)
+        return given("HOLD", [held.place], held.rounded) if held else refused(11)
     if record.kind == 2:
-        return given("GRID", [record.numbers])
+        return given("GRID", [record.numbers], rounded(record.marks))
     refusal, chain = tried(chain_in, table, record.chain)
     if refusal:
         return refused(refusal)
     refusal, visits, places = find(chain, record.numbers, job, ROOM)
-    return refused(refusal, visits) if refusal else given("FIX", places, visits)
+    return refused(refusal, visits) if refusal else given("FIX", places, rounded(record.marks), visits)
 
 
 def lines(job, table, log, held, find):
-    """One line for each record, and with it a list of the place that a hold after it repeats, or an empty list."""
+    """One line for each record, and with it what a hold after it repeats, or None."""
     for s in pieces(log, 32):
-        *words, places = answer(job, table, held, s, find)
-        held = places if len(places) == 1 else []
+        *words, places, last = answer(job, table, held, s, find)
+        held = Held(*places, *last) if len(places) == 1 else None
         line = raw_record(s).line if len(s) == 32 else "-"
-        yield " ".join(map(str, (line, *words, *flat(places)))), held
+        yield " ".join(map(str, (line, *words, *flat(places), *last))), held
 
 
-def listing(job, table, log, held=(), find=search):
-    """The lines for the bytes of the three files. `log` may be a part of a log; then `held` has the place that the part before it
-    leaves. `find` may be another search that answers the same."""
+def listing(job, table, log, held=None, find=search):
+    """The lines for the bytes of the three files. `log` may be a part of a log; then `held` is what the part before it leaves to
+    repeat. `find` may be another search that answers the same."""
     refusal, asked = tried(job_in, job)
     if refusal:
-        return [(f"JOB REFUSED {refusal}", [])]
+        return [(f"JOB REFUSED {refusal}", None)]
     refusal, _ = tried(chains_in, table)
     if refusal:
-        return [(f"CHAIN REFUSED {refusal}", [])]
+        return [(f"CHAIN REFUSED {refusal}", None)]
     return list(lines(asked, table, log, held, find))
