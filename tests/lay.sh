@@ -1,6 +1,6 @@
 #!/usr/bin/env bash
-# Tests of lay_list, which lists a log into a buffer, at once or in parts: compared with document 01's listing and with the rule
-# (listing.py, rule.py). Also tests that the harness, lay.c, answers no ill-formed request.
+# Tests of lay_list, which lists a log into a buffer, at once or in parts: compared with document 01's listing, with the last field
+# that 02's A1 adds, and with the rule (listing.py, rule.py). Also tests that the harness, lay.c, answers no ill-formed request.
 cd "$(dirname "$0")/.." && . tests/common.bash && . tests/library.bash
 
 # digits TEXT: its bytes in hexadecimal
@@ -12,50 +12,76 @@ table=0000000000000000307500000000000000000000409c0000
 fix=010100000100000000000000000059c000000000000069c00000000000000000
 grid=02000000020000005c8fc2f528c0724000000000000079400000000000000000
 hold=0300000003000000000000000000000000000000000000000000000000000000
-lines=('1 FIX 2 5 30000 40000 30001 40001'$'\n' '2 GRID 1 0 30001 40000'$'\n' '3 HOLD 1 0 30001 40000'$'\n')
+lines=('1 FIX 2 5 30000 40000 30001 40001 0'$'\n' '2 GRID 1 0 30001 40000 1'$'\n' '3 HOLD 1 0 30001 40000 1'$'\n')
 whole=${lines[0]}${lines[1]}${lines[2]}
 
-# asks LENGTH DIRT HELD E N JOB TABLE LOG: adds a request; gives REFUSAL HELD E N TEXT: adds the answer that it must have
+# asks LENGTH DIRT HELD E N ROUNDED JOB TABLE LOG: adds a request; gives REFUSAL HELD E N ROUNDED TEXT: adds the answer that it must
+# have
 asks() { echo "list $*" >>"$requests"; }
 gives() {
     local text
-    text=$(digits "$5")
-    echo "$1 ${#5} $2 $3 $4 ${text:--} kept" >>"$asked/literal"
+    text=$(digits "$6")
+    echo "$1 ${#6} $2 $3 $4 $5 ${text:--} kept" >>"$asked/literal"
 }
 
-# The whole log at once; then its records one by one, each with the place that the record before it leaves.
-asks 23040 165 0 0 0 $job $table $fix$grid$hold
-gives 0 1 30001 40000 "$whole"
-asks 11520 165 0 0 0 $job $table $fix
-gives 0 0 0 0 "${lines[0]}"
-asks 11520 165 0 0 0 $job $table $grid
-gives 0 1 30001 40000 "${lines[1]}"
-asks 11520 165 1 30001 40000 $job $table $hold
-gives 0 1 30001 40000 "${lines[2]}"
+# The whole log at once; then its records one by one, each with the place and the last field that the record before it leaves.
+asks 23040 165 0 0 0 0 $job $table $fix$grid$hold
+gives 0 1 30001 40000 1 "$whole"
+asks 11520 165 0 0 0 0 $job $table $fix
+gives 0 0 0 0 0 "${lines[0]}"
+asks 11520 165 0 0 0 0 $job $table $grid
+gives 0 1 30001 40000 1 "${lines[1]}"
+asks 11520 165 1 30001 40000 1 $job $table $hold
+gives 0 1 30001 40000 1 "${lines[2]}"
 
-# A hold with nothing to hold (HELD is 0), whatever place is given with it; a HELD other than 0 and 1; a hold after a fix in a
-# window of one cell.
-asks 11520 0 0 30001 40000 $job $table $hold
-gives 0 0 0 0 '3 REFUSED 11 0'$'\n'
-asks 11520 0 4294967295 30001 40000 $job $table $hold
-gives 0 1 30001 40000 "${lines[2]}"
-asks 17280 10 0 0 0 ${job/0001/0000} $table $fix$hold
-gives 0 1 30000 40000 '1 FIX 1 1 30000 40000'$'\n''3 HOLD 1 0 30000 40000'$'\n'
+# A place of 300 m and 400 m, which is exact, with a hold in the next part, and a hold of that in the one after.
+exact=${grid/5c8fc2f528c07240/0000000000c07240}
+asks 11520 165 0 0 0 0 $job $table $exact
+gives 0 1 30000 40000 0 '2 GRID 1 0 30000 40000 0'$'\n'
+for part in first second; do
+    asks 11520 165 1 30000 40000 0 $job $table $hold
+    gives 0 1 30000 40000 0 '3 HOLD 1 0 30000 40000 0'$'\n'
+done
+
+# A hold with nothing to hold (HELD is 0), whatever is given with it; a HELD and a ROUNDED other than 0 and 1; a hold after a fix in a
+# window of one cell, also where its first reading is the number next to -100 m.
+asks 11520 0 0 30001 40000 1 $job $table $hold
+gives 0 0 0 0 0 '3 REFUSED 11 0'$'\n'
+asks 11520 0 4294967295 30001 40000 1 $job $table $hold
+gives 0 1 30001 40000 1 "${lines[2]}"
+asks 11520 0 1 30001 40000 9 $job $table $hold
+gives 0 1 30001 40000 1 "${lines[2]}"
+asks 11520 0 1 30001 40000 4294967294 $job $table $hold
+gives 0 1 30001 40000 1 "${lines[2]}"
+asks 17280 10 0 0 0 0 ${job/0001/0000} $table $fix$hold
+gives 0 1 30000 40000 0 '1 FIX 1 1 30000 40000 0'$'\n''3 HOLD 1 0 30000 40000 0'$'\n'
+asks 17280 10 0 0 0 0 ${job/0001/0000} $table ${fix/00000000000059c0/01000000000059c0}$hold
+gives 0 1 30000 40000 1 '1 FIX 1 1 30000 40000 1'$'\n''3 HOLD 1 0 30000 40000 1'$'\n'
+
+# An empty log passes on what it was given, as 0 or 1; with nothing held, no place and no field.
+asks 5760 0 1 30001 40000 0 $job $table -
+gives 0 1 30001 40000 0 ''
+asks 5760 0 7 30001 40000 9 $job $table -
+gives 0 1 30001 40000 1 ''
+asks 5760 0 0 30001 40000 1 $job $table -
+gives 0 0 0 0 0 ''
 
 # A buffer that is one byte too short, for the log and for an empty log; a short last record; a bad table; a bad job, which is
-# reported before a bad table.
-asks 23039 165 0 0 0 $job $table $fix$grid$hold
-gives 9 0 0 0 ''
-asks 5759 0 0 0 0 $job $table -
-gives 9 0 0 0 ''
-asks 5760 0 0 0 0 $job $table -
-gives 0 0 0 0 ''
-asks 11520 255 1 30001 40000 $job $table ${grid}03
-gives 0 0 0 0 "${lines[1]}"'- REFUSED 1 0'$'\n'
-asks 11520 255 0 0 0 $job ${table}00 $grid
-gives 0 0 0 0 'CHAIN REFUSED 1'$'\n'
-asks 11520 255 0 0 0 ${job/0001/0019} ${table}00 $grid
-gives 0 0 0 0 'JOB REFUSED 6'$'\n'
+# reported before a bad table. Nothing is held after any of these, whatever was held before.
+asks 23039 165 0 0 0 0 $job $table $fix$grid$hold
+gives 9 0 0 0 0 ''
+asks 5759 0 1 30001 40000 1 $job $table -
+gives 9 0 0 0 0 ''
+asks 5760 0 0 0 0 0 $job $table -
+gives 0 0 0 0 0 ''
+asks 11520 255 1 30001 40000 1 $job $table ${grid}03
+gives 0 0 0 0 0 "${lines[1]}"'- REFUSED 1 0'$'\n'
+asks 11520 255 1 30001 40000 1 $job ${table}00 $grid
+gives 0 0 0 0 0 'CHAIN REFUSED 1'$'\n'
+asks 11520 255 1 30001 40000 1 ${job/0001/0019} ${table}00 $grid
+gives 0 0 0 0 0 'JOB REFUSED 6'$'\n'
+asks 5760 255 1 30001 40000 1 ${job/0001/0019} $table -
+gives 0 0 0 0 0 'JOB REFUSED 6'$'\n'
 ask cat "$asked/literal"
 
 # The chosen folders.
@@ -105,5 +131,9 @@ search 1 7 0,0,30000,0,0,40000
 write_chain 24
 version 1
 list 5760 0 0 0 0 - -
+list 5760 0 0 0 0 - - -
+list 5760 0 0 0 0 0 - -
+list 5760 0 0 0 0 4294967296 - - -
+list 5760 0 0 0 0 -1 - - -
 END
 done_testing

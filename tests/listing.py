@@ -20,7 +20,8 @@ import random
 import subprocess
 import sys
 from functools import lru_cache
-from itertools import chain, cycle, islice
+from itertools import chain, cycle, islice, product
+from math import inf, nextafter
 from typing import NamedTuple
 
 # Without this the modules beside this one would leave compiled files in the tree.
@@ -45,9 +46,8 @@ class Folder(NamedTuple):
 searched = lru_cache(maxsize=None)(search.checked)
 
 
-def listed(folder, held=()):
-    """The lines of a folder, each with a list of the place that a hold after it repeats, or an empty list. A missing file counts
-    as empty."""
+def listed(folder, held=None):
+    """The lines of a folder, each with what a hold after it repeats, or None. A missing file counts as empty."""
     return rule.listing(*(content or b"" for content in folder), held, searched)
 
 
@@ -223,6 +223,29 @@ def holds():
     yield "hold_after_9", asking(P4._replace(k=5, tolerance=100_000, allowance=2000), log=GRID + FIX + HOLD)
 
 
+def with_neighbours(x):
+    """A number and its two neighbours. If the number is exact, they are rounded to the same centimetres, up and down."""
+    return x, nextafter(x, inf), nextafter(x, -inf)
+
+
+# 01's readings and a place, with every two such numbers; the first record of each list is exact.
+NEAR_FIXES = [records.log(first=a, second=b) for a, b in product(with_neighbours(-100.0), with_neighbours(-200.0))]
+NEAR_GRIDS = [records.grid(e, n) for e, n in product(with_neighbours(300.25), with_neighbours(400.0))]
+
+
+def roundings():
+    """The last field: of exact numbers, of one that was rounded, in either place and either way, and of two; of holds after each,
+    and of holds after holds. Where a fix has two places, its field is printed, and a hold after it has none to repeat."""
+    each = NEAR_FIXES + NEAR_GRIDS
+    yield "rounded_held", asking(ONE, log=numbered(*flat((record, HOLD, HOLD, HOLD) for record in each)))
+    yield "rounded_two_places", three(log=numbered(*flat((record, HOLD, HOLD) for record in each)))
+    yield "rounded_in_turn", asking(ONE, log=numbered(*flat((one, HOLD, other, HOLD, HOLD) for one in each for other in each[::4])))
+    refused = records.grid(first=-0.01), records.log(first=records.NAN, second=300.01), records.log(chain=2, first=-99.99), REFUSED
+    yield "rounded_refused", asking(ONE, log=numbered(*flat((GRID, HOLD, fault, HOLD, HOLD) for fault in refused)))
+    small = 0.0, -0.0, 5e-324, -5e-324, -0.001, 0.001, 0.125, 0.25, 0.375, 0.005, 999_999.75, nextafter(1e6, 0), 1e6
+    yield "rounded_places", three(log=numbered(*flat((records.grid(x, abs(y)), HOLD) for x in small for y in small)))
+
+
 def rooms():
     """As many places as the program has room for, and one more: all cells of a window, and some of them."""
     for k in 3, 4, 5:
@@ -233,7 +256,8 @@ def rooms():
     for allowance in 346, 347:
         yield f"room_or_allowance_{allowance}", asking(P4._replace(k=5, tolerance=100_000, allowance=allowance))
     q = longest_line()
-    yield "longest_line", asking(q, log=readings_record(1, q.wanted, 2**32 - 1) * 2)
+    for a in with_neighbours(q.wanted[0] / 100)[:2]:
+        yield f"longest_line_{rule.rounded([rule.mark(a)])}", asking(q, log=records.log(1, 1, 2**32 - 1, a, q.wanted[1] / 100) * 2)
 
 
 def longest_line():
@@ -265,7 +289,7 @@ def numbers():
     yield "every_byte", three(table=records.PAIR, log=b"".join(swept))
 
 
-CASES = lengths, missing, jobs, tables, holds, rooms, searches, numbers
+CASES = lengths, missing, jobs, tables, holds, roundings, rooms, searches, numbers
 
 
 def cases():
@@ -276,17 +300,25 @@ def cases():
 
 
 def part_ends():
-    """Different places without end, with a hold as every sixteenth record; the record before the hold is of five kinds in turn."""
+    """Different places without end, with a hold as every sixteenth record; the record before the hold is of five kinds in turn. The
+    places of every other sixteen records are exact."""
     i = 0
     while True:
-        last = place_record((i, 3 * i), i), records.hold(line=i), REFUSED, FIX, records.log(first=-99.99)
+        place = place_of_its_own(i, i // 16 % 2 == 1)
+        last = place, records.hold(line=i), REFUSED, FIX, records.log(first=-99.99)
         if i % 16 == 0:
             yield records.hold(line=i)
         elif i % 16 == 15:
             yield last[i // 16 % 5]
         else:
-            yield place_record((i, 3 * i), i)
+            yield place
         i += 1
+
+
+def place_of_its_own(i, exact):
+    """A grid record of a place that no other number has; exact if both its numbers are whole quarters of a metre."""
+    step = 25 if exact else 1
+    return place_record((step * i, step * (3 * i + 1)), i)
 
 
 def part_log(count):
@@ -294,10 +326,11 @@ def part_log(count):
 
 
 def over_edges():
-    """A hold as the first record of every part but the first, also of the second buffer, each just after a place of its own."""
+    """A hold as the first record of every part but the first, also of the second buffer, each just after a place of its own, exact
+    and rounded in turn."""
     log = [REFUSED] * (2048 + 128 + 1)
     for first in range(128, len(log), 128):
-        log[first - 1 : first + 1] = place_record((first, 3 * first), first), records.hold(line=first)
+        log[first - 1 : first + 1] = place_of_its_own(first, first // 128 % 2 == 1), records.hold(line=first)
     return b"".join(log)
 
 
@@ -401,24 +434,60 @@ def at_random(seed):
 # Requests to the library, which lists a log at once or in parts and leaves its text in a buffer
 
 
+# The room for a line. The longest has a line number of 10 digits, visits of 20, and 256 places in the far corner of the chart.
+LINE = 5760
+assert len("4294967295 FIX 256 18446744073709551615" + " 100000000 1000000000" * rule.ROOM + " 1\n") <= LINE
+
+
 def needed(log):
     """How many bytes the buffer must have for a log."""
-    return 5760 * (len(log) // 32 + 1)
+    return LINE * (len(log) // 32 + 1)
 
 
-def request(folder, held=(0, 0, 0), length=None, dirt=165):
+def held_by(held, easting, northing, rounded):
+    """What these numbers of a part say that a hold repeats; any `held` or `rounded` other than 0 counts as 1."""
+    return rule.Held((easting, northing), 1 if rounded else 0) if held else None
+
+
+def numbers_of(held):
+    """The same numbers of a part, for what is held after it."""
+    return (1, *held.place, held.rounded) if held else (0, 0, 0, 0)
+
+
+def request(folder, held=(0, 0, 0, 0), length=None, dirt=165):
     job, table, log = (content or b"" for content in folder)
     return records.in_words(("list", needed(log) if length is None else length, dirt, *held, job, table, log))
 
 
 def in_parts(folder):
-    """The records one by one, each with the place that the one before it leaves; any `held` other than 0 counts as 1."""
-    held, numbers = (0, 0, 0), cycle((1, 7, 2**32 - 1))
+    """The records one by one, each with what the one before it leaves; where that is nothing, the other numbers do not count."""
+    part, others = (0, 0, 0, 0), cycle((1, 7, 2**32 - 1))
     for record in rule.pieces(folder.log, 32):
-        part = folder._replace(log=record)
-        yield request(part, held)
-        ((_, place),) = listed(part, [held[1:]] if held[0] else [])
-        held = (next(numbers), *place[0]) if place else (0, 7, 7)
+        asked = folder._replace(log=record)
+        yield request(asked, part)
+        ((_, left),) = listed(asked, held_by(*part))
+        part = (next(others), *left.place, left.rounded * next(others)) if left else (0, 7, 7, 9)
+
+
+def in_halves(folder):
+    """The log cut before each of its records, the second part with what the first leaves."""
+    for at in range(32, len(folder.log), 32):
+        first, second = folder._replace(log=folder.log[:at]), folder._replace(log=folder.log[at:])
+        yield request(first)
+        yield request(second, numbers_of(listed(first)[-1][1]))
+
+
+def carried():
+    """Every sort of log after every sort of part: what is held is passed on by no record, repeated, replaced, or lost."""
+    logs = b"", HOLD, HOLD * 3, HOLD + GRID, NEAR_GRIDS[0], NEAR_GRIDS[0] + HOLD, GRID + HOLD, FIX + HOLD, REFUSED + HOLD, HOLD[:31]
+    for held, rounded in product((0, 1, 7, 2**32 - 1), repeat=2):
+        part = held, 30001, 40000, rounded
+        for log in logs:
+            yield request(three(log=log), part)
+        for folder in by_job(k=25), three(table=b""), by_job(k=25)._replace(log=b""), three(table=b"", log=b""):
+            yield request(folder, part)
+        yield request(THREE, part, length=needed(THREE.log) - 1)
+        yield request(three(log=b""), part, length=needed(b"") - 1)
 
 
 def requests():
@@ -426,8 +495,11 @@ def requests():
         if len(folder.log or b"") <= 32 * 600:
             yield request(folder)
     yield from in_parts(THREE)
-    for _, folder in holds():
+    for _, folder in (*holds(), *roundings()):
         yield from in_parts(folder)
+    for folder in three(log=(GRID + HOLD) * 4), asking(ONE, log=NEAR_FIXES[0] + HOLD * 3 + NEAR_FIXES[1] + HOLD * 3 + GRID + HOLD):
+        yield from in_halves(folder)
+    yield from carried()
     for folder in THREE, three(log=b""), three(log=THREE.log[:95]), by_job(k=25), three(table=b""):
         for off in -5760, -1, 0, 1, 5760:
             for dirt in 0, 10, 255:
@@ -436,14 +508,15 @@ def requests():
 
 
 def answer_to(line):
-    _, length, _, held, easting, northing, *files = line.split()
+    _, length, _, held, easting, northing, rounded, *files = line.split()
     folder = Folder(*(bytes.fromhex(digits.strip("-")) for digits in files))
     if int(length) < needed(folder.log):
-        return records.in_words((9, 0, 0, 0, 0, b"", "kept"))
-    told = listed(folder, [(int(easting), int(northing))] if int(held) else [])
+        return records.in_words((9, 0, *numbers_of(None), b"", "kept"))
+    before = held_by(*map(int, (held, easting, northing, rounded)))
+    told = listed(folder, before)
     text = "".join(line + "\n" for line, _ in told).encode()
-    place = told[-1][1] if told else []
-    return records.in_words((0, len(text), *((1, *place[0]) if place else (0, 0, 0)), text, "kept"))
+    left = told[-1][1] if told else before
+    return records.in_words((0, len(text), *numbers_of(left), text, "kept"))
 
 
 # Files

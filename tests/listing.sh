@@ -1,7 +1,7 @@
 #!/usr/bin/env bash
-# Tests of laylist: what it prints for folders, compared byte by byte with document 01's listing and limits and with the rule's
-# listing (listing.py); how it ends if a file cannot be read or its listing cannot be written; and the examples, listed by
-# bin/laylist. A seed other than the gate's may be given.
+# Tests of laylist: what it prints for folders, compared byte by byte with document 01's listing and limits, with the last field that
+# 02's A1 adds, and with the rule's listing (listing.py); how it ends if a file cannot be read or its listing cannot be written; and
+# the examples, listed by bin/laylist. A seed other than the gate's may be given.
 cd "$(dirname "$0")/.." && . tests/common.bash
 seed=${1:-20261115}
 folders=$(mktemp -d)
@@ -70,14 +70,14 @@ fix='01 01 0000 01000000 00000000000059c0 00000000000069c0 0000000000000000'
 grid='02 00 0000 02000000 5c8fc2f528c07240 0000000000007940 0000000000000000'
 hold='03 00 0000 03000000 0000000000000000 0000000000000000 0000000000000000'
 listed "$job" "$table" "$fix$grid$hold" \
-    '1 FIX 2 5 30000 40000 30001 40001
-2 GRID 1 0 30001 40000
-3 HOLD 1 0 30001 40000'
+    '1 FIX 2 5 30000 40000 30001 40001 0
+2 GRID 1 0 30001 40000 1
+3 HOLD 1 0 30001 40000 1'
 
 # Jobs: k 24 and 25; the easting and the northing at their limits with k 0 and k 1; tolerances; k and tolerance both wrong; a byte
 # that must be zero, with other faults and alone; lengths of 31 and 33.
-held='2 GRID 1 0 30001 40000
-3 HOLD 1 0 30001 40000'
+held='2 GRID 1 0 30001 40000 1
+3 HOLD 1 0 30001 40000 1'
 while IFS=: read -r asked answer; do
     [ "$answer" != ' passes' ] || answer=$held
     listed "$asked" "$table" "$grid$hold" "${answer# }"
@@ -123,10 +123,10 @@ without job.dat none none none 'JOB REFUSED 1'
 listed "$job" "$table" '' ''
 listed "$job" "$table" '01' '- REFUSED 1 0'
 listed "$job" "$table" "${grid%??}" '- REFUSED 1 0'
-listed "$job" "$table" "$grid" '2 GRID 1 0 30001 40000'
-listed "$job" "$table" "$grid 03" '2 GRID 1 0 30001 40000
+listed "$job" "$table" "$grid" '2 GRID 1 0 30001 40000 1'
+listed "$job" "$table" "$grid 03" '2 GRID 1 0 30001 40000 1
 - REFUSED 1 0'
-listed "$job" "$table" "$grid${hold%??}" '2 GRID 1 0 30001 40000
+listed "$job" "$table" "$grid${hold%??}" '2 GRID 1 0 30001 40000 1
 - REFUSED 1 0'
 
 # Single records: eastings of -0.001 m and -0.01 m; the greatest line number, also of a refused record; the far corner of the
@@ -134,11 +134,11 @@ listed "$job" "$table" "$grid${hold%??}" '2 GRID 1 0 30001 40000
 while IFS=: read -r record answer; do
     listed "$job" "$table" "$record" "${answer# }"
 done <<'END'
-02 00 0000 02000000 fca9f1d24d6250bf 0000000000007940 0000000000000000: 2 GRID 1 0 0 40000
+02 00 0000 02000000 fca9f1d24d6250bf 0000000000007940 0000000000000000: 2 GRID 1 0 0 40000 1
 02 00 0000 02000000 7b14ae47e17a84bf 0000000000007940 0000000000000000: 2 REFUSED 4 0
-02 00 0000 ffffffff 5c8fc2f528c07240 0000000000007940 0000000000000000: 4294967295 GRID 1 0 30001 40000
+02 00 0000 ffffffff 5c8fc2f528c07240 0000000000007940 0000000000000000: 4294967295 GRID 1 0 30001 40000 1
 04 00 0000 ffffffff 5c8fc2f528c07240 0000000000007940 0000000000000000: 4294967295 REFUSED 2 0
-02 00 0000 00000000 0000000080842e41 00000000d0126341 0000000000000000: 0 GRID 1 0 100000000 1000000000
+02 00 0000 00000000 0000000080842e41 00000000d0126341 0000000000000000: 0 GRID 1 0 100000000 1000000000 0
 01 00 0000 01000000 00000000000059c0 00000000000069c0 0000000000000000: 1 REFUSED 5 0
 01 02 0000 01000000 00000000000059c0 00000000000069c0 0000000000000000: 1 REFUSED 5 0
 01 ff 0000 01000000 00000000000059c0 00000000000069c0 0000000000000000: 1 REFUSED 5 0
@@ -149,40 +149,81 @@ END
 
 # An unsound chain matters only if a record names it.
 listed "$job" "00000000 00000000 00000000 00000000 00000000 409c0000 $table" "$grid$fix${fix/01 01/01 02}" \
-    '2 GRID 1 0 30001 40000
+    '2 GRID 1 0 30001 40000 1
 1 REFUSED 5 0
-1 FIX 2 5 30000 40000 30001 40001'
+1 FIX 2 5 30000 40000 30001 40001 0'
 
 # A hold as the first record, after a grid record, after holds, after two places, after one place (k 0), after a refusal.
 listed "$job" "$table" "$hold" '3 REFUSED 11 0'
 listed "$job" "$table" "$grid$hold$hold$fix$hold$hold" \
-    '2 GRID 1 0 30001 40000
-3 HOLD 1 0 30001 40000
-3 HOLD 1 0 30001 40000
-1 FIX 2 5 30000 40000 30001 40001
+    '2 GRID 1 0 30001 40000 1
+3 HOLD 1 0 30001 40000 1
+3 HOLD 1 0 30001 40000 1
+1 FIX 2 5 30000 40000 30001 40001 0
 3 REFUSED 11 0
 3 REFUSED 11 0'
 listed "${job/ 01 / 00 }" "$table" "$grid$fix$hold${grid/02/04}$hold" \
-    '2 GRID 1 0 30001 40000
-1 FIX 1 1 30000 40000
-3 HOLD 1 0 30000 40000
+    '2 GRID 1 0 30001 40000 1
+1 FIX 1 1 30000 40000 0
+3 HOLD 1 0 30000 40000 0
 2 REFUSED 2 0
 3 REFUSED 11 0'
+
+# The last field is 0 if both numbers are exact, and 1 if the first, the second or both were rounded: readings next to -100 m and
+# -200 m, places of 300 m or 300.01 m and 400 m or 400.01 m. Minus zero is exact. A hold repeats the field, and so does a hold after it,
+# until another record comes; where a fix has two places, a hold after it is refused whatever the field.
+fix_a=${fix/ 00000000000059c0/ 01000000000059c0} fix_b=${fix/ 00000000000069c0/ ffffffffffff68c0}
+exact=${grid/5c8fc2f528c07240/0000000000c07240}
+northing=${exact/0000000000007940/5c8fc2f528007940} both=${grid/0000000000007940/5c8fc2f528007940}
+listed "$job" "$table" "$fix$fix_a$fix_b${fix_a/ 00000000000069c0/ ffffffffffff68c0}" \
+    '1 FIX 2 5 30000 40000 30001 40001 0
+1 FIX 2 5 30000 40000 30001 40001 1
+1 FIX 2 5 30000 40000 30001 40001 1
+1 FIX 2 5 30000 40000 30001 40001 1'
+listed "$job" "$table" "$exact$grid$northing$both${exact/0000000000c07240/0000000000000080}" \
+    '2 GRID 1 0 30000 40000 0
+2 GRID 1 0 30001 40000 1
+2 GRID 1 0 30000 40001 1
+2 GRID 1 0 30001 40001 1
+2 GRID 1 0 0 40000 0'
+listed "$job" "$table" "$exact$hold$hold$northing$hold$hold$exact$hold$fix_a$hold$hold" \
+    '2 GRID 1 0 30000 40000 0
+3 HOLD 1 0 30000 40000 0
+3 HOLD 1 0 30000 40000 0
+2 GRID 1 0 30000 40001 1
+3 HOLD 1 0 30000 40001 1
+3 HOLD 1 0 30000 40001 1
+2 GRID 1 0 30000 40000 0
+3 HOLD 1 0 30000 40000 0
+1 FIX 2 5 30000 40000 30001 40001 1
+3 REFUSED 11 0
+3 REFUSED 11 0'
+listed "${job/ 01 / 00 }" "$table" "$fix$hold$fix_a$hold$hold$fix_b$hold$fix$hold" \
+    '1 FIX 1 1 30000 40000 0
+3 HOLD 1 0 30000 40000 0
+1 FIX 1 1 30000 40000 1
+3 HOLD 1 0 30000 40000 1
+3 HOLD 1 0 30000 40000 1
+1 FIX 1 1 30000 40000 1
+3 HOLD 1 0 30000 40000 1
+1 FIX 1 1 30000 40000 0
+3 HOLD 1 0 30000 40000 0'
 
 # Allowances of 0, 4 and 5 for 01's first record. Then windows in which every cell matches: one of 1,024 cells, with an allowance
 # that lasts until the list is found full and with one visit less; and one of 256 cells, which all fit into the list.
 listed "${job/ 64/ 00}" "$table" "$fix$hold" '1 REFUSED 10 0
 3 REFUSED 11 0'
 listed "${job/ 64/ 04}" "$table" "$fix" '1 REFUSED 10 4'
-listed "${job/ 64/ 05}" "$table" "$fix" '1 FIX 2 5 30000 40000 30001 40001'
+listed "${job/ 64/ 05}" "$table" "$fix" '1 FIX 2 5 30000 40000 30001 40001 0'
 listed '30750000 409c0000 05 000000 a0860100 5b01000000000000 0000000000000000' "$table" "$fix" '1 REFUSED 9 347'
 listed '30750000 409c0000 05 000000 a0860100 5a01000000000000 0000000000000000' "$table" "$fix" '1 REFUSED 10 346'
 put '30750000 409c0000 04 000000 a0860100 5501000000000000 0000000000000000' "$table" "$fix"
 run "$folder"
 pass_if '256 places are a fix' ended_well
 pass_if '256 places are counted, and 341 visits' [ "$(cut -d ' ' -f 1-6 "$printed")" = '1 FIX 256 341 30000 40000' ]
-pass_if '256 places are all printed' [ "$(wc -w <"$printed")" -eq 516 ]
-pass_if '256 places differ' [ "$(cut -d ' ' -f 5- "$printed" | tr ' ' '\n' | paste - - | sort -u | wc -l)" -eq 256 ]
+pass_if '256 places are all printed, and the last field' [ "$(wc -w <"$printed")" -eq 517 ]
+pass_if '256 places differ' [ "$(cut -d ' ' -f 5-516 "$printed" | tr ' ' '\n' | paste - - | sort -u | wc -l)" -eq 256 ]
+pass_if '256 places of exact readings end with 0' [ "$(cut -d ' ' -f 517- "$printed")" = 0 ]
 
 # The chosen folders, and folders whose logs end near the edges of the buffers: the program reads 65,536 bytes of the log at a
 # time and lists them in parts of 4,096.
@@ -194,7 +235,7 @@ all_agree long
 
 # The log need not fit into memory. A pipe that is not read keeps the program waiting near the end of its listing, and /proc gives
 # the most memory that it has used so far. This works under the emulator too, whose own memory is in both figures. The longer log
-# has 2,900 kilobytes more than the shorter one, and its listing 2,500 more.
+# has 2,900 kilobytes more than the shorter one, and its listing 2,800 more.
 memory_of() { python3 tests/listing.py memory "$folders/long/$1" "${loader[@]}" "$repository/target/bin/laylist"; }
 few=$(memory_of records_8000)
 many=$(memory_of records_100000)
@@ -265,9 +306,9 @@ for name in $examples; do
     pass_if "examples/README.md has $name" grep -qF "[$name]($name/README.md)" examples/README.md
 done
 pass_if 'the example of three records is 01'"'"'s' [ "$(<examples/three_records/listing)" = \
-    '1 FIX 2 5 30000 40000 30001 40001
-2 GRID 1 0 30001 40000
-3 HOLD 1 0 30001 40000' ]
+    '1 FIX 2 5 30000 40000 30001 40001 0
+2 GRID 1 0 30001 40000 1
+3 HOLD 1 0 30001 40000 1' ]
 pass_if 'the first command of README.md, and what it shows of it' [ "$(sed -n 's/^    //p' README.md | head -n 4)" = \
     "bin/laylist examples/three_records
 $(<examples/three_records/listing)" ]
