@@ -8,7 +8,7 @@ struct Found {
 
 #[link(name = "lay", kind = "static")]
 extern "C" {
-    fn lay_centimetres(metres: f64, centimetres: &mut i64) -> u32;
+    fn lay_centimetres(metres: f64, centimetres: &mut i64, mark: &mut u32) -> u32;
     fn lay_write_chain(buffer: *mut u8, length: usize, stations: *const u32, stations_length: usize) -> u32;
     #[rustfmt::skip]
     fn lay_write_job(
@@ -21,10 +21,11 @@ extern "C" {
     ) -> u32;
 }
 
-fn centimetres(metres: f64) -> Option<i64> {
-    let mut whole = 0;
-    let refusal = unsafe { lay_centimetres(metres, &mut whole) };
-    (refusal == 0).then_some(whole)
+// The centimetres, and whether they are rounded: a mark of 0 says that they are not.
+fn centimetres(metres: f64) -> Option<(i64, bool)> {
+    let (mut whole, mut mark) = (0, 0);
+    let refusal = unsafe { lay_centimetres(metres, &mut whole, &mut mark) };
+    (refusal == 0).then_some((whole, mark != 0))
 }
 
 fn chain(stations: [u32; 6]) -> Option<[u8; 24]> {
@@ -46,7 +47,8 @@ fn main() {
 }
 
 fn print_places() -> Option<()> {
-    let readings = [centimetres(-100.0)?, centimetres(-200.0)?];
+    let ((a, a_rounded), (b, b_rounded)) = (centimetres(-100.0)?, centimetres(-200.0)?);
+    let readings = [a, b];
     let chain = chain([0, 0, 30000, 0, 0, 40000])?;
     let job = job(30000, 40000, 1, 0, 100)?;
     let (mut list, mut found) = ([0u32; 8], Found::default());
@@ -57,7 +59,8 @@ fn print_places() -> Option<()> {
             job.as_ptr(), job.len(), &mut found,
         )
     };
-    println!("refusal {refusal}, {} places, {} visits", found.count, found.visits);
+    let rounded = (a_rounded || b_rounded) as u32;
+    println!("refusal {refusal}, {} places, {} visits, rounded {rounded}", found.count, found.visits);
     for place in list[..2 * found.count as usize].chunks(2) {
         println!("{} {}", place[0], place[1]);
     }

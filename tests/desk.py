@@ -825,7 +825,7 @@ def search(desk):
         check(f"while a search of {allowance} visits runs, there is {text!r}", goes_on and text == before)
     desk.put({**ENDLESS, "job.dat": short})
     came = desk.run(Run("laylist"))
-    wanted = before + b"4 REFUSED 10 1000000\n5 GRID 1 0 30001 40000\n"
+    wanted = before + b"4 REFUSED 10 1000000\n5 GRID 1 0 30001 40000 1\n"
     check(f"with the usual allowance the same log gives {came.printed!r}", came.printed == wanted and came.said == b"")
 
 

@@ -50,8 +50,8 @@ LOG 1 1 1 -10000 -20000
 LOG 2 0 2 30001 40000
 LOG 3 0 3 0 0'
 on_desk layexpect 1 30000 40000
-pass_if "layexpect on the desk: $(cat "$said")" prints 'A -10000 -100.00 00000000000059c0
-B -20000 -200.00 00000000000069c0'
+pass_if "layexpect on the desk: $(cat "$said")" prints 'A -10000 -100.00 00000000000059c0 0
+B -20000 -200.00 00000000000069c0 0'
 for name in $(cd examples && ls -d */); do
     on_desk laylist "$documents/examples/$name"
     pass_if "the installed example $name" prints "$(<"examples/$name/listing")"
@@ -72,7 +72,7 @@ pass_if 'a folder that is not there ends with 2' ended 2 'laylist: nowhere: ther
 
 # The library and the documents.
 quietly "$compiler" -static -I "$desk/include" -o "$asked/places" "$documents/examples/places.c" "$desk/lib/liblay.a"
-pass_if 'the installed example in C prints P4' [ "$("${emulator[@]}" "$asked/places" | head -n 1)" = 'refusal 0, 2 places, 5 visits' ]
+pass_if 'the installed example in C prints P4' [ "$("${emulator[@]}" "$asked/places" | head -n 1)" = 'refusal 0, 2 places, 5 visits, rounded 0' ]
 pages=0
 while read -r page; do
     for link in $(links "$page"); do

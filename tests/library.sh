@@ -2,7 +2,7 @@
 # Tests that the examples of the library, in C and in Rust, are linked as docs/LIBRARY.md says, and print P4 of document 01; that the
 # header has the numbers of the crates, and no function with ten arguments; and that the library keeps nothing between calls.
 cd "$(dirname "$0")/.." && . tests/common.bash && . tests/library.bash
-listing=$'refusal 0, 2 places, 5 visits\n30000 40000\n30001 40001'
+listing=$'refusal 0, 2 places, 5 visits, rounded 0\n30000 40000\n30001 40001'
 header=crates/lay/lay.h
 
 # The commands of docs/LIBRARY.md that make an example, as they stand there; off x86-64 only that of the cross compiler.
@@ -44,6 +44,15 @@ table=$(($(in_header LAY_CHAIN_BYTES) * $(in_header LAY_MOST_CHAINS)))
 pass_if 'LAY_TABLE_BYTES is that of the most chains' same "$(in_header LAY_TABLE_BYTES)" "$table"
 pass_if 'the library has the version of the header' \
     same "$(echo version | harness)" "$(sed -n 's/^#define LAY_VERSION \([0-9]*\)$/\1/p' $header)"
+
+# The marks by their names: 0.25 m is exact, 0.375 m lies below its 38 centimetres, and 0.125 m above its 12.
+while read -r name pattern centimetres; do
+    pass_if "$name is the mark of $pattern" same "$(harness <<<"centimetres $pattern")" "0 $centimetres $(in_header "$name")"
+done <<'END'
+LAY_EQUAL 3fd0000000000000 25
+LAY_BELOW 3fd8000000000000 38
+LAY_ABOVE 3fc0000000000000 12
+END
 
 # declared: a line for each function of the header, its name and its arguments; symbols: what the library has, by the tool that
 # belongs to its compiler; exported: its functions

@@ -298,11 +298,13 @@ def expected_at(line, table, chain, place):
 
 
 def expected_line(name, reading):
+    """The last word is the last field of a listed line: whether the eight bytes, read again, are rounded."""
     if abs(reading) > SIZE:
         return f"{name} {reading} REFUSED 3"
     sign = "-" if reading < 0 else ""
     whole, hundredths = divmod(abs(reading), 100)
-    return f"{name} {reading} {sign}{whole}.{hundredths:02} {records.eight(rule.metres(reading)).hex()}"
+    metres = rule.metres(reading)
+    return f"{name} {reading} {sign}{whole}.{hundredths:02} {records.eight(metres).hex()} {rule.rounded([rule.mark(metres)])}"
 
 
 def text_of(lines):
@@ -346,8 +348,8 @@ def log_line(s):
     refusal, _ = rule.tried(rule.log_record, s)
     if refusal == 1:
         return shown(["LOG"], 1, s)
-    kind, chain, line, numbers = rule.raw_record(s)
-    return shown(["LOG", kind, chain, line, *map(in_centimetres, numbers[:2])], refusal, s)
+    raw = rule.raw_record(s)
+    return shown(["LOG", raw.kind, raw.chain, raw.line, *map(in_centimetres, raw.numbers[:2])], refusal, s)
 
 
 def in_centimetres(x):
@@ -858,6 +860,10 @@ def expected():
     near = of_chains([1000, 1000, 1000, 1005, 1007, 1000])
     for place in [1000, 1000], [1000, 1005], [1007, 1000], [1000, 1002], [1000, 1003], [1003, 1000], [1003, 1003], [1004, 1000]:
         yield expecting([1, *place], "readings of a few centimetres", near)
+    # on the line from the master to A every reading occurs: whole quarters of a metre, which are exact, and those beside them
+    for reading in (near + quarter for quarter in (-7525, -100, -50, -25, 0, 25, 50, 75, 100, 4000) for near in (-1, 0, 1)):
+        a = 20_000 + reading % 2
+        yield expecting([1, (10_000 + a - reading) // 2, 0], "exact and rounded", of_chains([10_000, 0, a, 0, 10_000, 50_000]))
     # the greatest reading that can be written, the next, and the same below zero
     for east in 0, 1, 44_721, 44_722, 44_723, EAST:
         yield expecting([1, 0, 0], "readings about 1,000,000,000", of_chains([0, 0, east, NORTH, 1, 0]))

@@ -60,7 +60,8 @@ pass_if "01's log, written" holds "${files[@]}"
 run laylist
 pass_if "01's listing from text: $(head -n 9 "$printed" "$said")" prints "$(<"$example/listing")"
 
-# It is shown as docs/FORMATS.md shows it, and the readings at 01's places are 01's.
+# It is shown as docs/FORMATS.md shows it, and the readings at 01's places are 01's. The last word of each says whether its bytes are
+# rounded when they are read.
 shown='JOB 30000 40000 1 0 100
 CHAIN 1 0 0 30000 0 0 40000
 LOG 1 1 1 -10000 -20000
@@ -73,10 +74,10 @@ while IFS=: read -r place a b; do
     pass_if "readings at $place: $(head -n 9 "$printed" "$said")" prints "A$a
 B$b"
 done <<'END'
-30000 40000: -10000 -100.00 00000000000059c0: -20000 -200.00 00000000000069c0
-30001 40000: -10000 -100.00 00000000000059c0: -19999 -199.99 48e17a14aeff68c0
-30000 40001: -9999 -99.99 8fc2f5285cff58c0: -20000 -200.00 00000000000069c0
-1 1: 29998 299.98 48e17a14aebf7240: 39998 399.98 48e17a14aeff7840
+30000 40000: -10000 -100.00 00000000000059c0 0: -20000 -200.00 00000000000069c0 0
+30001 40000: -10000 -100.00 00000000000059c0 0: -19999 -199.99 48e17a14aeff68c0 1
+30000 40001: -9999 -99.99 8fc2f5285cff58c0 1: -20000 -200.00 00000000000069c0 0
+1 1: 29998 299.98 48e17a14aebf7240 1: 39998 399.98 48e17a14aeff7840 1
 END
 pass_if 'the files stay' holds "${files[@]}"
 
@@ -408,8 +409,8 @@ pass_if 'the files made by bin/' holds "${files[@]}"
 by_bin layshow
 pass_if "bin/layshow: $(head -n 3 "$said")" prints "$shown"
 by_bin layexpect 1 30000 40000
-pass_if "bin/layexpect: $(head -n 3 "$said")" prints 'A -10000 -100.00 00000000000059c0
-B -20000 -200.00 00000000000069c0'
+pass_if "bin/layexpect: $(head -n 3 "$said")" prints 'A -10000 -100.00 00000000000059c0 0
+B -20000 -200.00 00000000000069c0 0'
 by_bin laylist
 pass_if "bin/laylist: $(head -n 3 "$said")" prints "$(<"$example/listing")"
 mkdir "$folders/links"
