@@ -29,10 +29,11 @@ typedef struct {
     uint64_t allowance;
 } Job;
 
-// A search: what it is asked for, and what it has done so far.
+// A search: what it is asked for, whether that was rounded, and what it has done so far.
 typedef struct {
     Chain chain;
     int64_t a, b, tolerance;
+    bool rounded;
     uint64_t allowance, visits;
     int refusal, count;
     Place places[ROOM];
@@ -62,8 +63,8 @@ static bool sound(Chain c) {
 }
 
 // Metres to the nearest centimetre, a tie to the even one; false for NaN and for what is too large. The 53 binary digits of a
-// double, times 100, fit into 64, so the product is exact and is rounded once.
-static bool centimetres(const uint8_t *bytes, int64_t *answer) {
+// double, times 100, fit into 64, so the product is exact and is rounded once; `rounded` is set if anything is lost.
+static bool centimetres(const uint8_t *bytes, int64_t *answer, bool *rounded) {
     uint64_t bits = number(bytes, 8);
     double metres;
     memcpy(&metres, &bits, sizeof metres);
@@ -72,11 +73,14 @@ static bool centimetres(const uint8_t *bytes, int64_t *answer) {
     uint64_t digits = (uint64_t)ldexp(frexp(fabs(metres), &exponent), 53) * 100;
     int shift = 53 - exponent;
     int64_t size = 0;
+    uint64_t rest = digits;
     if (shift < 63) {
-        uint64_t half = (uint64_t)1 << (shift - 1), rest = digits & (2 * half - 1);
+        uint64_t half = (uint64_t)1 << (shift - 1);
+        rest = digits & (2 * half - 1);
         size = (int64_t)(digits >> shift);
         if (rest > half || (rest == half && size % 2 == 1)) size++;
     }
+    if (rest != 0) *rounded = true;
     *answer = metres < 0 ? -size : size;
     return true;
 }
@@ -135,12 +139,13 @@ static int table_refusal(File f) {
     return fits ? 0 : 1;
 }
 
-// The refusal of a log record by itself, 0 for none; `numbers` gets its two numbers in centimetres.
-static int record_refusal(const uint8_t *r, int64_t numbers[2]) {
+// The refusal of a log record by itself, 0 for none; `numbers` gets its two numbers in centimetres, and `rounded` is set if one was
+// rounded.
+static int record_refusal(const uint8_t *r, int64_t numbers[2], bool *rounded) {
     if (r[0] < HYPERBOLIC || r[0] > HOLD || !zeros(r + 2, 2) || !zeros(r + 24, 8)) return 2;
     if (r[0] != HYPERBOLIC && r[1] != 0) return 2;
     if (r[0] == HOLD) return zeros(r + 8, 8) && zeros(r + 16, 8) ? 0 : 2;
-    if (!centimetres(r + 8, &numbers[0]) || !centimetres(r + 16, &numbers[1])) return 3;
+    if (!centimetres(r + 8, &numbers[0], rounded) || !centimetres(r + 16, &numbers[1], rounded)) return 3;
     if (r[0] == GRID && !in_range((Place){numbers[0], numbers[1]})) return 4;
     return 0;
 }
@@ -166,15 +171,16 @@ static void search(Search *s, const Job *job, File table, int which, const int64
 // Leaves the answer of a record in `s`, as a search does. There a hold finds the answer of the record before it.
 static void answer(Search *s, const Job *job, File table, const uint8_t *r) {
     int64_t numbers[2];
-    bool held = !s->refusal && s->count == 1;
+    bool held = !s->refusal && s->count == 1, rounded = false;
     s->visits = 0;
-    s->refusal = record_refusal(r, numbers);
+    s->refusal = record_refusal(r, numbers, &rounded);
     if (s->refusal) return;
     if (r[0] == HOLD) {
         s->refusal = held ? 0 : 11;
         return;
     }
     s->count = 0;
+    s->rounded = rounded;
     if (r[0] == HYPERBOLIC) {
         search(s, job, table, r[1], numbers);
         return;
@@ -207,6 +213,7 @@ static void print(const Search *s, const uint8_t *r) {
         at = put_number(at, s->places[i].easting);
         at = put_number(at, s->places[i].northing);
     }
+    at = put_number(at, s->rounded);
     *at++ = '\n';
     fwrite(text, 1, (size_t)(at - text), stdout);
 }
