@@ -333,7 +333,7 @@ def marks():
             yield "read_record", grid(outside, x)
         for outside in -0.01, -0.25:
             yield "read_record", grid(x, outside)
-    # exact in the file, near to it, and nearest to nothing at all
+    # quarters of a metre, a tie, a centimetre, and the smallest and largest numbers, each with its neighbours
     for x in (0.25, 0.5, 0.75, 0.125, 0.01, 5e-324, 1e-9, 1_000_000.0, 999_999.75):
         for each in beside(x):
             yield "read_record", grid(abs(each), x)
