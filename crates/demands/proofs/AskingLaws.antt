@@ -75,10 +75,10 @@ each-differs t c (w ∷ ws) o =
     )
 
 -- The answer to a record lists the places that its search lists.
-pub fix-places : (q : Question) (w : Window) → placesOf (searched (searchOf q w)) ≡ searchOf q w .places
+pub fix-places : (rounded : Bool) (q : Question) (w : Window) → placesOf (searched rounded (searchOf q w)) ≡ searchOf q w .places
 unfolding searched placesOf
-fix-places q w = go (eqb (searchFigures (searchOf q w .answer) .refusal) 0) refl
+fix-places rounded q w = go (eqb (searchFigures (searchOf q w .answer) .refusal) 0) refl
   where
-    go : (t : Bool) → eqb (searchFigures (searchOf q w .answer) .refusal) 0 ≡ t → placesOf (searched (searchOf q w)) ≡ searchOf q w .places
+    go : (t : Bool) → eqb (searchFigures (searchOf q w .answer) .refusal) 0 ≡ t → placesOf (searched rounded (searchOf q w)) ≡ searchOf q w .places
     go true e = rw e
     go false e = rw e (sym (refused-lists q w (searchOf q w) (ending q w) (eqb-false _ 0 e)))

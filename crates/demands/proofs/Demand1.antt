@@ -11,7 +11,9 @@ use native.Mathlib.Omega.{arith}
 use lib.IntN.{ℤ, pos}
 use lib.Ieee.{Float}
 use lib.ListN.{length, drop, replicate}
+use Rattle.metres.specs.declared.Mark.the-variants.{Equal}
 use Rattle.metres.specs.Metres.{centimetresOf, metresOf, wholeFigures, lengthFigures, plusZero}
+use Rattle.metres.specs.Marks.{markOf}
 use Rattle.chart.specs.declared.Place.{Place}
 use Rattle.chart.specs.declared.Chain.{Chain}
 use Rattle.chart.specs.Readings.{expectedAt, noFigures, figuresOf}
@@ -31,6 +33,7 @@ use Rattle.records.specs.declared.JobAnswer.{JobAnswer}
 use Rattle.records.specs.declared.JobAnswer.the-variants as answer
 use Rattle.records.specs.Bytes.{byteAt}
 use Rattle.records.specs.LogRecords.{rawRecordOf, logRecordOf, logEntryOf}
+use Rattle.records.specs.Marks.{isRoundedIn, markedEntryOf}
 use Rattle.records.specs.ChainTables.{chainCountOf, rawChainOf, chainOf}
 use Rattle.records.specs.Jobs.{jobOf}
 use Rattle.records.specs.Refusals.{rawRefusal, logRefusal, entryRefusal, countRefusal, chainRefusal, jobRefusal, isAmong}
@@ -49,15 +52,15 @@ use Rattle.listing.proofs.Theorems.{job-first, then-chain}
 use Rattle.chart.specs.Places.{placeOf}
 use Rattle.lay.specs.Figures.{jobBy, chainBy, chainTold, chainWritten, stationsTold, expectedTold, searchTold, recordFigures, countFigures, jobAnswered, heldFigures, listedFigures}
 use Rattle.demands.specs.Numbers.{recordRefusal, listedRefusal, NoneOr, Refuses, Leaves, SearchIsTold}
-use Rattle.demands.proofs.NumberLaws.{some-number, whole-number, length-number, readings-number, listed-number, search-number, refused-lists, refused-early, answered-lists, room-kept, list-length, job-good, answer-number}
-use Rattle.demands.proofs.LibraryLaws.{record-told, count-told, chain-told, stations-counted, bytes-counted, stations-told, expected-told, job-told, listing-told, search-told}
+use Rattle.demands.proofs.NumberLaws.{some-number, whole-number, whole-marked, length-number, readings-number, listed-number, search-number, refused-lists, refused-early, answered-lists, room-kept, list-length, job-good, answer-number}
+use Rattle.demands.proofs.LibraryLaws.{record-told, marks-told, count-told, chain-told, stations-counted, bytes-counted, stations-told, expected-told, job-told, listing-told, search-told}
 use Rattle.demands.proofs.NeverLaws.{raw-never, log-never, entry-never, count-never, chain-never, job-never, answer-never}
 
--- A number of metres gives its whole centimetres; or it is refused with 3 and gives 0 centimetres.
+-- A number of metres gives its whole centimetres; or it is refused with 3, and gives 0 centimetres and the mark `Equal`.
 pub metres-read : (x : Float) →
     let f = wholeFigures (centimetresOf x) in
-    NoneOr (3 ∷ []) (f .refusal) × (Refuses (f .refusal) → f .centimetres ≡ pos 0)
-metres-read x = whole-number (centimetresOf x)
+    NoneOr (3 ∷ []) (f .refusal) × (Refuses (f .refusal) → (f .centimetres ≡ pos 0) × (markOf x ≡ Equal))
+metres-read x = (whole-number (centimetresOf x) .0, λ some. (whole-number (centimetresOf x) .1 some, whole-marked x some))
 
 -- A number of centimetres gives its metres; or it is refused with 3 and gives plus zero.
 pub metres-written : (z : ℤ) →
@@ -149,7 +152,7 @@ pub record-answered : (job table s : List ℕ) (j : Job) (before : Carried) → 
 unfolding answerOf
 record-answered job table s j before accepted =
     let good = job-good job j accepted in
-    answer-number j (good .0) (good .1) (chainOf table (byteAt s 1)) before (logEntryOf s) (chain-refusals table (byteAt s 1)) (entry-refusals s)
+    answer-number j (good .0) (good .1) (chainOf table (byteAt s 1)) before (isRoundedIn s) (logEntryOf s) (chain-refusals table (byteAt s 1)) (entry-refusals s)
 
 -- No refusal has the number 0, since 0 means that nothing is refused. So every refusal has one of the numbers above.
 pub no-refusal-is-0 : (s table : List ℕ) (number visits : ℕ) (j : Job) (before : Carried) →
@@ -168,7 +171,7 @@ no-refusal-is-0 s table number visits j before = (
   count-never s,
   chain-never s number,
   job-never s,
-  answer-never visits j (chainOf table (byteAt s 1)) before (logEntryOf s) (chain-never table (byteAt s 1)) (entry-never s),
+  answer-never visits j (chainOf table (byteAt s 1)) before (isRoundedIn s) (logEntryOf s) (chain-never table (byteAt s 1)) (entry-never s),
 )
 
 -- For a refused job the program prints only `JOB REFUSED` and the number, which is 1, 2, 6 or 7. For an accepted job and a
@@ -200,13 +203,18 @@ pub listing-answered : (out log : List ℕ) (p : Part) →
 unfolding listedIn bufferWith
 listing-answered out log p = listed-number (hasListingRoom (length out) log) p out (p .text ++ drop (length (p .text)) out)
 
--- The library for C returns the same refusal numbers in its figures. A log record: after 1 to 4 the kind, the chain number
--- and both numbers are 0.
+-- The library for C returns the same refusal numbers in its figures. A log record: after 1 to 4 the kind, the chain number,
+-- both numbers and both marks are 0.
 pub record-figures-told : (s : List ℕ) →
-    let f = recordFigures s in
+    let f = recordFigures s .entry in
     NoneOr (1 ∷ 2 ∷ 3 ∷ 4 ∷ []) (f .refusal)
-    × (Refuses (f .refusal) → (f .kind ≡ 0) × (f .chain ≡ 0) × (f .x ≡ pos 0) × (f .y ≡ pos 0))
-record-figures-told s = record-told (rawRecordOf s) (logEntryOf s) (raw-refusals s) (entry-refusals s)
+    × (Refuses (f .refusal) →
+    ((f .kind ≡ 0) × (f .chain ≡ 0) × (f .x ≡ pos 0) × (f .y ≡ pos 0)) × (recordFigures s .xmark ≡ 0) × (recordFigures s .ymark ≡ 0))
+unfolding markedEntryOf logEntryOf
+record-figures-told s =
+    let told = record-told (rawRecordOf s) (logRecordOf s) (raw-refusals s) (entry-refusals s) in
+    let marks = marks-told (rawRecordOf s) (logRecordOf s) in
+    (told .0, λ some. (told .1 some, marks some .0, marks some .1))
 
 -- A table: after 1 the count is 0. A chain read from a table, and a chain written from its stations: after 1 or 5 all its
 -- bytes are 0.
@@ -248,7 +256,7 @@ pub job-figures-told : (s : List ℕ) →
     × (Refuses (f .refusal) → f .job ≡ jobBy 0 0 0 0 0)
 job-figures-told s = job-told (jobOf s) (1 ∷ 2 ∷ 6 ∷ 7 ∷ []) (job-refusals s)
 
--- A listing: after 9 the length of the text is 0, and no place is handed on.
+-- A listing: after 9 the length of the text is 0, and no place and no last field is handed on.
 pub listing-figures-told : (out log : List ℕ) (p : Part) →
     let f = listedFigures (listedIn (length out) log p) in
     NoneOr (9 ∷ []) (f .refusal)

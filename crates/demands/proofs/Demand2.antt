@@ -2,24 +2,29 @@
 -- centimetres, and readings give back the places that the rule allows. Metres in the log are read by IEEE 754 and rounded as
 -- the requirements say; centimetres written out read back the same.
 use Prim.Native.Nat.{ℕ, _+_, _-_, _*_, _/_, _^_, _≤_, _<_}
-use mathlib.Core.Path.{_≡_, ap, _∙_, subst⁻¹}
+use mathlib.Core.Path.{_≡_, refl, sym, ap, _∙_, subst⁻¹}
 use mathlib.Core.Logic.{_↔_}
-use mathlib.Core.Bool.{true, false}
+use mathlib.Core.Bool.{Bool, true, false}
 use mathlib.Core.List.{List, [], _∷_, _++_, map}
 use native.Mathlib.Omega.{arith}
 use borrow.Author.Tests.{leb-true}
 use lib.Dec.{T}
-use lib.IntN.{ℤ, pos, natAbs, subℕ}
-use lib.Ieee.{Float, binary64, fits, ofInt, div}
+use lib.IntN.{ℤ, pos, natAbs, subℕ, _*ℤ_}
+use lib.Signed.{_<ℤ_}
+use lib.Ieee.{Float, fin, up, down, binary64, fits, ofInt, div}
 use lib.ListN.{length, getD}
 use Rattle.squares.proofs.RootLaws.{root-law, root-unique}
 use Rattle.metres.specs.declared.Whole.{Whole}
 use Rattle.metres.specs.declared.Whole.the-variants as whole
 use Rattle.metres.specs.declared.Length.the-variants as metres
 use Rattle.metres.specs.Metres.{signed, centimetresOf, hundredthOf, metresOf}
+use Rattle.metres.specs.declared.Mark.{Mark}
+use Rattle.metres.specs.declared.Mark.the-variants as mark
 use Rattle.metres.specs.Nearest.{MayAnswer}
+use Rattle.metres.specs.Marks.{MayMark, markOf}
 use Rattle.metres.specs.Patterns.{numberOf, patternOf}
 use Rattle.metres.proofs.Answers.{answers, answers-only}
+use Rattle.metres.proofs.MarkLaws.{mark-says}
 use Rattle.metres.proofs.Back.{written, not-written, hundredth-back}
 use Rattle.metres.proofs.PatternLaws.{number-back}
 use Rattle.chart.specs.declared.Place.{Place}
@@ -41,7 +46,8 @@ use Rattle.records.specs.declared.ChainCount.the-variants as count
 use Rattle.records.specs.declared.NamedChain.the-variants as named
 use Rattle.records.specs.declared.Job.{Job}
 use Rattle.records.specs.declared.JobAnswer.the-variants as answer
-use Rattle.records.specs.LogRecords.{rawRecordOf, logEntryOf}
+use Rattle.records.specs.LogRecords.{rawRecordOf, logRecordOf, logEntryOf}
+use Rattle.records.specs.Marks.{numbersUsed, isRoundedIn}
 use Rattle.records.specs.ChainTables.{chainCountOf, chainOf}
 use Rattle.records.specs.Jobs.{jobOf}
 use Rattle.writing.specs.declared.Draft.{Draft}
@@ -62,14 +68,17 @@ use Rattle.shown.specs.Expected.{expectedIn}
 use Rattle.parsing.proofs.Lengths.{metres-length, metres-say}
 use Rattle.parsing.proofs.TypedLaws.{digits-length, digits-centimetres}
 use Rattle.listing.specs.declared.Carried.{Carried}
-use Rattle.listing.specs.Answers.{fixBy, answerBy, answerOf, placesOf}
+use Rattle.listing.specs.Answers.{RecordAnswer, fixBy, answerBy, answerOf, placesOf, carriedBy}
+use Rattle.listing.specs.Listings.{lineOf}
 use Rattle.demands.specs.Typed.{metresLine}
+use Rattle.demands.specs.Roundings.{EachExact, IsOwn, lastBytes}
 use Rattle.demands.specs.Finding.{EachSmall}
 use Rattle.demands.proofs.NumberLaws.{job-good}
 use Rattle.demands.proofs.WritingLaws.{hyperbolic-accepted, grid-accepted, hold-accepted, chain-byte}
 use Rattle.demands.proofs.TextLaws.{job-line-shown, job-typed-again, chain-line-shown, chain-typed-again, is-digit, metres-says, record-line-shown, metres-line, record-typed-again}
 use Rattle.demands.proofs.MetresLaws.{chain-in-metres, job-in-metres}
 use Rattle.demands.proofs.QuestionLaws.{expected-as-typed}
+use Rattle.demands.proofs.RoundingLaws.{own-field, hold-as-before}
 use Rattle.demands.proofs.AskingLaws.{own-readings, found-by, tests-pass, fix-places}
 
 -- The distance of two places is the whole part of the square root of (easting difference squared plus northing difference
@@ -104,6 +113,41 @@ readings-are-differences c p = (
 -- this rule without a method for finding the number.
 pub metres-are-rounded : (x : Float) (answer : Whole) → (answer ≡ centimetresOf x) ↔ MayAnswer x answer
 metres-are-rounded x answer = ((λ e. subst⁻¹ (MayAnswer x) e (answers x)), answers-only x answer)
+
+-- The mark of a number says where exactly 100 times the number lies, as seen from its z centimetres: it is `Equal` exactly if that is
+-- z, `Below` exactly if it is below z, and `Above` exactly if it is above z. Both are counted in parts of which down e make one
+-- centimetre, so that both are whole numbers.
+pub mark-is-true : (s : Bool) (m : ℕ) (e z : ℤ) →
+    let x = fin s m e in
+    let exact = signed s (100 * (m * up e)) in
+    let whole-number = z *ℤ pos (down e) in
+    centimetresOf x ≡ whole.Centimetres z →
+    ((markOf x ≡ mark.Equal) ↔ (exact ≡ whole-number))
+    × ((markOf x ≡ mark.Below) ↔ (exact <ℤ whole-number))
+    × ((markOf x ≡ mark.Above) ↔ (whole-number <ℤ exact))
+mark-is-true s m e z h = (mark-says (fin s m e) _ h mark.Equal, mark-says (fin s m e) _ h mark.Below, mark-says (fin s m e) _ h mark.Above)
+
+-- A number that is refused has the mark `Equal`, and every number has exactly one mark: the one that `MayMark` allows beside its
+-- centimetres or its refusal.
+pub refused-is-equal : (x : Float) → centimetresOf x ≡ whole.Refused → markOf x ≡ mark.Equal
+refused-is-equal x h = mark-says x _ h mark.Equal .1 refl
+
+pub metres-are-marked : (x : Float) (k : Mark) → (k ≡ markOf x) ↔ MayMark x (centimetresOf x) k
+metres-are-marked x k = ((λ e. mark-says x _ refl k .0 (sym e)), (λ h. sym (mark-says x _ refl k .1 h)))
+
+-- The last field of a line `FIX` or `GRID` is 0 exactly if every number that its record uses is exact, and 1 exactly if not.
+pub field-is-true : (j : Job) (table : List ℕ) (before : Carried) (s : List ℕ) →
+    let line = lineOf s (answerOf j table before s) in
+    let exact = EachExact (numbersUsed (logRecordOf s)) in
+    IsOwn (answerOf j table before s) →
+    ((lastBytes 3 line ≡ bytesIn " 0\n") ↔ exact) × ((lastBytes 3 line ≡ bytesIn " 1\n") ↔ (exact → ⊥))
+field-is-true = own-field
+
+-- A hold after a record t with one place, which may be a hold itself, ends its line as the line of t ends.
+pub hold-repeats-field : (j : Job) (table s t : List ℕ) (a : RecordAnswer) (p : Place) → logEntryOf s ≡ entry.Hold → placesOf a ≡ p ∷ [] →
+    lastBytes 3 (lineOf s (answerOf j table (carriedBy a) s)) ≡ lastBytes 3 (lineOf t a)
+unfolding answerOf answerBy
+hold-repeats-field j table s t a p held one = rw held (hold-as-before s t a p one)
 
 -- Each of the 2,000,000,001 numbers of centimetres from -1,000,000,000 to 1,000,000,000 is written as its quotient by 100,
 -- rounded once; and this quotient is read back as the same number.
@@ -262,7 +306,8 @@ pub place-to-place : (c : Chain) (p : Place) (x y : ℤ) (chain line : ℕ) (job
 unfolding answerOf answerBy fixBy EachSmall
 place-to-place c p x y chain line job table j before e hx hy some few small known good inside enough room =
     let there = readings-there-and-back chain line x y some few small hx hy in
+    let s = bufferOf 32 (record { kind = 1; chain = chain; line = line; x = x; y = y }) in
     let q = questionOf c (x ∷ y ∷ []) (j .tolerance) (j .allowance) 512 in
     let accepted = job-good job j good in
     let found = readings-give-place c p (x ∷ y ∷ []) (j .window) (j .tolerance) (j .allowance) 512 e (hx, (hy, tt)) (accepted .0) inside (leb-true _ _ (accepted .1)) room (always-enough q (j .window) enough) in
-    (there .1, rw (there .1, chain-byte chain line x y (there .0), known) (subst⁻¹ (IsListed p) (fix-places q (j .window)) found))
+    (there .1, rw (there .1, chain-byte chain line x y (there .0), known) (subst⁻¹ (IsListed p) (fix-places (isRoundedIn s) q (j .window)) found))

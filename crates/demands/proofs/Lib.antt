@@ -9,6 +9,7 @@ mod TestLaws
 mod TextLaws
 mod MetresLaws
 mod QuestionLaws
+mod RoundingLaws
 pub mod Demand1
 pub mod Demand2
 pub mod Demand3

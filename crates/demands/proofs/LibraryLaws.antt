@@ -21,6 +21,7 @@ use Rattle.records.specs.Jobs.{jobBytes, jobIn, formedJobOf}
 use Rattle.writing.proofs.Theorems.{chain-write-refusals, refused-chain-zeros}
 use Rattle.records.specs.declared.RawAnswer.{RawAnswer}
 use Rattle.records.specs.declared.RawAnswer.the-variants as raw
+use Rattle.records.specs.declared.LogRecord.{LogRecord}
 use Rattle.records.specs.declared.LogEntry.{LogEntry}
 use Rattle.records.specs.declared.LogEntry.the-variants as entry
 use Rattle.records.specs.declared.ChainCount.{ChainCount}
@@ -33,7 +34,9 @@ use Rattle.records.specs.Refusals.{rawRefusal, entryRefusal, countRefusal, chai
 use Rattle.listing.specs.declared.Listed.{Listed}
 use Rattle.listing.specs.declared.Listed.the-variants as listed
 use Rattle.listing.specs.declared.Carried.the-variants as carried
-use Rattle.lay.specs.Figures.{jobBy, chainNumbers, chainWith, chainBy, refusedWith, chainLent, stationsLent, chainReadings, readingsLent, expectedLent, unsearched, searchedBy, searchedIn, searchTold, entryFigures, recordBy, countFigures, jobAnswered, heldFigures, listedFigures}
+use Rattle.records.specs.LogRecords.{inCentimetres}
+use Rattle.records.specs.Marks.{isAccepted, marksOf, withMarksOf}
+use Rattle.lay.specs.Figures.{jobBy, chainNumbers, chainWith, chainBy, refusedWith, chainLent, stationsLent, chainReadings, readingsLent, expectedLent, unsearched, searchedBy, searchedIn, searchTold, markFigure, entryFigures, markedFigures, recordBy, countFigures, jobAnswered, heldFigures, listedFigures}
 use Rattle.demands.specs.Numbers.{listedRefusal, NoneOr, Refuses, Leaves, searchNumbers, SearchIsTold}
 use Rattle.demands.proofs.NumberLaws.{wider, readings-number}
 
@@ -47,13 +50,28 @@ entry-told line chain (entry.Place p) numbers h = (h, λ r. absurd (r refl))
 entry-told line chain entry.Hold numbers h = (h, λ r. absurd (r refl))
 entry-told line chain (entry.Refused number) numbers h = (h, λ r. (refl, refl, refl, refl))
 
-pub record-told : (r : RawAnswer) (e : LogEntry) → NoneOr (1 ∷ []) (rawRefusal r) → NoneOr (1 ∷ 2 ∷ 3 ∷ 4 ∷ []) (entryRefusal e) →
-    let f = recordBy r e in
+pub record-told : (r : RawAnswer) (q : LogRecord) → NoneOr (1 ∷ []) (rawRefusal r) → NoneOr (1 ∷ 2 ∷ 3 ∷ 4 ∷ []) (entryRefusal (inCentimetres q)) →
+    let f = recordBy r (withMarksOf q) .entry in
     NoneOr (1 ∷ 2 ∷ 3 ∷ 4 ∷ []) (f .refusal) × (Refuses (f .refusal) → (f .kind ≡ 0) × (f .chain ≡ 0) × (f .x ≡ pos 0) × (f .y ≡ pos 0))
-unfolding recordBy rawRefusal entryRefusal isAmong
-record-told (raw.Record r) e h k = entry-told (r .line) (r .chain) e (1 ∷ 2 ∷ 3 ∷ 4 ∷ []) k
-record-told (raw.Refused number) e h k =
+unfolding recordBy markedFigures withMarksOf rawRefusal entryRefusal isAmong
+record-told (raw.Record r) q h k = entry-told (r .line) (r .chain) (inCentimetres q) (1 ∷ 2 ∷ 3 ∷ 4 ∷ []) k
+record-told (raw.Refused number) q h k =
     entry-told 0 0 (entry.Refused number) (1 ∷ 2 ∷ 3 ∷ 4 ∷ []) (wider number (0 ∷ 1 ∷ []) (0 ∷ 1 ∷ 2 ∷ 3 ∷ 4 ∷ []) refl h)
+
+-- And so are both marks.
+not-accepted : (line chain : ℕ) (e : LogEntry) → Refuses (entryFigures line chain e .refusal) → isAccepted e ≡ false
+unfolding entryFigures isAccepted
+not-accepted line chain (entry.Readings a b) r = absurd (r refl)
+not-accepted line chain (entry.Place p) r = absurd (r refl)
+not-accepted line chain entry.Hold r = absurd (r refl)
+not-accepted line chain (entry.Refused number) r = refl
+
+pub marks-told : (r : RawAnswer) (q : LogRecord) →
+    let f = recordBy r (withMarksOf q) in
+    Refuses (f .entry .refusal) → (f .xmark ≡ 0) × (f .ymark ≡ 0)
+unfolding recordBy markedFigures withMarksOf marksOf markFigure
+marks-told (raw.Record r) q some = rw (not-accepted (r .line) (r .chain) (inCentimetres q) some) (refl, refl)
+marks-told (raw.Refused number) q some = (refl, refl)
 
 pub count-told : (a : ChainCount) (numbers : List ℕ) → NoneOr numbers (countRefusal a) →
     let f = countFigures a in

@@ -98,30 +98,30 @@ job-never s =
     (unless-either never (leb (jobIn s .tolerance) mostTolerance) (λ e. absurd-equal cc) (λ e. absurd-equal cc)))))
 
 module _ (visits : ℕ) where
-  searched-never : (o : Outcome) → searched o ≡ Refused 0 visits → ⊥
+  searched-never : (rounded : Bool) (o : Outcome) → searched rounded o ≡ Refused 0 visits → ⊥
   unfolding searched
-  searched-never o = go (eqb (f .refusal) 0) refl
+  searched-never rounded o = go (eqb (f .refusal) 0) refl
     where
       f : SearchFigures
       f = searchFigures (o .answer)
 
-      go : (t : Bool) → eqb (f .refusal) 0 ≡ t → cond t (Fix (f .visits) (o .places)) (Refused (f .refusal) (f .visits)) ≡ Refused 0 visits → ⊥
+      go : (t : Bool) → eqb (f .refusal) 0 ≡ t → cond t (Fix (f .visits) (o .places) rounded) (Refused (f .refusal) (f .visits)) ≡ Refused 0 visits → ⊥
       go true t e = absurd-equal cc
       go false t e = eqb-false (f .refusal) 0 t cc
 
   hold-never : (before : Carried) → holdOf before ≡ Refused 0 visits → ⊥
   unfolding holdOf
-  hold-never (carried.Place p) e = absurd-equal cc
+  hold-never (carried.Place p rounded) e = absurd-equal cc
   hold-never carried.Nothing e = absurd-equal cc
 
-  fix-never : (j : Job) (readings : List ℤ) (chain : NamedChain) → (chain ≡ named.Refused 0 → ⊥) → fixBy j readings chain ≡ Refused 0 visits → ⊥
+  fix-never : (j : Job) (readings : List ℤ) (rounded : Bool) (chain : NamedChain) → (chain ≡ named.Refused 0 → ⊥) → fixBy j readings rounded chain ≡ Refused 0 visits → ⊥
   unfolding fixBy
-  fix-never j readings (named.Chain c) h e = searched-never _ e
-  fix-never j readings (named.Refused number) h e = h cc
+  fix-never j readings rounded (named.Chain c) h e = searched-never rounded _ e
+  fix-never j readings rounded (named.Refused number) h e = h cc
 
-  pub answer-never : (j : Job) (chain : NamedChain) (before : Carried) (said : LogEntry) → (chain ≡ named.Refused 0 → ⊥) → (said ≡ entry.Refused 0 → ⊥) → answerBy j chain before said ≡ Refused 0 visits → ⊥
+  pub answer-never : (j : Job) (chain : NamedChain) (before : Carried) (rounded : Bool) (said : LogEntry) → (chain ≡ named.Refused 0 → ⊥) → (said ≡ entry.Refused 0 → ⊥) → answerBy j chain before rounded said ≡ Refused 0 visits → ⊥
   unfolding answerBy
-  answer-never j chain before (entry.Readings a b) h k e = fix-never j (a ∷ b ∷ []) chain h e
-  answer-never j chain before (entry.Place p) h k e = absurd-equal cc
-  answer-never j chain before entry.Hold h k e = hold-never before e
-  answer-never j chain before (entry.Refused number) h k e = k cc
+  answer-never j chain before rounded (entry.Readings a b) h k e = fix-never j (a ∷ b ∷ []) rounded chain h e
+  answer-never j chain before rounded (entry.Place p) h k e = absurd-equal cc
+  answer-never j chain before rounded entry.Hold h k e = hold-never before e
+  answer-never j chain before rounded (entry.Refused number) h k e = k cc

@@ -8,13 +8,16 @@ use native.Mathlib.Omega.{arith}
 use borrow.Author.Tests.{eqb-true, ne-eqb}
 use lib.Dec.{leb, eqb}
 use lib.IntN.{ℤ, pos}
+use lib.Ieee.{Float}
 use lib.ListN.{length, replicate, length-append, length-replicate}
 use Rattle.fields.specs.Choices.{whereSo}
 use Rattle.metres.specs.declared.Whole.{Whole}
 use Rattle.metres.specs.declared.Whole.the-variants as whole
 use Rattle.metres.specs.declared.Length.{Length}
 use Rattle.metres.specs.declared.Length.the-variants as metres
-use Rattle.metres.specs.Metres.{wholeFigures, lengthFigures, plusZero}
+use Rattle.metres.specs.declared.Mark.the-variants.{Equal}
+use Rattle.metres.specs.Metres.{centimetresOf, wholeFigures, lengthFigures, plusZero}
+use Rattle.metres.specs.Marks.{markBy, markOf}
 use Rattle.chart.specs.declared.Place.{Place}
 use Rattle.chart.specs.declared.Chain.{Chain}
 use Rattle.chart.specs.Places.{inRange}
@@ -76,6 +79,15 @@ pub whole-number : (a : Whole) → NoneOr (3 ∷ []) (wholeFigures a .refusal) �
 unfolding wholeFigures isAmong
 whole-number (whole.Centimetres z) = (refl, λ r. absurd (r refl))
 whole-number whole.Refused = (refl, λ r. refl)
+
+marked-by : (x : Float) (a : Whole) → Refuses (wholeFigures a .refusal) → markBy x a ≡ Equal
+unfolding wholeFigures markBy
+marked-by x (whole.Centimetres z) r = absurd (r refl)
+marked-by x whole.Refused r = refl
+
+pub whole-marked : (x : Float) → Refuses (wholeFigures (centimetresOf x) .refusal) → markOf x ≡ Equal
+unfolding markOf
+whole-marked x = marked-by x (centimetresOf x)
 
 pub length-number : (a : Length) → NoneOr (3 ∷ []) (lengthFigures a .refusal) × (Refuses (lengthFigures a .refusal) → lengthFigures a .metres ≡ plusZero)
 unfolding lengthFigures isAmong
@@ -241,28 +253,28 @@ abbrev pub recordNumbers : List ℕ
 recordNumbers = 1 ∷ 2 ∷ 3 ∷ 4 ∷ 5 ∷ 8 ∷ 9 ∷ 10 ∷ 11 ∷ []
 
 module _ (j : Job) (window : isWindow (j .window) ≡ true) (tolerance : leb (j .tolerance) mostTolerance ≡ true) where
-  fix-number : (readings : List ℤ) (chain : NamedChain) → isAmong (chainRefusal chain) (0 ∷ 1 ∷ 5 ∷ []) ≡ true → NoneOr recordNumbers (recordRefusal (fixBy j readings chain))
+  fix-number : (readings : List ℤ) (rounded : Bool) (chain : NamedChain) → isAmong (chainRefusal chain) (0 ∷ 1 ∷ 5 ∷ []) ≡ true → NoneOr recordNumbers (recordRefusal (fixBy j readings rounded chain))
   unfolding fixBy searched recordRefusal searchFigures isAmong chainRefusal
-  fix-number readings (named.Refused number) h = wider number (0 ∷ 1 ∷ 5 ∷ []) (0 ∷ recordNumbers) refl h
-  fix-number readings (named.Chain c) h =
+  fix-number readings rounded (named.Refused number) h = wider number (0 ∷ 1 ∷ 5 ∷ []) (0 ∷ recordNumbers) refl h
+  fix-number readings rounded (named.Chain c) h =
       let q : Question = questionOf c readings (j .tolerance) (j .allowance) (2 * programRoom) in
-      good-search (λ (o : Outcome). NoneOr recordNumbers (recordRefusal (searched o))) q (j .window) window tolerance
+      good-search (λ (o : Outcome). NoneOr recordNumbers (recordRefusal (searched rounded o))) q (j .window) window tolerance
       refl refl (λ v. refl) (λ v. refl) (go (walk q (j .window) .places) (walk q (j .window) .visits))
     where
-      go : (ps : List Place) (v : ℕ) → NoneOr recordNumbers (recordRefusal (searched (gone ps v)))
+      go : (ps : List Place) (v : ℕ) → NoneOr recordNumbers (recordRefusal (searched rounded (gone ps v)))
       go [] v = refl
       go (p ∷ ps) v = refl
 
   hold-number : (before : Carried) → NoneOr recordNumbers (recordRefusal (holdOf before))
   unfolding holdOf recordRefusal isAmong
-  hold-number (carried.Place p) = refl
+  hold-number (carried.Place p rounded) = refl
   hold-number carried.Nothing = refl
 
-  pub answer-number : (chain : NamedChain) (before : Carried) (e : LogEntry) →
+  pub answer-number : (chain : NamedChain) (before : Carried) (rounded : Bool) (e : LogEntry) →
       isAmong (chainRefusal chain) (0 ∷ 1 ∷ 5 ∷ []) ≡ true → isAmong (entryRefusal e) (0 ∷ 1 ∷ 2 ∷ 3 ∷ 4 ∷ []) ≡ true →
-      NoneOr recordNumbers (recordRefusal (answerBy j chain before e))
+      NoneOr recordNumbers (recordRefusal (answerBy j chain before rounded e))
   unfolding answerBy recordRefusal isAmong entryRefusal
-  answer-number chain before (entry.Readings a b) h k = fix-number (a ∷ b ∷ []) chain h
-  answer-number chain before (entry.Place p) h k = refl
-  answer-number chain before entry.Hold h k = hold-number before
-  answer-number chain before (entry.Refused number) h k = wider number (0 ∷ 1 ∷ 2 ∷ 3 ∷ 4 ∷ []) (0 ∷ recordNumbers) refl k
+  answer-number chain before rounded (entry.Readings a b) h k = fix-number (a ∷ b ∷ []) rounded chain h
+  answer-number chain before rounded (entry.Place p) h k = refl
+  answer-number chain before rounded entry.Hold h k = hold-number before
+  answer-number chain before rounded (entry.Refused number) h k = wider number (0 ∷ 1 ∷ 2 ∷ 3 ∷ 4 ∷ []) (0 ∷ recordNumbers) refl k

@@ -22,6 +22,8 @@ use Rattle.fields.proofs.lies_inside as lies-inside
 use Rattle.fields.proofs.put_four as put-four
 use Rattle.fields.proofs.put_eight as put-eight
 use Rattle.metres.proofs.centimetres as centimetres
+use Rattle.metres.proofs.marked as marked
+use Rattle.metres.proofs.is_rounded as is-rounded
 use Rattle.metres.proofs.metres as metres
 use Rattle.metres.proofs.size as size
 use Rattle.metres.proofs.whole_figures as whole-figures
@@ -44,6 +46,7 @@ use Rattle.search.proofs.clear_entries as clear-entries
 use Rattle.records.proofs.raw_record as raw-record
 use Rattle.records.proofs.log_record as log-record
 use Rattle.records.proofs.log_entry as log-entry
+use Rattle.records.proofs.marked_entry as marked-entry
 use Rattle.records.proofs.is_place as is-place
 use Rattle.records.proofs.one_to as one-to
 use Rattle.records.proofs.chain_count as chain-count
@@ -60,6 +63,7 @@ use Rattle.writing.proofs.clear_buffer as clear-buffer
 use Rattle.text.proofs.put as text-put
 use Rattle.text.proofs.put_number as text-put-number
 use Rattle.text.proofs.put_whole as put-whole
+use Rattle.text.proofs.put_flag as put-flag
 use Rattle.text.proofs.put_bytes as put-bytes
 use Rattle.parsing.proofs.line_end as line-end
 use Rattle.parsing.proofs.is_word as is-word
@@ -136,6 +140,12 @@ module _ {M : Type 1} (𝓤 : URA M) (H : Heap 𝓤) (A : Atoms 𝓤) (mem : Mem
   pub centimetres-only : OneAnswer 𝓤 centimetres.ended (centimetres.clauses 𝓤 H A mem run)
   centimetres-only κs a g x y = only 𝓤 same (λ answer. answer & refl)
 
+  pub marked-only : OneAnswer 𝓤 marked.ended (marked.clauses 𝓤 H A mem run)
+  marked-only κs a g x y = only 𝓤 same (λ answer. answer & refl)
+
+  pub is-rounded-only : OneAnswer 𝓤 is-rounded.ended (is-rounded.clauses 𝓤 H A mem run)
+  is-rounded-only κs a g x y = only 𝓤 same (λ answer. answer & refl)
+
   pub metres-only : OneAnswer 𝓤 metres.ended (metres.clauses 𝓤 H A mem run)
   metres-only κs a g x y = only 𝓤 (same beside told) (λ (answer, back). answer & refl)
 
@@ -199,6 +209,9 @@ module _ {M : Type 1} (𝓤 : URA M) (H : Heap 𝓤) (A : Atoms 𝓤) (mem : Mem
   pub log-entry-only : OneAnswer 𝓤 log-entry.ended (log-entry.clauses 𝓤 H A mem run)
   log-entry-only κs a g x y = only 𝓤 same (λ answer. answer & refl)
 
+  pub marked-entry-only : OneAnswer 𝓤 marked-entry.ended (marked-entry.clauses 𝓤 H A mem run)
+  marked-entry-only κs a g x y = only 𝓤 same (λ answer. answer & refl)
+
   pub is-place-only : OneAnswer 𝓤 is-place.ended (is-place.clauses 𝓤 H A mem run)
   is-place-only κs a g x y = only 𝓤 same (λ answer. answer & refl)
 
@@ -246,6 +259,9 @@ module _ {M : Type 1} (𝓤 : URA M) (H : Heap 𝓤) (A : Atoms 𝓤) (mem : Mem
 
   pub put-whole-only : OneAnswer 𝓤 put-whole.ended (put-whole.clauses 𝓤 H A mem run)
   put-whole-only κs a g x y = only 𝓤 (same beside same) (λ (end, out). end & out & refl)
+
+  pub put-flag-only : OneAnswer 𝓤 put-flag.ended (put-flag.clauses 𝓤 H A mem run)
+  put-flag-only κs a g x y = only 𝓤 (same beside same) (λ (end, out). end & out & refl)
 
   pub put-bytes-only : OneAnswer 𝓤 put-bytes.ended (put-bytes.clauses 𝓤 H A mem run)
   put-bytes-only κs a g x y = only 𝓤 (same beside same) (λ (end, out). end & out & refl)
@@ -356,7 +372,7 @@ module _ {M : Type 1} (𝓤 : URA M) (H : Heap 𝓤) (A : Atoms 𝓤) (mem : Mem
   lay-version-only κs a g x y = only 𝓤 same (λ answer. answer & refl)
 
   pub lay-centimetres-only : OneAnswer 𝓤 lay-centimetres.ended (lay-centimetres.clauses 𝓤 H A mem run)
-  lay-centimetres-only κs a g x y = only 𝓤 (same beside same) (λ (answer, centimetres). answer & refl & centimetres & refl)
+  lay-centimetres-only κs a g x y = only 𝓤 (same beside same beside same) (λ (answer, (centimetres, mark)). answer & refl & centimetres & mark & refl)
 
   pub lay-metres-only : OneAnswer 𝓤 lay-metres.ended (lay-metres.clauses 𝓤 H A mem run)
   lay-metres-only κs a g x y = only 𝓤 (same beside same) (λ (answer, metres). answer & refl & metres & refl)
@@ -368,7 +384,7 @@ module _ {M : Type 1} (𝓤 : URA M) (H : Heap 𝓤) (A : Atoms 𝓤) (mem : Mem
   lay-search-only κs a g x y = only 𝓤 (same beside same beside same) (λ (answer, (list, found)). answer & list & refl & refl & refl & found & refl)
 
   pub lay-read-record-only : OneAnswer 𝓤 lay-read-record.ended (lay-read-record.clauses 𝓤 H A mem run)
-  lay-read-record-only κs a g x y = only 𝓤 (same beside same beside same beside same beside same beside same) (λ (answer, (kind, (chain, (line, (first, second))))). answer & refl & kind & chain & line & first & second & refl)
+  lay-read-record-only κs a g x y = only 𝓤 (same beside same beside same beside same beside same beside same beside same beside same) (λ (answer, (kind, (chain, (line, (first, (second, (first-mark, second-mark))))))). answer & refl & kind & chain & line & first & second & first-mark & second-mark & refl)
 
   pub lay-write-record-only : OneAnswer 𝓤 lay-write-record.ended (lay-write-record.clauses 𝓤 H A mem run)
   lay-write-record-only κs a g x y = only 𝓤 (same beside same) (λ (answer, buffer). answer & buffer & refl)

@@ -2,5 +2,6 @@
 pub mod Cases
 pub mod Numbers
 pub mod Typed
+pub mod Roundings
 pub mod Finding
 pub mod OneAnswer

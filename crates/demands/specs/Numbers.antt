@@ -16,9 +16,9 @@ use Rattle.listing.specs.Answers.{RecordAnswer, Fix, Grid, Hold, Refused}
 
 -- The refusal number in the answer to a record of a log, and in the answer to a listing.
 unfoldable pub recordRefusal : RecordAnswer → ℕ
-recordRefusal (Fix visits places) = 0
-recordRefusal (Grid p) = 0
-recordRefusal (Hold p) = 0
+recordRefusal (Fix visits places rounded) = 0
+recordRefusal (Grid p rounded) = 0
+recordRefusal (Hold p rounded) = 0
 recordRefusal (Refused number visits) = number
 
 unfoldable pub listedRefusal : Listed → ℕ

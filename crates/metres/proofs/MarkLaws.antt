@@ -2,6 +2,7 @@
 -- are counted in other parts, the mark is the same.
 use Prim.Native.Nat.{ℕ, zero, suc, _*_, _^_, _≤_, _<_}
 use mathlib.Core.Path.{_≡_, refl, sym, ap, ap₂, _∙_, subst, subst⁻¹}
+use mathlib.Core.Logic.{_↔_}
 use mathlib.Core.Bool.{Bool, true, false, cond}
 use native.Mathlib.Nat.{mul-right-comm, mul-lt-mul-of-pos-right, lt-of-mul-lt-mul-right, le-antisymm, le-of-lt, le-refl}
 use native.Mathlib.Omega.{arith}
@@ -80,6 +81,14 @@ mark-only x Refused mark h = h
 mark-only nan (Centimetres z) mark h = h
 mark-only (inf s) (Centimetres z) mark h = h
 mark-only (fin s m e) (Centimetres z) mark h = seen-only mark (asParts e z) (exactParts s m e) h
+
+-- So a number with the answer w has exactly the mark that is allowed beside w.
+pub mark-says : (x : Float) (w : Whole) → centimetresOf x ≡ w → (mark : Mark) → (markOf x ≡ mark) ↔ MayMark x w mark
+unfolding markOf
+mark-says x w h mark = (
+  (λ e. subst (MayMark x w) (sym (ap (markBy x) h) ∙ e) (mark-allowed x w)),
+  (λ m. ap (markBy x) h ∙ sym (mark-only x w mark m)),
+)
 
 -- Of two sizes with the same sign: below zero the larger size is the smaller number.
 pub seen-minus : (from size : ℕ) → seenFrom (signed true from) (signed true size) ≡ seenFrom (pos size) (pos from)
