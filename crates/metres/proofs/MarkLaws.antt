@@ -1,6 +1,6 @@
 -- The mark of a number: `markOf` gives one that `MayMark` allows, and no other is allowed. And where the centimetres and the hundredfold
 -- are counted in other parts, the mark is the same.
-use Prim.Native.Nat.{ℕ, zero, suc, _*_, _^_, _≤_, _<_}
+use Prim.Native.Nat.{ℕ, zero, suc, _*_, _^_, _<_}
 use mathlib.Core.Path.{_≡_, refl, sym, ap, ap₂, _∙_, subst, subst⁻¹}
 use mathlib.Core.Logic.{_↔_}
 use mathlib.Core.Bool.{Bool, true, false, cond}
@@ -8,22 +8,21 @@ use native.Mathlib.Nat.{mul-right-comm, mul-lt-mul-of-pos-right, lt-of-mul-lt-mu
 use native.Mathlib.Omega.{arith}
 use lib.Pow.{pow-pos}
 use lib.Dec.{T, ltb, leb·suc-suc}
-use lib.IntN.{ℤ, pos, negsuc, _*ℤ_}
+use lib.IntN.{ℤ, pos, negsuc}
 use lib.Signed.{ltZ, _<ℤ_, ltZ-yes}
 use lib.Ieee.{Float, nan, inf, fin, down}
 use lib.Ieee.Fits.{down-pos}
-use lib.Ieee.Nearest.{closest, closest-same}
+use lib.Ieee.Nearest.{closest}
 use borrow.Author.Tests.{ltb-true, ltb-false, lt-ltb, le-ltb}
 use Rattle.metres.specs.declared.Whole.{Whole}
 use Rattle.metres.specs.declared.Whole.the-variants.{Centimetres, Refused}
 use Rattle.metres.specs.declared.Mark.{Mark}
 use Rattle.metres.specs.declared.Mark.the-variants.{Equal, Below, Above}
-use Rattle.metres.specs.declared.MarkedWhole.{MarkedWhole}
 use Rattle.metres.specs.declared.Hundredfold.the-variants as exact
 use Rattle.metres.specs.Metres.{signed, hundredfold, centimetresOf}
 use Rattle.metres.specs.Marks.{asParts, exactParts, Lies, MayMark, seenFrom, markBy, markOf, markedOf}
 use Rattle.metres.specs.Hundredfolds.{IsHundredfold, nearestTo}
-use Rattle.metres.proofs.Answers.{times, given, refused}
+use Rattle.metres.proofs.Answers.{times}
 use Rattle.metres.proofs.Exact.{of-refused, of-exact}
 
 -- Two whole numbers neither of which is the smaller are equal.

@@ -6,6 +6,8 @@ use lib.Ieee.{nan, inf, ofBits, toBits}
 use Rattle.metres.specs.declared.Whole.the-variants as whole
 use Rattle.metres.specs.declared.Length.the-variants as length
 use Rattle.metres.specs.Metres.{centimetresOf, metresOf, wholeFigures, lengthFigures, plusZero}
+use Rattle.metres.specs.declared.Mark.the-variants as mark
+use Rattle.metres.specs.Marks.{seenFrom, markBy, markOf}
 use Rattle.metres.specs.Patterns.{numberOf, isPlusZero}
 
 -- The binary64 numbers next to 0.005 lie on both sides of it: the upper gives 1, the lower 0.
@@ -16,6 +18,33 @@ above-half = refl
 below-half : centimetresOf (numberOf 0x3f74_7ae1_47ae_147a) ≡ whole.Centimetres (pos 0)
 unfolding centimetresOf ofBits
 below-half = refl
+
+-- So 100 times the upper lies below its 1, and 100 times the lower above its 0. A product that is rounded to 53 binary digits would be
+-- one half for the upper, and make it 0.
+above-half-mark : markOf (numberOf 0x3f74_7ae1_47ae_147b) ≡ mark.Below
+unfolding markOf markBy seenFrom centimetresOf ofBits
+above-half-mark = refl
+
+below-half-mark : markOf (numberOf 0x3f74_7ae1_47ae_147a) ≡ mark.Above
+unfolding markOf markBy seenFrom centimetresOf ofBits
+below-half-mark = refl
+
+-- 0.25 is exact; 0.01 is a little more than a hundredth, -0.125 lies below its -12, and minus zero is exact.
+quarter-mark : markOf (numberOf 0x3fd0_0000_0000_0000) ≡ mark.Equal
+unfolding markOf markBy seenFrom centimetresOf ofBits
+quarter-mark = refl
+
+hundredth-mark : markOf (numberOf 0x3f84_7ae1_47ae_147b) ≡ mark.Above
+unfolding markOf markBy seenFrom centimetresOf ofBits
+hundredth-mark = refl
+
+tie-mark : markOf (numberOf 0xbfc0_0000_0000_0000) ≡ mark.Below
+unfolding markOf markBy seenFrom centimetresOf ofBits
+tie-mark = refl
+
+minus-zero-mark : markOf (numberOf 0x8000_0000_0000_0000) ≡ mark.Equal
+unfolding markOf markBy seenFrom centimetresOf ofBits
+minus-zero-mark = refl
 
 -- 10,000,000 is read; the next number is refused, with 3 and 0, and so are NaN and minus infinity.
 largest : centimetresOf (numberOf 0x4163_12d0_0000_0000) ≡ whole.Centimetres (pos 1_000_000_000)

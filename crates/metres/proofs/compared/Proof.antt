@@ -1,6 +1,5 @@
 -- `metres::compared` meets its contract: the two tests decide.
 use borrow.Author.Tests.{lt-ltb, le-ltb}
-use native.Mathlib.Nat.{le-of-lt, le-antisymm}
 use Rattle.metres.specs.Marks.{seenFrom}
 use Rattle.metres.proofs.compared.Statement.{statement}
 use Rattle.metres.proofs.compared.Tie as tie

@@ -1,7 +1,5 @@
 -- `metres::marked` meets its contract: the hundredfold is exact, so what it becomes is what the number becomes.
 use mathlib.Core.Path.{_∙_, subst}
-use mathlib.Core.Bool.{Bool}
-use Prim.Native.Nat.{ℕ}
 use lib.Ieee.{Float}
 use Rattle.metres.specs.declared.Hundredfold.the-variants.{Exact}
 use Rattle.metres.specs.Hundredfolds.{IsHundredfold}

@@ -1,6 +1,6 @@
 -- `metres::nearest` meets its contract: the parts are rounded, and compared with what they were rounded to.
 use Prim.Native.Nat.{ℕ, _*_, _^_, _<_}
-use mathlib.Core.Path.{_≡_, sym, ap, ap₂, _∙_, subst⁻¹}
+use mathlib.Core.Path.{ap, ap₂, _∙_, subst⁻¹}
 use lib.IntN.{ℤ}
 use mir.Syntax.{w64}
 use mir.ValLaws.{toZ-ofZ}

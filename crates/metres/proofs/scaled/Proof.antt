@@ -1,6 +1,6 @@
 -- `metres::scaled` meets its contract: the product fits, since n is near; and with 62 halvings or more, n is 0.
 use Prim.Native.Nat.{ℕ, _*_, _^_, _<_}
-use mathlib.Core.Path.{_≡_, sym, ap, ap₂, _∙_, subst⁻¹}
+use mathlib.Core.Path.{_≡_, sym, ap, ap₂, _∙_}
 use native.Mathlib.Nat.{zero-mul}
 use native.Mathlib.Omega.{arith}
 use lib.Pow.{pow-pos, pow-lt}

@@ -1,6 +1,4 @@
 -- `records::with_marks` meets its contract: only a refused entry has other marks than those it is given.
-use mathlib.Core.Path.{sym, ap, _∙_}
-use Rattle.metres.specs.declared.Mark.the-variants.{Equal}
 use Rattle.records.specs.Marks.{isAccepted}
 use Rattle.records.specs.Gathered.{markedAs}
 use Rattle.records.proofs.MarkLaws.{not-refused}
