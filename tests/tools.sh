@@ -275,6 +275,13 @@ for tool in layjob laychain laywrite layexpect layshow laylist; do
     pass_if "$tool --help does nothing else" holds
 done
 
+# That of laylist, the last one, has the form of each line that docs/FORMATS.md has.
+forms=$(sed -n 's/^| `\(LINE [^`]*\)` |.*/\1/p' "$repository/docs/FORMATS.md")
+pass_if 'docs/FORMATS.md has four forms of a line' [ "$(wc -l <<<"$forms")" -eq 4 ]
+while read -r form; do
+    pass_if "laylist --help has the form $form" grep -qE "^  ${form//./\\.}  " "$folders/help"
+done <<<"$forms"
+
 # pieces TEXT...: one text, in pieces that come one after the other
 pieces() {
     local piece

@@ -38,14 +38,15 @@ fn main() {
         b"laylist lists a lay log: it reads job.dat, chain.dat and lay.dat in this folder, and prints
 one line for each record.
 
-  LINE FIX COUNT VISITS E N E N ..    the places that two readings allow, in chart order
-  LINE GRID 1 0 E N                   the place that a grid record names
-  LINE HOLD 1 0 E N                   the place of the record just before
-  LINE REFUSED NUMBER VISITS          a record that is refused
+  LINE FIX COUNT VISITS E N E N .. ROUNDED    the places that two readings allow, in chart order
+  LINE GRID 1 0 E N ROUNDED                   the place that a grid record names
+  LINE HOLD 1 0 E N ROUNDED                   the place of the record just before
+  LINE REFUSED NUMBER VISITS                  a record that is refused
 
-LINE is the record's line number; eastings and northings are in centimetres. A job or table that
-is refused prints JOB REFUSED or CHAIN REFUSED alone. A missing file counts as empty, and a note
-says so.
+LINE is the record's line number; eastings and northings are in centimetres. ROUNDED is 0 if both
+numbers of the record are exactly whole centimetres, 1 if one was rounded; a hold repeats it. A job
+or table that is refused prints JOB REFUSED or CHAIN REFUSED alone. A missing file counts as empty,
+and a note says so.
 
   laylist           lists this folder
   laylist FOLDER    lists that folder
