@@ -25,6 +25,7 @@ use Rattle.metres.specs.Marks.{MayMark, markOf}
 use Rattle.metres.specs.Patterns.{numberOf, patternOf}
 use Rattle.metres.proofs.Answers.{answers, answers-only}
 use Rattle.metres.proofs.MarkLaws.{mark-says}
+use Rattle.metres.proofs.Quarters.{quarters}
 use Rattle.metres.proofs.Back.{written, not-written, hundredth-back}
 use Rattle.metres.proofs.PatternLaws.{number-back}
 use Rattle.chart.specs.declared.Place.{Place}
@@ -134,6 +135,12 @@ refused-is-equal x h = mark-says x _ h mark.Equal .1 refl
 
 pub metres-are-marked : (x : Float) (k : Mark) → (k ≡ markOf x) ↔ MayMark x (centimetresOf x) k
 metres-are-marked x k = ((λ e. mark-says x _ refl k .0 (sym e)), (λ h. sym (mark-says x _ refl k .1 h)))
+
+-- A number that is read is exact exactly if it is a whole number of quarters of a metre: 4 times the number is some k.
+pub exact-are-quarters : (s : Bool) (m : ℕ) (e z : ℤ) →
+    let x = fin s m e in
+    centimetresOf x ≡ whole.Centimetres z → (markOf x ≡ mark.Equal) ↔ ((k : ℕ) × (4 * (m * up e) ≡ k * down e))
+exact-are-quarters = quarters
 
 -- The last field of a line `FIX` or `GRID` is 0 exactly if every number that its record uses is exact, and 1 exactly if not.
 pub field-is-true : (j : Job) (table : List ℕ) (before : Carried) (s : List ℕ) →

@@ -50,7 +50,7 @@ times false n b = refl
 times true zero b = rw (zero-mul b)
 times true (suc n) b = refl
 
-size-signed : (t : Bool) (n : ℕ) → natAbs (signed t n) ≡ n
+pub size-signed : (t : Bool) (n : ℕ) → natAbs (signed t n) ≡ n
 size-signed false n = refl
 size-signed true zero = refl
 size-signed true (suc n) = refl
@@ -67,7 +67,7 @@ module _ (s : Bool) (m : ℕ) (e : ℤ) (n : ℕ) where
   off-same : off s m e (signed s n) ≡ (n * down e - hundredfold m e) + (hundredfold m e - n * down e)
   off-same = off-is s s n m e ∙ gap-same s (n * down e) (hundredfold m e)
 
-  from-near : Near (hundredfold m e) (down e) n → IsNearest s m e (signed s n)
+  pub from-near : Near (hundredfold m e) (down e) n → IsNearest s m e (signed s n)
   from-near h = record {
     near = subst⁻¹ (λ (d : ℕ). 2 * d ≤ down e) off-same (h .near);
     tie = λ t. ap (λ (k : ℕ). k % 2) (size-signed s n) ∙ h .tie (ap (λ (d : ℕ). 2 * d) (sym off-same) ∙ t);

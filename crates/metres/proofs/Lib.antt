@@ -7,5 +7,6 @@ mod Sizes
 mod Exact
 pub mod MarkLaws
 mod Digits
+pub mod Quarters
 mod Worked
 pub mod Negatives
