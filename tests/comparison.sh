@@ -103,6 +103,18 @@ for file in job.dat chain.dat lay.dat; do
     pass_if "$file is missing somewhere" [ "$(find "$logs" -name "$file" | wc -l)" -lt "$folders" ]
 done
 
+# minus_zero: that a grid record whose easting is minus zero is listed, and is exact. Each record of a log has its line.
+minus_zero() {
+    local folder at
+    for folder in "$logs"/*; do
+        [ -f "$folder/lay.dat" ] || continue
+        at=$(od -An -v -tx1 -w32 "$folder/lay.dat" | grep -nE '^ 02 00 00 00( ..){4}( 00){7} 80' | head -n 1 | cut -d : -f 1)
+        [ -n "$at" ] && sed -n "${at}p" "$folder/expected" | grep -qE ' GRID 1 0 0 [0-9]+ 0$' && return
+    done
+    return 1
+}
+pass_if 'a place of minus zero is listed as exact' minus_zero
+
 # Every verb has been answered with each refusal that it can give; 0 is none.
 refuses centimetres 0 3
 refuses metres 0 3

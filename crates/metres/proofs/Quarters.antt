@@ -3,10 +3,10 @@
 use Prim.Native.Nat.{ℕ, zero, suc, _+_, _*_, _/_, _%_, _^_, _<_}
 use mathlib.Core.Path.{_≡_, refl, sym, ap, _∙_, subst}
 use mathlib.Core.Logic.{_↔_}
-use mathlib.Core.Bool.{Bool}
+use mathlib.Core.Bool.{Bool, true}
 use native.Mathlib.Nat.{mul-assoc, mul-left-comm, pow-succ', div-add-mod', mod-lt}
 use native.Mathlib.Omega.{arith}
-use lib.IntN.{ℤ, pos, negsuc, natAbs, negℤ, _*ℤ_}
+use lib.IntN.{ℤ, pos, negsuc, natAbs, _*ℤ_}
 use lib.Ieee.{fin, up, down}
 use lib.Ieee.Fits.{down-pos}
 use Rattle.metres.specs.declared.Whole.{Whole}
@@ -54,11 +54,7 @@ quarters-of a w (negsuc n) h = odd-factor (suc n) a w h
 
 size-times : (z : ℤ) (d : ℕ) → natAbs (z *ℤ pos d) ≡ natAbs z * d
 size-times (pos n) d = refl
-size-times (negsuc n) d = size-below (suc n * d)
-  where
-    size-below : (n : ℕ) → natAbs (negℤ (pos n)) ≡ n
-    size-below zero = refl
-    size-below (suc n) = refl
+size-times (negsuc n) d = size-signed true (suc n * d)
 
 -- An exact number is a whole number of quarters.
 to-quarters : (s : Bool) (m : ℕ) (e z : ℤ) → exactParts s m e ≡ asParts e z → (k : ℕ) × (4 * (m * up e) ≡ k * down e)

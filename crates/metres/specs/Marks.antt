@@ -37,6 +37,7 @@ MayMark (fin s m e) (Centimetres z) mark = Lies mark (asParts e z) (exactParts s
 unfoldable pub seenFrom : ℤ → ℤ → Mark
 seenFrom z x = cond (ltZ x z) Below (cond (ltZ z x) Above Equal)
 
+-- The mark of a number, beside its answer in centimetres; and from the number alone.
 unfoldable pub markBy : Float → Whole → Mark
 markBy x Refused = Equal
 markBy nan (Centimetres z) = Equal
