@@ -1,5 +1,6 @@
 -- `text::put_flag` meets its contract: one of two texts.
 use mathlib.Core.Path.{sym, ap}
+use mathlib.Core.List.{[], _∷_}
 use Rattle.text.specs.Texts.{flagText, bytesIn}
 use Rattle.text.proofs.PutLaws.{promised-as}
 use borrow.Author.Needs.{needs}
@@ -19,7 +20,7 @@ returns : tie.Need-returns
 unfolding flagText bytesIn
 returns c =
     let call = c .before .before in
-    promised-as _ _ (ap flagText (sym (call .before .before .before .if1 .taken))) (call .put .ensures)
+    promised-as _ _ {x = 32 ∷ 49 ∷ []} (ap flagText (sym (call .before .before .before .if1 .taken))) (call .put .ensures)
 
 slice-aggregate-put-2 : tie.Need-slice-aggregate-put-2
 slice-aggregate-put-2 c = search needs
@@ -34,7 +35,7 @@ returns-2 : tie.Need-returns-2
 unfolding flagText bytesIn
 returns-2 c =
     let call = c .before .before in
-    promised-as _ _ (ap flagText (sym (call .before .before .before .if1 .left))) (call .put2 .ensures)
+    promised-as _ _ {x = 32 ∷ 48 ∷ []} (ap flagText (sym (call .before .before .before .if1 .left))) (call .put2 .ensures)
 
 pub put-flag-spec : {M : Type 1} → statement M
 put-flag-spec =
