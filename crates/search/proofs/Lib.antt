@@ -13,6 +13,7 @@ pub mod Limits
 pub mod Outcomes
 pub mod Telling
 pub mod Theorems
+pub mod CountLaws
 mod Agreeing
 pub mod Clearing
 mod Signs

@@ -2,8 +2,9 @@
 -- (01, The search and its count).
 use Prim.Native.Nat.{ℕ, zero, suc, _+_, _-_, _*_, _/_, _%_, _^_, _≤_, _<_}
 use mathlib.Core.Path.{_≡_}
-use mathlib.Core.Bool.{Bool, true, false}
+use mathlib.Core.Bool.{Bool, true, false, cond}
 use mathlib.Core.List.{List, [], _∷_, _++_, List·Memᴰ}
+use lib.Dec.{ltb}
 use lib.ListN.{length}
 use Rattle.fields.specs.Choices.{whereSo}
 use Rattle.chart.specs.declared.Place.{Place}
@@ -51,6 +52,16 @@ visitsOf rule zero p = 1
 visitsOf rule (suc k) p =
     1 + whereSo (isKept rule k p) 0
     (λ _. visitsOf rule k p + (visitsOf rule k (east (2 ^ k) p) + (visitsOf rule k (north (2 ^ k) p) + visitsOf rule k (northEast (2 ^ k) p))))
+
+-- The visits that a square takes up to and with its cell o: one, those of the quarters before the one that o lies in, and those in
+-- that quarter up to and with o.
+unfoldable pub visitsTo : Rule → ℕ → Place → Place → ℕ
+visitsTo rule zero p o = 1
+visitsTo rule (suc k) p o =
+    let west = ltb (o .easting) (p .easting + 2 ^ k) in
+    1 + cond (ltb (o .northing) (p .northing + 2 ^ k))
+    (cond west (visitsTo rule k p o) (visitsOf rule k p + visitsTo rule k (east (2 ^ k) p) o))
+    (visitsOf rule k p + (visitsOf rule k (east (2 ^ k) p) + cond west (visitsTo rule k (north (2 ^ k) p) o) (visitsOf rule k (north (2 ^ k) p) + visitsTo rule k (northEast (2 ^ k) p) o)))
 
 -- The most visits that any square of side 2^k takes.
 abbrev pub mostVisits : ℕ → ℕ

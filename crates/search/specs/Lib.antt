@@ -4,4 +4,5 @@ pub mod Questions
 pub mod Walk
 pub mod Answers
 pub mod Cells
+pub mod Counts
 pub mod Holding

@@ -10,10 +10,12 @@ ghost use Rattle.chart.specs.Places.{inRange, squaredDistance, distanceOf};
 ghost use Rattle.chart.specs.Readings.{differ, wantedOf, within};
 ghost use Rattle.search.specs.Windows.{isWindow};
 ghost use Rattle.search.specs.Windows as windows;
-ghost use Rattle.search.specs.Questions.{noneTooLarge};
+ghost use Rattle.search.specs.declared.HowMany.the-variants.{Refused};
+ghost use Rattle.search.specs.Questions.{ruleOf, noneTooLarge};
 ghost use Rattle.search.specs.Walk.{Standing, start};
 ghost use Rattle.search.specs.Walk as walk;
 ghost use Rattle.search.specs.Answers.{ended, listOf, searchLeft, searchFigures};
+ghost use Rattle.search.specs.Counts.{saidFor, howManyOf};
 ghost use Rattle.search.specs.Holding.{aboveZero, belowZero, ruleBy, questionBy, Fair, Ready, OnChart, Holds};
 use chart::Chain;
 use chart::Place;
@@ -41,6 +43,14 @@ pub struct SearchFigures {
     pub refusal: u32,
     pub count: usize,
     pub visits: u64,
+}
+
+// How many places match: none, one or several, with the visits that it took to decide. Or a refusal, with the visits made.
+pub enum HowMany {
+    None { visits: u64 },
+    One { place: Place, visits: u64 },
+    Several { visits: u64 },
+    Refused { number: u32, visits: u64 },
 }
 
 // A slave and the reading that is wanted for it, split into how far it is above 0 and how far below.
@@ -156,6 +166,51 @@ pub fn as_figures(a: Answer) -> SearchFigures
         Answer::NoRoom { visits } => told(9, 0, visits),
         Answer::AllowanceUsed { visits } => told(10, 0, visits),
     }
+}
+
+// Whether no place of the window matches the readings, one, or several: a search with room for one place.
+pub fn how_many(
+    c: Chain,
+    ra: i64,
+    rb: i64,
+    w: Window,
+    tolerance: u32,
+    allowance: u64,
+) -> HowMany
+    ensures { λ r. ⌜ r ≡ howManyOf (ruleOf c (ra ∷ rb ∷ []) tolerance) w allowance ⌝ }
+{
+    let mut list = [0u32; 2];
+    let answer = search(&mut list, c, ra, rb, w, tolerance, allowance);
+    let first = Place {
+        easting: list[0],
+        northing: list[1],
+    };
+    said_for(answer, first)
+}
+
+// What the answer of that search says, if `first` is what its list begins with.
+fn said_for(a: Answer, first: Place) -> HowMany
+    ensures { λ r. ⌜ r ≡ saidFor a first ⌝ }
+{
+    match a {
+        Answer::Places { count: _, visits } => HowMany::One {
+            place: first,
+            visits,
+        },
+        Answer::ReadingTooLarge => refused(3, 0),
+        Answer::Unsound => refused(5, 0),
+        Answer::BadWindow => refused(6, 0),
+        Answer::BadTolerance => refused(7, 0),
+        Answer::NoMatch { visits } => HowMany::None { visits },
+        Answer::NoRoom { visits } => HowMany::Several { visits },
+        Answer::AllowanceUsed { visits } => refused(10, visits),
+    }
+}
+
+fn refused(number: u32, visits: u64) -> HowMany
+    ensures { λ r. ⌜ r ≡ Refused number visits ⌝ }
+{
+    HowMany::Refused { number, visits }
 }
 
 fn told(refusal: u32, count: usize, visits: u64) -> SearchFigures
