@@ -10,6 +10,8 @@ pub mod Finished
 pub mod Counting
 pub mod Keeping
 pub mod Limits
+pub mod Raising
+pub mod Filling
 pub mod Outcomes
 pub mod Telling
 pub mod Theorems
