@@ -1,6 +1,6 @@
 -- A walk meets a full list at the first matching cell for which there is no room, after the visits up to and with that cell.
-use Prim.Native.Nat.{ℕ, zero, suc, _+_, _^_, _≤_}
-use mathlib.Core.Path.{_≡_, refl, sym, ap, ap₂, _∙_, subst⁻¹}
+use Prim.Native.Nat.{ℕ, zero, suc, _+_, _^_, _≤_, _<_}
+use mathlib.Core.Path.{_≡_, refl, sym, ap, ap₂, _∙_, subst, subst⁻¹}
 use mathlib.Core.Logic.{_⊎_, inl, inr, ⊎-elim}
 use mathlib.Core.Bool.{Bool, true, false, cond}
 use mathlib.Core.List.{List, [], _∷_, _++_, append-nil, append-assoc, head-eq-of-cons-eq, tail-eq-of-cons-eq, Memᴰ·append-right, List·Memᴰ·head, List·Memᴰ·not-nil, List·Memᴰ·append-cases}
@@ -16,7 +16,7 @@ use Rattle.search.specs.Cells.{ifSo, matching, visitsOf, visitsTo, IsLis
 use Rattle.search.proofs.WalkLaws.{visit-after, visit-cell, visit-square, quarters, cell-full}
 use Rattle.search.proofs.CellLaws.{matching-only, matching-square}
 use Rattle.search.proofs.Dropping.{dropped-none}
-use Rattle.search.proofs.Whole.{going, whole, matching-cell}
+use Rattle.search.proofs.Whole.{going, whole, visits-kept, matching-cell}
 
 -- A walk that was stopped by a full list.
 abbrev pub filled : List Place → ℕ → Standing
@@ -195,3 +195,55 @@ module _ (q : Question) where
             visit-square q k p (going ps v) refl (omega (arith, most, reached (q .rule) k p o))
             ∙ square-over k p (λ r. fills k r) (isKept (q .rule) k p) refl ps before rest o v e room most;
       }
+
+-- A matching cell is reached within the visits that its square takes, if that holds for the quarters.
+few-in-quarters : (rule : Rule) (k : ℕ) (p o : Place) → ((r : Place) → IsListed o (matching rule k r) → visitsTo rule k r o ≤ visitsOf rule k r) → IsListed o (matching rule (suc k) p) →
+    visitsTo rule (suc k) p o ≤ visitsOf rule (suc k) p
+unfolding visitsTo
+few-in-quarters rule k p o few m = go (isKept rule k p) refl
+  where
+    four : IsListed o (matching rule k p) ⊎ IsListed o (matching rule k (east (2 ^ k) p) ++ (matching rule k (north (2 ^ k) p) ++ matching rule k (northEast (2 ^ k) p)))
+    four = List·Memᴰ·append-cases (matching rule k p) (subst (IsListed o) (matching-square rule k p) m)
+
+    third : IsListed o (matching rule k (north (2 ^ k) p) ++ matching rule k (northEast (2 ^ k) p)) → fromThird rule k p o ≤ visitsOf rule k (north (2 ^ k) p) + visitsOf rule k (northEast (2 ^ k) p)
+    third m =
+        ⊎-elim
+        (λ m. omega (arith, here-third rule k p o m, few (north (2 ^ k) p) m))
+        (λ m. omega (arith, past-third rule k p o m, few (northEast (2 ^ k) p) m))
+        (List·Memᴰ·append-cases (matching rule k (north (2 ^ k) p)) m)
+
+    second : IsListed o (matching rule k (east (2 ^ k) p) ++ (matching rule k (north (2 ^ k) p) ++ matching rule k (northEast (2 ^ k) p))) →
+        fromSecond rule k p o ≤ visitsOf rule k (east (2 ^ k) p) + (visitsOf rule k (north (2 ^ k) p) + visitsOf rule k (northEast (2 ^ k) p))
+    second m =
+        ⊎-elim
+        (λ m. omega (arith, here-second rule k p o m, few (east (2 ^ k) p) m))
+        (λ m. omega (arith, past-second rule k p o m, third m))
+        (List·Memᴰ·append-cases (matching rule k (east (2 ^ k) p)) m)
+
+    go : (b : Bool) → isKept rule k p ≡ b → visitsTo rule (suc k) p o ≤ visitsOf rule (suc k) p
+    go false t = absurd (List·Memᴰ·not-nil (subst (IsListed o) (dropped-none rule k p t) m))
+    go true t =
+        ⊎-elim
+        (λ m. omega (arith, visits-kept rule k p t, here-first rule k p o m, few p m))
+        (λ m. omega (arith, visits-kept rule k p t, past-first rule k p o m, second m))
+        four
+
+pub to-few : (rule : Rule) (k : ℕ) (p o : Place) → IsListed o (matching rule k p) → visitsTo rule k p o ≤ visitsOf rule k p
+unfolding visitsTo visitsOf
+to-few rule zero p o m = omega arith
+to-few rule (suc k) p o m = few-in-quarters rule k p o (λ r. to-few rule k r o) m
+
+-- A list has an entry at every index below its length.
+entry-at : (n : ℕ) (l : List Place) → n < length l → (before : List Place) × (o : Place) × (rest : List Place) × (l ≡ before ++ (o ∷ rest)) × (length before ≡ n)
+entry-at n [] h = absurd (omega (arith, h))
+entry-at zero (x ∷ l) h = ([], x, l, refl, refl)
+entry-at (suc n) (x ∷ l) h =
+    let (before, o, rest, e, long) = entry-at n l (omega (arith, h)) in
+    (x ∷ before, o, rest, ap (λ (l : List Place). x ∷ l) e, omega (arith, long))
+
+-- With allowance for its visits but too little room, a walk stops with 9.
+pub too-little-room : (q : Question) (k : ℕ) (p : Place) → visitsOf (q .rule) k p ≤ q .limits .allowance → q .limits .room < length (matching (q .rule) k p) → visit q k p (going [] 0) .stop ≡ 9
+too-little-room q k p a r =
+    let (before, o, rest, e, long) = entry-at (q .limits .room) (matching (q .rule) k p) r in
+    ap (λ (s : Standing). s .stop)
+    (fills q k p .over [] before rest o 0 e (omega (arith, long)) (omega (arith, a, to-few (q .rule) k p o (has before o rest _ e))))

@@ -1,7 +1,7 @@
 -- How a search ends, in terms of its matching cells and the visits they take.
 use Prim.Native.Nat.{ℕ, _+_, _≤_, _<_}
 use mathlib.Core.Path.{_≡_, refl, sym, ap, ap₂, _∙_, subst⁻¹}
-use mathlib.Core.Logic.{_⊎_, inl, inr}
+use mathlib.Core.Logic.{_⊎_, inl, inr, ⊎-elim}
 use mathlib.Core.Bool.{Bool, true, false}
 use mathlib.Core.List.{[]}
 use native.Mathlib.Omega.{arith}
@@ -14,14 +14,15 @@ use Rattle.search.specs.declared.Window.{Window}
 use Rattle.search.specs.declared.Answer.{Answer}
 use Rattle.search.specs.declared.Answer.the-variants.{ReadingTooLarge, Unsound, BadWindow, BadTolerance, NoRoom, AllowanceUsed}
 use Rattle.search.specs.Windows.{isWindow}
-use Rattle.search.specs.Questions.{Question, mostTolerance, noneTooLarge}
+use Rattle.search.specs.Questions.{Rule, Limits, Question, mostTolerance, noneTooLarge}
 use Rattle.search.specs.Walk.{Standing, start, visit}
 use Rattle.search.specs.Answers.{Outcome, refused, gone, ended, Accepted, searchOf, searchFigures}
 use Rattle.search.specs.Cells.{matchingIn, visitsIn, AmpleRoom, AmpleAllowance}
 use Rattle.search.proofs.AnswerLaws.{ended-out, ended-full, ended-gone, search-3, search-5, search-6, search-7, search-walks}
 use Rattle.search.proofs.Whole.{whole}
 use Rattle.search.proofs.Finished.{finished}
-use Rattle.search.proofs.Limits.{bounded, too-little-room}
+use Rattle.search.proofs.Limits.{bounded}
+use Rattle.search.proofs.Filling.{too-little-room}
 
 -- The walk of a search.
 abbrev pub walk : Question → Window → Standing
@@ -55,10 +56,38 @@ module _ (q : Question) (w : Window) where
         let nine : walk q w .stop ≡ 9 = too-little-room q (w .k) (w .corner) enough room in
         search-walks q w a ∙ ended-full (walk q w) (λ x. eqb-false 9 10 refl (sym nine ∙ x)) nine
 
+-- A test before the walk fails, and with which answer: then every search by the rule in the window is refused with it, whatever
+-- its limits.
+pub record Fails (rule : Rule) (w : Window) (a : Answer) : Type 0 where
+  pub low : 3 ≤ searchFigures a .refusal
+  pub high : searchFigures a .refusal < 8
+  pub unvisited : searchFigures a .visits ≡ 0
+  pub same : (l : Limits) → searchOf (record { rule = rule; limits = l }) w ≡ refused a
+
+module _ (rule : Rule) (w : Window) where
+  abbrev with : Limits → Question
+  with l = record { rule = rule; limits = l }
+
+  by-tests : (b c d : Bool) → noneTooLarge (rule .wanted) ≡ b → isSound (rule .chain) ≡ c → isWindow w ≡ d → Dec (rule .tolerance ≤ mostTolerance) →
+      Accepted rule w ⊎ ((a : Answer) × Fails rule w a)
+  unfolding searchFigures
+  by-tests false c d e f g t = inr (ReadingTooLarge, record { low = omega arith; high = omega arith; unvisited = refl; same = λ l. search-3 (with l) w e })
+  by-tests true false d e f g t = inr (Unsound, record { low = omega arith; high = omega arith; unvisited = refl; same = λ l. search-5 (with l) w e f })
+  by-tests true true false e f g t =
+      inr (BadWindow, record { low = omega arith; high = omega arith; unvisited = refl; same = λ l. search-6 (with l) w e f g })
+  by-tests true true true e f g (no t) =
+      inr (BadTolerance, record { low = omega arith; high = omega arith; unvisited = refl; same = λ l. search-7 (with l) w e f g (lt-of-not-le t) })
+  by-tests true true true e f g (yes t) = inl (record { readings = e; chain = f; window = g; tolerance = t })
+
+  -- All tests pass, or one of them fails.
+  pub tested : Accepted rule w ⊎ ((a : Answer) × Fails rule w a)
+  tested =
+      by-tests (noneTooLarge (rule .wanted)) (isSound (rule .chain)) (isWindow w) refl refl refl (decLe (rule .tolerance) mostTolerance)
+
 -- How a search ends: at a test before the walk, complete, for lack of room, or with the allowance used up.
 pub data Ending (q : Question) (w : Window) : Outcome → Type 0 where
-  early : (a : Answer) → (8 ≤ searchFigures a .refusal → ⊥) → (searchFigures a .visits ≡ 0) → Ending q w (refused a)
-  done : visitsIn (q .rule) w ≤ q .limits .allowance → Ending q w (complete q w)
+  early : (a : Answer) → Fails (q .rule) w a → Ending q w (refused a)
+  done : Accepted (q .rule) w → visitsIn (q .rule) w ≤ q .limits .allowance → Ending q w (complete q w)
   full : (v : ℕ) → v ≤ q .limits .allowance → Ending q w (refused (NoRoom v))
   out : Ending q w (refused (AllowanceUsed (q .limits .allowance)))
 
@@ -67,7 +96,7 @@ module _ (q : Question) (w : Window) where
   by-stop a (inl z) =
       let most : visitsIn (q .rule) w ≤ q .limits .allowance =
       omega (arith, bounded q (w .k) (w .corner) .most, ap (λ (s : Standing). s .visits) (finished q (w .k) (w .corner) [] 0 z)) in
-      subst⁻¹ (Ending q w) (search-walks q w a ∙ unstopped q w z) (done most)
+      subst⁻¹ (Ending q w) (search-walks q w a ∙ unstopped q w z) (done a most)
   by-stop a (inr (inl n)) =
       subst⁻¹ (Ending q w) (search-walks q w a ∙ ended-full (walk q w) (λ x. eqb-false 9 10 refl (sym n ∙ x)) n)
       (full (walk q w .visits) (bounded q (w .k) (w .corner) .most))
@@ -76,17 +105,10 @@ module _ (q : Question) (w : Window) where
       (search-walks q w a ∙ ended-out (walk q w) t ∙ ap (λ (v : ℕ). refused (AllowanceUsed v)) (bounded q (w .k) (w .corner) .all t))
       out
 
-  by-tests : (b c d : Bool) → noneTooLarge (q .rule .wanted) ≡ b → isSound (q .rule .chain) ≡ c → isWindow w ≡ d → Dec (q .rule .tolerance ≤ mostTolerance) → Ending q w (searchOf q w)
-  unfolding searchFigures
-  by-tests false c d e f g t = subst⁻¹ (Ending q w) (search-3 q w e) (early ReadingTooLarge (λ h. omega arith) refl)
-  by-tests true false d e f g t = subst⁻¹ (Ending q w) (search-5 q w e f) (early Unsound (λ h. omega arith) refl)
-  by-tests true true false e f g t = subst⁻¹ (Ending q w) (search-6 q w e f g) (early BadWindow (λ h. omega arith) refl)
-  by-tests true true true e f g (no t) =
-      subst⁻¹ (Ending q w) (search-7 q w e f g (lt-of-not-le t)) (early BadTolerance (λ h. omega arith) refl)
-  by-tests true true true e f g (yes t) =
-      by-stop (record { readings = e; chain = f; window = g; tolerance = t }) (bounded q (w .k) (w .corner) .stop)
-
   -- Every search ends in one of these ways.
   pub ending : Ending q w (searchOf q w)
   ending =
-      by-tests (noneTooLarge (q .rule .wanted)) (isSound (q .rule .chain)) (isWindow w) refl refl refl (decLe (q .rule .tolerance) mostTolerance)
+      ⊎-elim
+      (λ a. by-stop a (bounded q (w .k) (w .corner) .stop))
+      (λ f. subst⁻¹ (Ending q w) (f .1 .same (q .limits)) (early (f .0) (f .1)))
+      (tested (q .rule) w)

@@ -2,14 +2,16 @@
 use Prim.Native.Nat.{ℕ, zero, suc, _^_, _≤_, _<_}
 use mathlib.Core.Path.{_≡_, refl, sym, ap, _∙_}
 use mathlib.Core.Bool.{Bool, true, false}
+use native.Mathlib.Omega.{arith}
 use native.Mathlib.Nat.{le-trans, lt-of-not-le}
 use native.Mathlib.Decide.{decLe, ℕ-discrete}
 use borrow.Author.Tests.{eqb-false}
 use Rattle.chart.specs.declared.Place.{Place}
 use Rattle.search.specs.Windows.{east, north, northEast}
 use Rattle.search.specs.Questions.{Question, isKept}
-use Rattle.search.specs.Walk.{Standing, either, unchanged, counted, cell, visit}
+use Rattle.search.specs.Walk.{Standing, start, either, unchanged, counted, cell, visit}
 use Rattle.search.proofs.WalkLaws.{visit-after, visit-out, visit-cell, visit-square, quarters}
+use Rattle.search.proofs.Limits.{bounded}
 
 -- The same question with another allowance.
 abbrev pub raised : Question → ℕ → Question
@@ -65,3 +67,12 @@ module _ (q : Question) (m : ℕ) (more : q .limits .allowance ≤ m) where
       visit-square (raised q m) k p s z (le-trans l more)
       ∙ either-same (isKept (q .rule) k p) k p (λ o. same-raised k o) (counted s) (λ e. f (ap (λ (x : Standing). x .stop) step ∙ e))
       ∙ sym step)
+
+-- So if a walk makes more visits under a larger allowance than it may make, its own allowance stops it.
+pub ten-by-more : (q : Question) (k : ℕ) (p : Place) (m : ℕ) → q .limits .allowance ≤ m → q .limits .allowance < visit (raised q m) k p start .visits → visit q k p start .stop ≡ 10
+ten-by-more q k p m more short = go (ℕ-discrete (visit q k p start .stop) 10)
+  where
+    go : Dec (visit q k p start .stop ≡ 10) → visit q k p start .stop ≡ 10
+    go (yes t) = t
+    go (no f) =
+        absurd (omega (arith, short, bounded q k p .most, ap (λ (s : Standing). s .visits) (same-raised q m more k p start f)))

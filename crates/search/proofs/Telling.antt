@@ -82,24 +82,24 @@ search-counts q w =
 module _ (q : Question) (w : Window) where
   -- Whatever the end, what is listed is among the matching cells.
   pub places-of : (o : Outcome) → Ending q w o → (p : Place) → IsListed p (o .places) → IsListed p (matchingIn (q .rule) w)
-  places-of _ (early a f v) p m = absurd (List·Memᴰ·not-nil m)
-  places-of _ (done most) p m = subst (IsListed p) (gone-places (matchingIn (q .rule) w) (visitsIn (q .rule) w)) m
+  places-of _ (early a f) p m = absurd (List·Memᴰ·not-nil m)
+  places-of _ (done ok most) p m = subst (IsListed p) (gone-places (matchingIn (q .rule) w) (visitsIn (q .rule) w)) m
   places-of _ (full v most) p m = absurd (List·Memᴰ·not-nil m)
   places-of _ out p m = absurd (List·Memᴰ·not-nil m)
 
   -- And it is in chart order.
   pub rises-of : (o : Outcome) → Ending q w o → Rises (chartNumber w) (o .places)
   unfolding Rises
-  rises-of _ (early a f v) = tt
-  rises-of _ (done most) = subst⁻¹ (Rises (chartNumber w)) (gone-places (matchingIn (q .rule) w) (visitsIn (q .rule) w)) (matching-rises (q .rule) w)
+  rises-of _ (early a f) = tt
+  rises-of _ (done ok most) = subst⁻¹ (Rises (chartNumber w)) (gone-places (matchingIn (q .rule) w) (visitsIn (q .rule) w)) (matching-rises (q .rule) w)
   rises-of _ (full v most) = tt
   rises-of _ out = tt
 
   -- A search ends with 8 only if there is no matching cell.
   pub none-of : (o : Outcome) → Ending q w o → searchFigures (o .answer) .refusal ≡ 8 → matchingIn (q .rule) w ≡ []
   unfolding searchFigures
-  none-of _ (early a f v) e = absurd (f (omega (arith, e)))
-  none-of _ (done most) e = gone-none (matchingIn (q .rule) w) (visitsIn (q .rule) w) e
+  none-of _ (early a f) e = absurd (omega (arith, e, f .high))
+  none-of _ (done ok most) e = gone-none (matchingIn (q .rule) w) (visitsIn (q .rule) w) e
   none-of _ (full v most) e = absurd (eqb-false 9 8 refl e)
   none-of _ out e = absurd (eqb-false 10 8 refl e)
 
@@ -111,8 +111,8 @@ module _ (q : Question) (w : Window) where
   -- No search makes more visits than allowed, and one that ends with 10 makes exactly as many.
   pub spent-of : (o : Outcome) → Ending q w o → (searchFigures (o .answer) .visits ≤ q .limits .allowance) × (searchFigures (o .answer) .refusal ≡ 10 → searchFigures (o .answer) .visits ≡ q .limits .allowance)
   unfolding searchFigures
-  spent-of _ (early a f v) = (omega (arith, v), λ e. absurd (f (omega (arith, e))))
-  spent-of _ (done most) = (
+  spent-of _ (early a f) = (omega (arith, f .unvisited), λ e. absurd (omega (arith, e, f .high)))
+  spent-of _ (done ok most) = (
     omega (arith, gone-visits (matchingIn (q .rule) w) (visitsIn (q .rule) w)),
     λ e. absurd (omega (arith, e, gone-small (matchingIn (q .rule) w) (visitsIn (q .rule) w))),
   )
