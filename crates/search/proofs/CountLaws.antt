@@ -1,17 +1,33 @@
 -- How many cells match, by the search with room for one place: its list begins with the first place, and its answer says which of
 -- none, one and several it is.
-use Prim.Native.Nat.{ℕ}
-use mathlib.Core.Path.{_≡_, refl, ap}
-use mathlib.Core.List.{List, [], _∷_}
+use Prim.Native.Nat.{ℕ, _+_, _≤_, _<_}
+use mathlib.Core.Path.{_≡_, refl, ap, ap₂, _∙_, subst⁻¹}
+use mathlib.Core.Logic.{⊎-elim}
+use mathlib.Core.List.{List, [], _∷_, List·Memᴰ·head, List·Memᴰ·tail}
+use native.Mathlib.Omega.{arith}
+use native.Mathlib.Nat.{lt-of-not-le}
+use native.Mathlib.Decide.{decLe}
 use lib.IntN.{ℤ}
-use lib.ListN.{getD}
+use lib.ListN.{length, getD}
 use Rattle.chart.specs.declared.Place.{Place}
 use Rattle.chart.specs.declared.Chain.{Chain}
 use Rattle.chart.specs.Places.{placeOf}
 use Rattle.search.specs.declared.Window.{Window}
-use Rattle.search.specs.Questions.{ruleOf, questionOf}
-use Rattle.search.specs.Answers.{searchOf, entriesOf, listOf, searchLeft}
-use Rattle.search.specs.Counts.{firstOf, saidFor, howManyOf}
+use Rattle.search.specs.declared.Answer.{Answer}
+use Rattle.search.specs.declared.Answer.the-variants.{Places, ReadingTooLarge, Unsound, BadWindow, BadTolerance, NoMatch, NoRoom, AllowanceUsed}
+use Rattle.search.specs.declared.HowMany.{HowMany}
+use Rattle.search.specs.declared.HowMany.the-variants.{Several, Refused}
+use Rattle.search.specs.Questions.{Rule, Question, ruleOf, questionOf}
+use Rattle.search.specs.Walk.{Standing}
+use Rattle.search.specs.Answers.{Outcome, gone, ended, Accepted, searchOf, entriesOf, listOf, searchLeft, searchFigures}
+use Rattle.search.specs.Cells.{matchingIn, visitsIn, visitsTo, IsListed}
+use Rattle.search.specs.Counts.{forOne, firstOf, saidFor, howManyOf, countOf, decidingVisits}
+use Rattle.search.proofs.AnswerLaws.{ended-out, search-walks}
+use Rattle.search.proofs.Whole.{going, whole}
+use Rattle.search.proofs.Limits.{bounded}
+use Rattle.search.proofs.Raising.{ten-by-more}
+use Rattle.search.proofs.Filling.{fills, to-few}
+use Rattle.search.proofs.Outcomes.{walk, Fails, tested}
 
 -- The place in the first two entries of a list, which may be any list.
 abbrev pub placeAhead : List ℕ → Place
@@ -30,3 +46,89 @@ unfolding howManyOf
 said-of-two c readings w tolerance allowance =
     let o = searchOf (questionOf c readings tolerance allowance 2) w in
     ap (saidFor (o .answer)) (first-ahead (o .places))
+
+-- What the outcome of a search with room for one place says.
+abbrev said : Outcome → HowMany
+said o = saidFor (o .answer) (firstOf (o .places))
+
+-- The visits of a walk are counted from 0.
+none-before : (v : ℕ) → 0 + v ≡ v
+none-before v = omega arith
+
+module _ (rule : Rule) (w : Window) where
+  -- A walk with allowance for all its visits and at most one matching cell goes to its end.
+  goes : (m : ℕ) → visitsIn rule w ≤ m → length (matchingIn rule w) ≤ 1 → walk (forOne rule m) w ≡ going (matchingIn rule w) (0 + visitsIn rule w)
+  goes m h few = whole (forOne rule m) (w .k) (w .corner) [] 0 (omega (arith, h)) (omega (arith, few))
+
+  -- With an allowance for the visits that decide, the walk makes just these, and says how many cells match.
+  decides : (m : ℕ) (ms : List Place) → matchingIn rule w ≡ ms → decidingVisits rule w ms ≤ m →
+      (walk (forOne rule m) w .visits ≡ decidingVisits rule w ms) × (said (ended (walk (forOne rule m) w)) ≡ countOf ms (decidingVisits rule w ms))
+  unfolding ended saidFor
+  decides m [] e h =
+      let end = goes m h (omega (arith, ap length e)) in
+      (ap (λ (s : Standing). s .visits) end ∙ none-before _, ap (λ (s : Standing). said (ended s)) end ∙ ap₂ (λ (l : List Place) (v : ℕ). said (gone l v)) e (none-before _))
+  decides m (p ∷ []) e h =
+      let end = goes m h (omega (arith, ap length e)) in
+      (ap (λ (s : Standing). s .visits) end ∙ none-before _, ap (λ (s : Standing). said (ended s)) end ∙ ap₂ (λ (l : List Place) (v : ℕ). said (gone l v)) e (none-before _))
+  decides m (p ∷ o ∷ ps) e h =
+      let end = fills (forOne rule m) (w .k) (w .corner) .over [] (p ∷ []) ps o 0 e refl (omega (arith, h)) in
+      (ap (λ (s : Standing). s .visits) end ∙ none-before _, ap (λ (s : Standing). said (ended s)) end ∙ ap Several (none-before _))
+
+  -- With less, the allowance stops it.
+  short : (n : ℕ) → n < decidingVisits rule w (matchingIn rule w) → walk (forOne rule n) w .stop ≡ 10
+  short n less =
+      let m : ℕ = n + decidingVisits rule w (matchingIn rule w) in
+      ten-by-more (forOne rule n) (w .k) (w .corner) m (omega arith) (omega (arith, less, decides m (matchingIn rule w) refl (omega arith) .0))
+
+  -- No more than the whole walk is needed to decide.
+  pub deciding-few : decidingVisits rule w (matchingIn rule w) ≤ visitsIn rule w
+  deciding-few = go (matchingIn rule w) refl
+    where
+      go : (ms : List Place) → matchingIn rule w ≡ ms → decidingVisits rule w ms ≤ visitsIn rule w
+      go [] e = omega arith
+      go (p ∷ []) e = omega arith
+      go (p ∷ o ∷ ps) e =
+          to-few rule (w .k) (w .corner) o (subst⁻¹ (IsListed o) e (List·Memᴰ·tail (List·Memᴰ·head refl)))
+
+-- How many cells match, said without a walk: by how it ends.
+pub data Counting (rule : Rule) (w : Window) (n : ℕ) : HowMany → Type 0 where
+  early : (a : Answer) → Fails rule w a → Counting rule w n (Refused (searchFigures a .refusal) 0)
+  told : Accepted rule w → decidingVisits rule w (matchingIn rule w) ≤ n → Counting rule w n (countOf (matchingIn rule w) (decidingVisits rule w (matchingIn rule w)))
+  out : Accepted rule w → n < decidingVisits rule w (matchingIn rule w) → Counting rule w n (Refused 10 n)
+
+-- What is said if a test before the walk fails.
+said-early : (a : Answer) (p : Place) → 3 ≤ searchFigures a .refusal → searchFigures a .refusal < 8 → saidFor a p ≡ Refused (searchFigures a .refusal) 0
+unfolding saidFor searchFigures
+said-early (Places count visits) p l h = absurd (omega (arith, l))
+said-early ReadingTooLarge p l h = refl
+said-early Unsound p l h = refl
+said-early BadWindow p l h = refl
+said-early BadTolerance p l h = refl
+said-early (NoMatch visits) p l h = absurd (omega (arith, h))
+said-early (NoRoom visits) p l h = absurd (omega (arith, h))
+said-early (AllowanceUsed visits) p l h = absurd (omega (arith, h))
+
+module _ (rule : Rule) (w : Window) (n : ℕ) where
+  abbrev q : Question
+  q = forOne rule n
+
+  by-allowance : Accepted rule w → Dec (decidingVisits rule w (matchingIn rule w) ≤ n) → Counting rule w n (howManyOf rule w n)
+  unfolding howManyOf saidFor
+  by-allowance a (yes h) =
+      subst⁻¹ (Counting rule w n) (ap said (search-walks q w a) ∙ decides rule w n (matchingIn rule w) refl h .1) (told a h)
+  by-allowance a (no f) =
+      let less = lt-of-not-le f in
+      let ten = short rule w n less in
+      subst⁻¹ (Counting rule w n)
+      (ap said (search-walks q w a ∙ ended-out (walk q w) ten) ∙ ap (Refused 10) (bounded q (w .k) (w .corner) .all ten))
+      (out a less)
+
+  -- It ends in one of these ways.
+  pub counting : Counting rule w n (howManyOf rule w n)
+  unfolding howManyOf
+  counting =
+      ⊎-elim
+      (λ a. by-allowance a (decLe (decidingVisits rule w (matchingIn rule w)) n))
+      (λ f.
+      subst⁻¹ (Counting rule w n) (ap said (f .1 .same (record { allowance = n; room = 1 })) ∙ said-early (f .0) _ (f .1 .low) (f .1 .high)) (early (f .0) (f .1)))
+      (tested rule w)
