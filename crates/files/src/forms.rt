@@ -64,6 +64,7 @@ fn put_words(out: &mut [u8], form: Form) -> usize
         Form::Chain => put(out, 0, b"a chain has six words"),
         Form::Draft => put(out, 0, b"a record has five words"),
         Form::Question => put(out, 0, b"a question has three words"),
+        Form::Readings => put(out, 0, b"a question has three words"),
     }
 }
 
@@ -83,6 +84,7 @@ fn put_name(out: &mut [u8], form: Form, i: usize) -> usize
         Form::Chain => put_chain_name(out, i),
         Form::Draft => put_draft_name(out, i),
         Form::Question => put_question_name(out, i),
+        Form::Readings => put_readings_name(out, i),
     }
 }
 
@@ -126,5 +128,15 @@ fn put_question_name(out: &mut [u8], i: usize) -> usize
         0 => put(out, 0, b"the chain"),
         1 => put(out, 0, b"the easting"),
         _ => put(out, 0, b"the northing"),
+    }
+}
+
+fn put_readings_name(out: &mut [u8], i: usize) -> usize
+    ensures { λ r. ⌜ r ≤ length (now (out .exit)) ⌝ }
+{
+    match i {
+        0 => put(out, 0, b"the chain"),
+        1 => put(out, 0, b"reading A"),
+        _ => put(out, 0, b"reading B"),
     }
 }

@@ -7,6 +7,7 @@ use mathlib.Core.Bool.{Bool, true, false, cond, _&&_, _||_, false≢true}
 use mathlib.Core.List.{List}
 use native.Mathlib.Omega.{arith}
 use borrow.Author.Tests.{ltb-true}
+use lib.IntN.{ℤ}
 use Rattle.chart.specs.declared.Place.{Place}
 use Rattle.chart.specs.declared.Chain.{Chain}
 use Rattle.chart.specs.Places.{inRange}
@@ -25,13 +26,14 @@ use Rattle.parsing.specs.declared.ParsedJob.the-variants as job
 use Rattle.parsing.specs.declared.ParsedChain.the-variants as chain
 use Rattle.parsing.specs.declared.ParsedDraft.the-variants as draft
 use Rattle.parsing.specs.declared.ParsedQuestion.the-variants as question
+use Rattle.parsing.specs.declared.ParsedReadings.the-variants as readings
 use Rattle.parsing.specs.declared.Form.the-variants as form
 use Rattle.parsing.specs.Words.{wordAt, noWord, isPassed}
-use Rattle.parsing.specs.Numbers.{isNumber, isBelow, fits, valueAt, lengthAt, held, sizeAt, readingAt}
+use Rattle.parsing.specs.Numbers.{isNumber, isBelow, fits, valueAt, lengthAt, held, sizeAt, readingAt, heldReading}
 use Rattle.parsing.specs.Forms.{wordsOf, takenFor, isTaken, isForm}
-use Rattle.parsing.specs.Parsed.{allowanceIn, parsedJob, parsedChain, parsedDraft, parsedQuestion}
+use Rattle.parsing.specs.Parsed.{allowanceIn, parsedJob, parsedChain, parsedDraft, parsedQuestion, parsedReadings}
 use Rattle.parsing.proofs.Forms.{form-word}
-use Rattle.parsing.proofs.Held.{heldPlace, held-in-range, heldChain, held-signed}
+use Rattle.parsing.proofs.Held.{heldPlace, held-in-range, heldChain, heldWhole, held-signed}
 use Rattle.parsing.proofs.HeldRecords.{heldJob, job-refused, job-kept, chain-refused, chain-kept, heldDraft, draft-refused, used-kept, draft-kept, named-held, expected-held}
 
 -- What a line says, whatever the size of its numbers.
@@ -151,4 +153,19 @@ question-as-typed table s number p e =
       ap (chainOf table) n ∙ named-held table (valueAt s 0),
       ap inRange place ∙ held-in-range 32 (lengthAt s 1) (lengthAt s 2) (omega arith),
       λ c. ap (expectedAt c) place ∙ expected-held c (placeTyped s 1),
+    )
+
+-- A line that is read as readings: its number names the same chain of a table as the typed number, and its readings are the typed
+-- ones, as their fields hold them.
+pub readings-as-typed : (table s : List ℕ) (number : ℕ) (a b : ℤ) → parsedReadings s ≡ readings.Readings number a b →
+    (chainOf table number ≡ chainOf table (valueAt s 0)) × (a ≡ heldWhole (readingAt s 1)) × (b ≡ heldWhole (readingAt s 2))
+unfolding parsedReadings
+readings-as-typed table s number a b e =
+    let of = passed (isForm form.Readings s) (λ f. false≢true (cc)) e in
+    let n : number ≡ held 32 (valueAt s 0) = cc (of .1) in
+    let x : a ≡ heldReading s 1 = cc (of .1) in
+    let y : b ≡ heldReading s 2 = cc (of .1) in (
+      ap (chainOf table) n ∙ named-held table (valueAt s 0),
+      x ∙ sym (held-signed (isBelow (wordAt 1 s)) (sizeAt s 1)),
+      y ∙ sym (held-signed (isBelow (wordAt 2 s)) (sizeAt s 2)),
     )

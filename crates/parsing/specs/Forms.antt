@@ -21,12 +21,14 @@ wordsOf form.Job = 5
 wordsOf form.Chain = 6
 wordsOf form.Draft = 5
 wordsOf form.Question = 3
+wordsOf form.Readings = 3
 
 unfoldable pub takenFor : Form → ℕ → Taken
 takenFor form.Job i = cond (eqb i 2) taken.Number (cond (eqb i 4) taken.Allowance taken.Length)
 takenFor form.Chain i = taken.Length
 takenFor form.Draft i = cond (ltb i 2) taken.Number (cond (eqb i 2) taken.Line taken.Reading)
 takenFor form.Question i = cond (eqb i 0) taken.Number taken.Length
+takenFor form.Readings i = cond (eqb i 0) taken.Number taken.Reading
 
 -- Whether a word is what it is taken for. A line number has 32 bits, and an allowance 64.
 unfoldable pub isTaken : Taken → List ℕ → Bool

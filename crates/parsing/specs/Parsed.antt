@@ -1,4 +1,5 @@
--- What a line stands for: a job, a chain, the draft of a log record, a question for expected readings (docs/FORMATS.md, Text).
+-- What a line stands for: a job, a chain, the draft of a log record, a question for expected readings, readings to ask about
+-- (docs/FORMATS.md, Text).
 -- A line of another form is refused with 12, the number that 02 gives to such text.
 use Prim.Native.Nat.{ℕ, _+_}
 use mathlib.Core.Bool.{cond}
@@ -18,6 +19,8 @@ use Rattle.parsing.specs.declared.ParsedDraft.{ParsedDraft}
 use Rattle.parsing.specs.declared.ParsedDraft.the-variants as draft
 use Rattle.parsing.specs.declared.ParsedQuestion.{ParsedQuestion}
 use Rattle.parsing.specs.declared.ParsedQuestion.the-variants as question
+use Rattle.parsing.specs.declared.ParsedReadings.{ParsedReadings}
+use Rattle.parsing.specs.declared.ParsedReadings.the-variants as readings
 use Rattle.parsing.specs.declared.Form.the-variants as form
 use Rattle.parsing.specs.Words.{noWord, isPassed}
 use Rattle.parsing.specs.Numbers.{valueAt, lengthAt, held, heldReading}
@@ -67,3 +70,9 @@ parsedDraft s =
 unfoldable pub parsedQuestion : List ℕ → ParsedQuestion
 parsedQuestion s =
     unless (isForm form.Question s) (question.Refused 12) (question.Question (held 32 (valueAt s 0)) (placeIn s 1))
+
+-- Readings to ask about: CHAIN A B.
+unfoldable pub parsedReadings : List ℕ → ParsedReadings
+parsedReadings s =
+    unless (isForm form.Readings s) (readings.Refused 12)
+    (readings.Readings (held 32 (valueAt s 0)) (heldReading s 1) (heldReading s 2))

@@ -12,7 +12,7 @@ ghost use Rattle.text.specs.Texts.{numeral, numeralFrom};
 ghost use Rattle.parsing.specs.Words.{run, areAll, isInLine, isBlank, isOneWord, wordAt, startAt, spanAt, Spans, noWord, isPassed};
 ghost use Rattle.parsing.specs.Numbers.{isDigit, isNumber, fits, isMetres, isLength, centimetresIn, isBelow, sizeIn, isReading, valueAt, lengthAt, held, heldReading};
 ghost use Rattle.parsing.specs.Forms.{wordsOf, takenFor, isTaken, goodWords, isForm, hasPoint, wrongIn, wrongAt};
-ghost use Rattle.parsing.specs.Parsed.{placeIn, windowIn, allowanceIn, parsedJob, parsedChain, parsedDraft, parsedQuestion};
+ghost use Rattle.parsing.specs.Parsed.{placeIn, windowIn, allowanceIn, parsedJob, parsedChain, parsedDraft, parsedQuestion, parsedReadings};
 ghost use Rattle.parsing.specs.Faults.{placeFault, jobFault, draftFault, chainFault};
 ghost use Rattle.parsing.specs.Scanning.{isOf, sizedOf, isValue, heldTo, heldIn, fitsIn};
 ghost use Rattle.parsing.specs.declared.Form.the-variants as forms;
@@ -46,12 +46,18 @@ pub enum ParsedQuestion {
     Refused(u32),
 }
 
+pub enum ParsedReadings {
+    Readings { chain: u32, a: i64, b: i64 },
+    Refused(u32),
+}
+
 // What a line is taken for.
 pub enum Form {
     Job,
     Chain,
     Draft,
     Question,
+    Readings,
 }
 
 // What a word of a line is taken for.
@@ -180,6 +186,19 @@ pub fn question(line: &[u8]) -> ParsedQuestion
     ParsedQuestion::Question { chain, place }
 }
 
+// The chain number and the two readings that a line asks about.
+pub fn readings(line: &[u8]) -> ParsedReadings
+    ensures { λ r. ⌜ r ≡ parsedReadings (now (line .entry)) ⌝ }
+{
+    if !is_form(line, Form::Readings) {
+        return ParsedReadings::Refused(12);
+    }
+    let chain = as_32(number(line, 0));
+    let a = reading(line, 1);
+    let b = reading(line, 2);
+    ParsedReadings::Readings { chain, a, b }
+}
+
 // How many words of a line are what they are taken for, up to the first that is not; so it is the word to name in a refusal.
 pub fn good_words(line: &[u8], form: Form) -> usize
     ensures { λ r. ⌜ r ≡ goodWords form (now (line .entry)) ⌝ }
@@ -218,6 +237,7 @@ pub fn taken_for(form: Form, i: usize) -> Taken
         Form::Chain => Taken::Length,
         Form::Draft => in_draft(i),
         Form::Question => in_question(i),
+        Form::Readings => in_readings(i),
     }
 }
 
@@ -230,6 +250,7 @@ pub fn words_of(form: Form) -> usize
         Form::Chain => 6,
         Form::Draft => 5,
         Form::Question => 3,
+        Form::Readings => 3,
     }
 }
 
@@ -384,6 +405,15 @@ fn in_question(i: usize) -> Taken
         return Taken::Number;
     }
     Taken::Length
+}
+
+fn in_readings(i: usize) -> Taken
+    ensures { λ r. ⌜ r ≡ takenFor forms.Readings i ⌝ }
+{
+    if i == 0 {
+        return Taken::Number;
+    }
+    Taken::Reading
 }
 
 fn is_form(s: &[u8], form: Form) -> bool

@@ -1,5 +1,6 @@
--- What the files hold, and expected readings, as lines of text.
+-- What the files hold, expected readings, and whether readings allow one place, as lines of text.
 pub mod Fields
 pub mod Lines
 pub mod Expected
 pub mod Rooms
+pub mod Counted

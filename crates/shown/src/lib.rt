@@ -1,4 +1,5 @@
-// Puts into text what the files hold, one line for each record, and the readings expected at a place.
+// Puts into text what the files hold, one line for each record, the readings expected at a place, and whether readings allow one
+// place.
 ghost use mathlib.Core.Path.{_≡_};
 ghost use mathlib.Core.List.{_++_, _∷_, []};
 ghost use Prim.Native.Nat.{_+_, _*_, _≤_};
@@ -12,7 +13,9 @@ ghost use Rattle.text.specs.Texts.{figuresText, hexOf, bytesIn};
 ghost use Rattle.shown.specs.Fields.{centimetresText, decimalText, metresText, hexText, refusedText};
 ghost use Rattle.shown.specs.Lines.{jobText, jobLine, chainText, refusalIn, chainLine, rawText, recordText, recordLine};
 ghost use Rattle.shown.specs.Expected.{byChain, expectedIn, isRoundedBack, writtenText, slaveLine, expectedText};
+ghost use Rattle.shown.specs.Counted.{chainOrNone, manyBy, countedIn, manyLine, manyReply};
 ghost use Rattle.shown.specs.Rooms.{Says, hasLineRoom, shownIn, replyOf, Puts};
+use chart::Chain;
 use chart::Expected;
 use chart::Place;
 use metres::Whole;
@@ -22,6 +25,7 @@ use records::LogEntry;
 use records::NamedChain;
 use records::RawAnswer;
 use records::RawRecord;
+use search::HowMany;
 
 // How many bytes of text there are, or the number of a refusal.
 pub enum Line {
@@ -31,6 +35,11 @@ pub enum Line {
 
 // Room for the longest line, without the record's bytes in hexadecimal.
 pub const LINE_ROOM: usize = 192;
+
+const SPOT: Place = Place {
+    easting: 0,
+    northing: 0,
+};
 
 // Puts the line of a job at the start of a buffer. Here and below, the buffer must have room for 192 bytes, and for two more for
 // each byte of `s`; else the answer is 9.
@@ -86,6 +95,26 @@ pub fn expected(out: &mut [u8], table: &[u8], chain: u32, place: Place) -> Line
     match readings(table, chain, place) {
         Expected::Readings { a, b } => Line::Text(put_slaves(out, a, b)),
         Expected::Refused(number) => Line::Refused(number),
+    }
+}
+
+// Puts whether the readings allow no place, one or several, by a table, the number of a chain in it, and a job: one line.
+pub fn how_many(out: &mut [u8], table: &[u8], job: &[u8], chain: u32, a: i64, b: i64) -> Line
+    ensures answer { λ r. ⌜ r ≡ shownIn (now (out .entry)) 0 (manyReply (countedIn (now (table .entry)) (now (job .entry)) chain (a ∷ b ∷ []))) .answer ⌝ }
+    ensures out { λ _. ⌜ now (out .exit) ≡ shownIn (now (out .entry)) 0 (manyReply (countedIn (now (table .entry)) (now (job .entry)) chain (a ∷ b ∷ []))) .buffer ⌝ }
+{
+    if !has_line_room(out.len(), 0) {
+        return Line::Refused(9);
+    }
+    match counted(table, job, chain, a, b) {
+        HowMany::None { visits } => put_many(out, b"NONE", &[visits]),
+        HowMany::One { place, visits } => put_many(
+            out,
+            b"ONE",
+            &[visits, place.easting as u64, place.northing as u64],
+        ),
+        HowMany::Several { visits } => put_many(out, b"SEVERAL", &[visits]),
+        HowMany::Refused { number, visits: _ } => Line::Refused(number),
     }
 }
 
@@ -151,6 +180,55 @@ fn by_chain(chain: NamedChain, place: Place) -> Expected
         NamedChain::Chain(c) => chart::readings(c, place),
         NamedChain::Refused(number) => Expected::Refused(number),
     }
+}
+
+// How many places the readings allow, or why that is not answered. The table is tested first, then the job's form.
+fn counted(table: &[u8], job: &[u8], chain: u32, a: i64, b: i64) -> HowMany
+    ensures { λ r. ⌜ r ≡ countedIn (now (table .entry)) (now (job .entry)) chain (a ∷ b ∷ []) ⌝ }
+{
+    if let ChainCount::Refused(number) = records::chain_count(table) {
+        return HowMany::Refused { number, visits: 0 };
+    }
+    many_by(
+        records::formed_job(job),
+        chain_or_none(records::chain_of(table, chain)),
+        a,
+        b,
+    )
+}
+
+// The chain, or if there is none three stations on one spot, which the search refuses with 5 when its turn comes.
+fn chain_or_none(chain: NamedChain) -> Chain
+    ensures { λ r. ⌜ r ≡ chainOrNone chain ⌝ }
+{
+    match chain {
+        NamedChain::Chain(c) => c,
+        NamedChain::Refused(_) => Chain {
+            master: SPOT,
+            a: SPOT,
+            b: SPOT,
+        },
+    }
+}
+
+fn many_by(job: JobAnswer, c: Chain, a: i64, b: i64) -> HowMany
+    ensures { λ r. ⌜ r ≡ manyBy job c (a ∷ b ∷ []) ⌝ }
+{
+    match job {
+        JobAnswer::Job(j) => search::how_many(c, a, b, j.window, j.tolerance, j.allowance),
+        JobAnswer::Refused(number) => HowMany::Refused { number, visits: 0 },
+    }
+}
+
+// Puts the word, the figures and the newline.
+fn put_many(out: &mut [u8], word: &[u8], figures: &[u64]) -> Line
+    requires { ⌜ (192 ≤ length (now out)) × (length (now word) ≤ 7) × (length (now figures) ≤ 3) ⌝ }
+    ensures answer { λ r. ⌜ r ≡ shownIn (now (out .entry)) 0 (Says (manyLine (now (word .entry)) (now (figures .entry)))) .answer ⌝ }
+    ensures out { λ _. ⌜ now (out .exit) ≡ shownIn (now (out .entry)) 0 (Says (manyLine (now (word .entry)) (now (figures .entry)))) .buffer ⌝ }
+{
+    let a = text::put(out, 0, word);
+    let b = put_figures(out, a, figures);
+    Line::Text(text::put(out, b, b"\n"))
 }
 
 fn put_job(out: &mut [u8], at: usize, s: &[u8]) -> usize

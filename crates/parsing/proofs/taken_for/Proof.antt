@@ -27,6 +27,12 @@ enum-told-4 c = search needs
 in-question-requires : tie.Need-in-question-requires
 in-question-requires c κs = search needs
 
+enum-told-5 : tie.Need-enum-told-5
+enum-told-5 c = search needs
+
+in-readings-requires : tie.Need-in-readings-requires
+in-readings-requires c κs = search needs
+
 returns : tie.Need-returns
 returns c = c .in-job .ensures ∙ sym (ap (λ (f : Form). takenFor f (c .before .before .before .args .i)) (c .before .enum-told .given .1))
 
@@ -40,6 +46,9 @@ returns-3 c = c .in-draft .ensures ∙ sym (ap (λ (f : Form). takenFor f (c .be
 returns-4 : tie.Need-returns-4
 returns-4 c = c .in-question .ensures ∙ sym (ap (λ (f : Form). takenFor f (c .before .before .before .args .i)) (c .before .enum-told4 .given .1))
 
+returns-5 : tie.Need-returns-5
+returns-5 c = c .in-readings .ensures ∙ sym (ap (λ (f : Form). takenFor f (c .before .before .before .args .i)) (c .before .enum-told5 .given .1))
+
 pub taken-for-spec : {M : Type 1} → statement M
 taken-for-spec =
     tie.close
@@ -51,7 +60,10 @@ taken-for-spec =
     in-draft-requires
     enum-told-4
     in-question-requires
+    enum-told-5
+    in-readings-requires
     returns
     returns-2
     returns-3
-    returns-4)
+    returns-4
+    returns-5)

@@ -1,0 +1,53 @@
+-- Whether readings allow no place, one or several, as text (docs/FORMATS.md, Text; 02, A2).
+use Prim.Native.Nat.{ℕ}
+use mathlib.Core.List.{List, [], _∷_, _++_}
+use lib.IntN.{ℤ}
+use Rattle.chart.specs.declared.Place.{Place}
+use Rattle.chart.specs.declared.Chain.{Chain}
+use Rattle.chart.specs.Places.{placeOf}
+use Rattle.search.specs.declared.HowMany.{HowMany}
+use Rattle.search.specs.declared.HowMany.the-variants as many
+use Rattle.search.specs.Questions.{ruleOf}
+use Rattle.search.specs.Counts.{howManyOf}
+use Rattle.records.specs.declared.ChainCount.{ChainCount}
+use Rattle.records.specs.declared.ChainCount.the-variants as count
+use Rattle.records.specs.declared.NamedChain.{NamedChain}
+use Rattle.records.specs.declared.NamedChain.the-variants as named
+use Rattle.records.specs.declared.JobAnswer.{JobAnswer}
+use Rattle.records.specs.declared.JobAnswer.the-variants as job
+use Rattle.records.specs.ChainTables.{chainCountOf, chainOf}
+use Rattle.records.specs.Jobs.{formedJobOf}
+use Rattle.text.specs.Texts.{figuresText, bytesIn}
+use Rattle.shown.specs.Rooms.{Reply, Says, Refuses}
+
+-- The chain that was named. If there is none, three stations on one spot stand for it, which the search refuses with 5 in its own
+-- order: after 3, and before 6 and 7.
+unfoldable pub chainOrNone : NamedChain → Chain
+chainOrNone (named.Chain c) = c
+chainOrNone (named.Refused number) = record { master = placeOf 0 0; a = placeOf 0 0; b = placeOf 0 0 }
+
+-- How many places the readings allow by a job, or the number of its refusal.
+unfoldable pub manyBy : JobAnswer → Chain → List ℤ → HowMany
+manyBy (job.Job j) c readings = howManyOf (ruleOf c readings (j .tolerance)) (j .window) (j .allowance)
+manyBy (job.Refused number) c readings = many.Refused number 0
+
+-- Before that, 1 for the table.
+unfoldable pub manyIn : ChainCount → JobAnswer → NamedChain → List ℤ → HowMany
+manyIn (count.Chains n) j c readings = manyBy j (chainOrNone c) readings
+manyIn (count.Refused number) j c readings = many.Refused number 0
+
+-- From the bytes of a table and a job and the number of a chain: 1 for the table, 1 and 2 for the job, then 3, 5, 6, 7 and 10 as the
+-- question has them.
+abbrev pub countedIn : List ℕ → List ℕ → ℕ → List ℤ → HowMany
+countedIn table job chain readings =
+    manyIn (chainCountOf table) (formedJobOf job) (chainOf table chain) readings
+
+-- The line: a word, the visits and, if there is one place, its easting and northing.
+abbrev pub manyLine : List ℕ → List ℕ → List ℕ
+manyLine word figures = word ++ (figuresText figures ++ bytesIn "\n")
+
+unfoldable pub manyReply : HowMany → Reply
+manyReply (many.None visits) = Says (manyLine (bytesIn "NONE") (visits ∷ []))
+manyReply (many.One p visits) = Says (manyLine (bytesIn "ONE") (visits ∷ p .easting ∷ p .northing ∷ []))
+manyReply (many.Several visits) = Says (manyLine (bytesIn "SEVERAL") (visits ∷ []))
+manyReply (many.Refused number visits) = Refuses number
