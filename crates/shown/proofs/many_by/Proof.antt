@@ -1,0 +1,42 @@
+-- `shown::many_by` meets its contract: the question by the job, or the job's refusal.
+use mathlib.Core.Path.{sym, ap, ap₂, _∙_}
+use mathlib.Core.List.{[], _∷_}
+use lib.IntN.{ℤ}
+use mir.Syntax.{w64}
+use mir.ValLaws.{toZ-ofZ}
+use Rattle.records.specs.declared.JobAnswer.{JobAnswer}
+use Rattle.records.specs.declared.JobAnswer.the-variants as job
+use Rattle.shown.specs.Counted.{manyBy}
+use borrow.Author.Needs.{needs}
+use Rattle.shown.proofs.many_by.Statement.{statement}
+use Rattle.shown.proofs.many_by.Tie as tie
+
+enum-known-job : tie.Need-enum-known-job
+enum-known-job c = search needs
+
+how-many-requires : tie.Need-how-many-requires
+how-many-requires c κs = search needs
+
+enum-known-job-2 : tie.Need-enum-known-job-2
+enum-known-job-2 c = search needs
+
+returns : tie.Need-returns
+unfolding manyBy
+returns c =
+    let known = c .before .before in
+    let start = known .before .before in
+    let d = start .args in
+    c .how-many .ensures
+    ∙ ap₂ (λ (x y : ℤ). manyBy (job.Job (known .job .given .0 .0)) (d .c) (x ∷ y ∷ [])) (toZ-ofZ w64 (d .a) (start .fits .a)) (toZ-ofZ w64 (d .b) (start .fits .b))
+    ∙ sym (ap (λ (j : JobAnswer). manyBy j (d .c) (d .a ∷ d .b ∷ [])) (known .job .given .1))
+
+returns-2 : tie.Need-returns-2
+unfolding manyBy
+returns-2 c =
+    let known = c .before in
+    let d = known .before .before .args in
+    sym (ap (λ (j : JobAnswer). manyBy j (d .c) (d .a ∷ d .b ∷ [])) (known .job2 .given .1))
+
+pub many-by-spec : {M : Type 1} → statement M
+many-by-spec =
+    tie.close (tie.spec enum-known-job how-many-requires enum-known-job-2 returns returns-2)
