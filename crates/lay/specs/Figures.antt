@@ -17,6 +17,8 @@ use Rattle.chart.specs.Chains.{stationsOf, isSound}
 use Rattle.chart.specs.Readings.{expectedAt, figuresOf}
 use Rattle.search.specs.declared.Window.{Window}
 use Rattle.search.specs.declared.SearchFigures.{SearchFigures}
+use Rattle.search.specs.declared.HowMany.{HowMany}
+use Rattle.search.specs.declared.HowMany.the-variants as many
 use Rattle.search.specs.Answers.{entriesOf, searchFigures, searchLeft}
 use Rattle.records.specs.declared.Job.{Job}
 use Rattle.records.specs.declared.RawAnswer.{RawAnswer}
@@ -34,7 +36,7 @@ use Rattle.records.specs.LogRecords.{rawRecordOf}
 use Rattle.records.specs.Marks.{markedEntryOf}
 use Rattle.records.specs.Bytes.{unless}
 use Rattle.records.specs.ChainTables.{chainCountOf, rawChainOf, chainOf}
-use Rattle.records.specs.Jobs.{formedJobOf, jobOf}
+use Rattle.records.specs.Jobs.{formedJobOf, jobOf, manyBy}
 use Rattle.writing.specs.declared.Draft.{Draft}
 use Rattle.writing.specs.ChainWriting.{chainRefusalOf, chainBufferOf}
 use Rattle.listing.specs.declared.Carried.{Carried}
@@ -42,6 +44,7 @@ use Rattle.listing.specs.declared.Carried.the-variants as carried
 use Rattle.listing.specs.declared.Listed.{Listed}
 use Rattle.listing.specs.declared.Listed.the-variants as listed
 use Rattle.listing.specs.Listings.{listLeft}
+use Rattle.lay.specs.declared.ManyFigures.{ManyFigures}
 use Rattle.lay.specs.declared.EntryFigures.{EntryFigures}
 use Rattle.lay.specs.declared.RecordFigures.{RecordFigures}
 use Rattle.lay.specs.declared.CountFigures.{CountFigures}
@@ -164,6 +167,27 @@ searchTold chain readings job entries = searchedIn (rawChainOf chain) readings (
 -- How many places were found, and the visits.
 abbrev pub foundIn : SearchFigures → List ℕ
 foundIn f = f .count ∷ f .visits ∷ []
+
+-- How many places the readings allow, in figures: 1 for none, 2 for one, 3 for several, and 0 after a refusal, so that a refusal does
+-- not look like "none"; the place, zeros unless there is one; and the visits.
+unfoldable pub manyFigures : HowMany → ManyFigures
+manyFigures (many.None visits) = record { refusal = 0; many = 1; place = placeOf 0 0; visits = visits }
+manyFigures (many.One place visits) = record { refusal = 0; many = 2; place = place; visits = visits }
+manyFigures (many.Several visits) = record { refusal = 0; many = 3; place = placeOf 0 0; visits = visits }
+manyFigures (many.Refused number visits) = record { refusal = number; many = 0; place = placeOf 0 0; visits = visits }
+
+-- Easting and northing of a place.
+abbrev pub numbersOf : Place → List ℕ
+numbersOf p = p .easting ∷ p .northing ∷ []
+
+-- From a chain, readings and a job, with the refusals of a search in the same order: 1 for another count of readings, then the
+-- question by the job.
+unfoldable pub askedIn : NamedChain → List ℤ → JobAnswer → HowMany
+askedIn (named.Chain c) readings j = unless (eqb (length readings) chainReadings) (many.Refused 1 0) (manyBy j c readings)
+askedIn (named.Refused number) readings j = many.Refused number 0
+
+abbrev pub manyTold : List ℕ → List ℤ → List ℕ → ManyFigures
+manyTold chain readings job = manyFigures (askedIn (rawChainOf chain) readings (formedJobOf job))
 
 -- A log record in centimetres, with its line number. Only a hyperbolic record has a chain number.
 unfoldable pub entryFigures : ℕ → ℕ → LogEntry → EntryFigures

@@ -10,10 +10,11 @@ ghost use Prim.Native.Nat.{_+_, _<_};
 ghost use Rattle.chart.specs.Places.{placeOf};
 ghost use Rattle.metres.specs.Metres.{centimetresOf, metresOf, wholeFigures, lengthFigures};
 ghost use Rattle.metres.specs.Marks.{markOf};
+ghost use Rattle.search.specs.declared.HowMany.the-variants as many;
 ghost use Rattle.records.specs.declared.NamedChain.the-variants as named;
 ghost use Rattle.writing.specs.Writing.{refusalOf, bufferOf};
 ghost use Rattle.writing.specs.JobWriting.{jobRefusalOf, jobBufferOf};
-ghost use Rattle.lay.specs.Figures.{version, markFigure, jobBy, draftBy, chainBy, chainLent, chainTold, chainWritten, stationsLent, stationsTold, expectedLent, expectedTold, unsearched, searchedBy, searchedIn, searchTold, foundIn, entryFigures, markedFigures, recordFigures, countFigures, countTold, jobAnswered, jobTold, carriedIn, heldFigures, listedFigures, partOf, listTold};
+ghost use Rattle.lay.specs.Figures.{version, markFigure, jobBy, draftBy, chainBy, chainLent, chainTold, chainWritten, stationsLent, stationsTold, expectedLent, expectedTold, unsearched, searchedBy, searchedIn, searchTold, foundIn, manyFigures, askedIn, manyTold, numbersOf, entryFigures, markedFigures, recordFigures, countFigures, countTold, jobAnswered, jobTold, carriedIn, heldFigures, listedFigures, partOf, listTold};
 use chart::Chain;
 use chart::Place;
 use listing::Carried;
@@ -26,9 +27,18 @@ use records::LogEntry;
 use records::MarkedEntry;
 use records::NamedChain;
 use records::RawAnswer;
+use search::HowMany;
 use search::SearchFigures;
 use search::Window;
 use writing::Draft;
+
+// How many places readings allow.
+struct ManyFigures {
+    refusal: u32,
+    many: u32,
+    place: Place,
+    visits: u64,
+}
 
 // A log record in centimetres.
 struct EntryFigures {
@@ -150,6 +160,32 @@ pub extern "C" fn lay_search(
         records::formed_job(job),
     );
     *found = [f.count as u64, f.visits];
+    f.refusal
+}
+
+// Whether no cell of a job's window matches the readings, one, or several. Chain and job are given as bytes.
+#[no_mangle]
+pub extern "C" fn lay_how_many(
+    chain: &[u8],
+    readings: &[i64],
+    job: &[u8],
+    answer: &mut u32,
+    place: &mut [u32; 2],
+    visits: &mut u64,
+) -> u32
+    ensures refusal { λ r. ⌜ r ≡ manyTold (now (chain .entry)) (now (readings .entry)) (now (job .entry)) .refusal ⌝ }
+    ensures answer { λ _. ⌜ now (answer .exit) ≡ manyTold (now (chain .entry)) (now (readings .entry)) (now (job .entry)) .many ⌝ }
+    ensures place { λ _. ⌜ now (place .exit) ≡ numbersOf (manyTold (now (chain .entry)) (now (readings .entry)) (now (job .entry)) .place) ⌝ }
+    ensures visits { λ _. ⌜ now (visits .exit) ≡ manyTold (now (chain .entry)) (now (readings .entry)) (now (job .entry)) .visits ⌝ }
+{
+    let f = many_figures(asked(
+        records::raw_chain(chain),
+        readings,
+        records::formed_job(job),
+    ));
+    *answer = f.many;
+    *place = [f.place.easting, f.place.northing];
+    *visits = f.visits;
     f.refusal
 }
 
@@ -427,6 +463,58 @@ fn not_searched(list: &mut [u32], number: u32) -> SearchFigures
         refusal: number,
         count: 0,
         visits: 0,
+    }
+}
+
+fn asked(chain: NamedChain, readings: &[i64], job: JobAnswer) -> HowMany
+    ensures { λ r. ⌜ r ≡ askedIn chain (now (readings .entry)) job ⌝ }
+{
+    match chain {
+        NamedChain::Chain(c) => asked_for(c, readings, job),
+        NamedChain::Refused(number) => not_asked(number),
+    }
+}
+
+fn asked_for(c: Chain, readings: &[i64], job: JobAnswer) -> HowMany
+    ensures { λ r. ⌜ r ≡ askedIn (named.Chain c) (now (readings .entry)) job ⌝ }
+{
+    if readings.len() != CHAIN_READINGS {
+        return not_asked(1);
+    }
+    let a = readings[0];
+    let b = readings[1];
+    records::many_by(job, c, a, b)
+}
+
+fn not_asked(number: u32) -> HowMany
+    ensures { λ r. ⌜ r ≡ many.Refused number 0 ⌝ }
+{
+    HowMany::Refused { number, visits: 0 }
+}
+
+fn many_figures(m: HowMany) -> ManyFigures
+    ensures { λ r. ⌜ r ≡ manyFigures m ⌝ }
+{
+    let nowhere = Place {
+        easting: 0,
+        northing: 0,
+    };
+    match m {
+        HowMany::None { visits } => many_told(0, 1, nowhere, visits),
+        HowMany::One { place, visits } => many_told(0, 2, place, visits),
+        HowMany::Several { visits } => many_told(0, 3, nowhere, visits),
+        HowMany::Refused { number, visits } => many_told(number, 0, nowhere, visits),
+    }
+}
+
+fn many_told(refusal: u32, many: u32, place: Place, visits: u64) -> ManyFigures
+    ensures { λ r. ⌜ r ≡ record { refusal = refusal; many = many; place = place; visits = visits } ⌝ }
+{
+    ManyFigures {
+        refusal,
+        many,
+        place,
+        visits,
     }
 }
 

@@ -3,10 +3,15 @@ use Prim.Native.Nat.{ℕ}
 use mathlib.Core.Bool.{_&&_}
 use mathlib.Core.List.{List}
 use lib.Dec.{leb, eqb}
+use lib.IntN.{ℤ}
 use lib.ListN.{length}
 use Rattle.fields.specs.Fields.{fieldAt}
+use Rattle.chart.specs.declared.Chain.{Chain}
+use Rattle.search.specs.declared.HowMany.{HowMany}
+use Rattle.search.specs.declared.HowMany.the-variants as many
 use Rattle.search.specs.Windows.{isWindow}
-use Rattle.search.specs.Questions.{mostTolerance}
+use Rattle.search.specs.Questions.{ruleOf, mostTolerance}
+use Rattle.search.specs.Counts.{howManyOf}
 use Rattle.records.specs.declared.Job.{Job}
 use Rattle.records.specs.declared.JobAnswer.{JobAnswer}
 use Rattle.records.specs.declared.JobAnswer.the-variants as answer
@@ -50,3 +55,9 @@ acceptedJob (answer.Refused number) = answer.Refused number
 -- The job in some bytes, or refusal 1, 2, 6 or 7, tested in this order.
 unfoldable pub jobOf : List ℕ → JobAnswer
 jobOf s = acceptedJob (formedJobOf s)
+
+-- How many places the readings of a chain allow in a job's window, or the number of the job's refusal (02, A2). The question itself
+-- tests window and tolerance.
+unfoldable pub manyBy : JobAnswer → Chain → List ℤ → HowMany
+manyBy (answer.Job j) c readings = howManyOf (ruleOf c readings (j .tolerance)) (j .window) (j .allowance)
+manyBy (answer.Refused number) c readings = many.Refused number 0

@@ -1,7 +1,7 @@
 // Log records, chain tables and jobs read from bytes of any content.
 ghost use mathlib.Core.Path.{_≡_};
 ghost use mathlib.Core.Bool.{_&&_};
-ghost use mathlib.Core.List.{List};
+ghost use mathlib.Core.List.{List, [], _∷_};
 ghost use Prim.Native.Nat.{ℕ, _+_, _≤_};
 ghost use lib.ListN.{length};
 ghost use Rattle.fields.specs.Fields.{fieldAt};
@@ -11,7 +11,7 @@ ghost use Rattle.records.specs.declared.LogRecord.the-variants as log;
 ghost use Rattle.records.specs.Bytes.{byteAt, numberIn, areZero, pieceEnd};
 ghost use Rattle.records.specs.LogRecords.{logBytes, rawRecordOf, isHyperbolic, isGrid, isHold, logRecordOf, isPlace, placed, pairOf, withPair, logEntryOf};
 ghost use Rattle.records.specs.ChainTables.{chainBytes, isTable, oneTo, chainCountOf, placeAt, chainAt, rawChainOf, chainOf};
-ghost use Rattle.records.specs.Jobs.{jobBytes, jobIn, rawJobOf, formedJobOf, acceptedJob, jobOf};
+ghost use Rattle.records.specs.Jobs.{jobBytes, jobIn, rawJobOf, formedJobOf, acceptedJob, jobOf, manyBy};
 ghost use Rattle.records.specs.Marks.{withMarksOf, markedEntryOf};
 ghost use Rattle.records.specs.Gathered.{IsRaw, markedAs};
 use chart::Chain;
@@ -20,6 +20,7 @@ use fields::Eight;
 use fields::Four;
 use metres::Mark;
 use metres::Whole;
+use search::HowMany;
 use search::Window;
 
 // The fields of a log record as its bytes give them, valid or not. Bytes 2 and 3 should be zero.
@@ -250,6 +251,16 @@ pub fn job_of(s: &[u8]) -> JobAnswer
     match formed_job(s) {
         JobAnswer::Job(j) => accepted(j),
         JobAnswer::Refused(number) => JobAnswer::Refused(number),
+    }
+}
+
+// How many places of a job's window the readings allow, or the job's refusal.
+pub fn many_by(job: JobAnswer, c: Chain, a: i64, b: i64) -> HowMany
+    ensures { λ r. ⌜ r ≡ manyBy job c (a ∷ b ∷ []) ⌝ }
+{
+    match job {
+        JobAnswer::Job(j) => search::how_many(c, a, b, j.window, j.tolerance, j.allowance),
+        JobAnswer::Refused(number) => HowMany::Refused { number, visits: 0 },
     }
 }
 

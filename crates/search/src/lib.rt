@@ -169,14 +169,7 @@ pub fn as_figures(a: Answer) -> SearchFigures
 }
 
 // Whether no place of the window matches the readings, one, or several: a search with room for one place.
-pub fn how_many(
-    c: Chain,
-    ra: i64,
-    rb: i64,
-    w: Window,
-    tolerance: u32,
-    allowance: u64,
-) -> HowMany
+pub fn how_many(c: Chain, ra: i64, rb: i64, w: Window, tolerance: u32, allowance: u64) -> HowMany
     ensures { λ r. ⌜ r ≡ howManyOf (ruleOf c (ra ∷ rb ∷ []) tolerance) w allowance ⌝ }
 {
     let mut list = [0u32; 2];

@@ -7,16 +7,13 @@ use Rattle.chart.specs.declared.Chain.{Chain}
 use Rattle.chart.specs.Places.{placeOf}
 use Rattle.search.specs.declared.HowMany.{HowMany}
 use Rattle.search.specs.declared.HowMany.the-variants as many
-use Rattle.search.specs.Questions.{ruleOf}
-use Rattle.search.specs.Counts.{howManyOf}
 use Rattle.records.specs.declared.ChainCount.{ChainCount}
 use Rattle.records.specs.declared.ChainCount.the-variants as count
 use Rattle.records.specs.declared.NamedChain.{NamedChain}
 use Rattle.records.specs.declared.NamedChain.the-variants as named
 use Rattle.records.specs.declared.JobAnswer.{JobAnswer}
-use Rattle.records.specs.declared.JobAnswer.the-variants as job
 use Rattle.records.specs.ChainTables.{chainCountOf, chainOf}
-use Rattle.records.specs.Jobs.{formedJobOf}
+use Rattle.records.specs.Jobs.{formedJobOf, manyBy}
 use Rattle.text.specs.Texts.{figuresText, bytesIn}
 use Rattle.shown.specs.Rooms.{Reply, Says, Refuses}
 
@@ -26,12 +23,7 @@ unfoldable pub chainOrNone : NamedChain → Chain
 chainOrNone (named.Chain c) = c
 chainOrNone (named.Refused number) = record { master = placeOf 0 0; a = placeOf 0 0; b = placeOf 0 0 }
 
--- How many places the readings allow by a job, or the number of its refusal.
-unfoldable pub manyBy : JobAnswer → Chain → List ℤ → HowMany
-manyBy (job.Job j) c readings = howManyOf (ruleOf c readings (j .tolerance)) (j .window) (j .allowance)
-manyBy (job.Refused number) c readings = many.Refused number 0
-
--- Before that, 1 for the table.
+-- 1 for the table, then the question by the job.
 unfoldable pub manyIn : ChainCount → JobAnswer → NamedChain → List ℤ → HowMany
 manyIn (count.Chains n) j c readings = manyBy j (chainOrNone c) readings
 manyIn (count.Refused number) j c readings = many.Refused number 0

@@ -13,7 +13,7 @@ ghost use Rattle.text.specs.Texts.{figuresText, hexOf, bytesIn};
 ghost use Rattle.shown.specs.Fields.{centimetresText, decimalText, metresText, hexText, refusedText};
 ghost use Rattle.shown.specs.Lines.{jobText, jobLine, chainText, refusalIn, chainLine, rawText, recordText, recordLine};
 ghost use Rattle.shown.specs.Expected.{byChain, expectedIn, isRoundedBack, writtenText, slaveLine, expectedText};
-ghost use Rattle.shown.specs.Counted.{chainOrNone, manyBy, countedIn, manyLine, manyReply};
+ghost use Rattle.shown.specs.Counted.{chainOrNone, countedIn, manyLine, manyReply};
 ghost use Rattle.shown.specs.Rooms.{Says, hasLineRoom, shownIn, replyOf, Puts};
 use chart::Chain;
 use chart::Expected;
@@ -189,7 +189,7 @@ fn counted(table: &[u8], job: &[u8], chain: u32, a: i64, b: i64) -> HowMany
     if let ChainCount::Refused(number) = records::chain_count(table) {
         return HowMany::Refused { number, visits: 0 };
     }
-    many_by(
+    records::many_by(
         records::formed_job(job),
         chain_or_none(records::chain_of(table, chain)),
         a,
@@ -208,15 +208,6 @@ fn chain_or_none(chain: NamedChain) -> Chain
             a: SPOT,
             b: SPOT,
         },
-    }
-}
-
-fn many_by(job: JobAnswer, c: Chain, a: i64, b: i64) -> HowMany
-    ensures { λ r. ⌜ r ≡ manyBy job c (a ∷ b ∷ []) ⌝ }
-{
-    match job {
-        JobAnswer::Job(j) => search::how_many(c, a, b, j.window, j.tolerance, j.allowance),
-        JobAnswer::Refused(number) => HowMany::Refused { number, visits: 0 },
     }
 }
 

@@ -8,8 +8,8 @@ use Rattle.chart.specs.declared.Chain.{Chain}
 use Rattle.records.specs.declared.ChainCount.{ChainCount}
 use Rattle.records.specs.declared.JobAnswer.{JobAnswer}
 use Rattle.records.specs.ChainTables.{chainOf}
-use Rattle.records.specs.Jobs.{formedJobOf}
-use Rattle.shown.specs.Counted.{chainOrNone, manyBy, manyIn}
+use Rattle.records.specs.Jobs.{formedJobOf, manyBy}
+use Rattle.shown.specs.Counted.{chainOrNone, manyIn}
 use borrow.Author.Needs.{needs}
 use Rattle.shown.proofs.counted.Statement.{statement}
 use Rattle.shown.proofs.counted.Tie as tie

@@ -1,15 +1,15 @@
--- `shown::many_by` meets its contract: the question by the job, or the job's refusal.
+-- `records::many_by` meets its contract: the question by the job, or the job's refusal.
 use mathlib.Core.Path.{sym, ap, ap₂, _∙_}
 use mathlib.Core.List.{[], _∷_}
 use lib.IntN.{ℤ}
 use mir.Syntax.{w64}
 use mir.ValLaws.{toZ-ofZ}
 use Rattle.records.specs.declared.JobAnswer.{JobAnswer}
 use Rattle.records.specs.declared.JobAnswer.the-variants as job
-use Rattle.shown.specs.Counted.{manyBy}
+use Rattle.records.specs.Jobs.{manyBy}
 use borrow.Author.Needs.{needs}
-use Rattle.shown.proofs.many_by.Statement.{statement}
-use Rattle.shown.proofs.many_by.Tie as tie
+use Rattle.records.proofs.many_by.Statement.{statement}
+use Rattle.records.proofs.many_by.Tie as tie
 
 enum-known-job : tie.Need-enum-known-job
 enum-known-job c = search needs
