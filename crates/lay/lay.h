@@ -1,5 +1,6 @@
 /* The library's interface for C. It converts metres to centimetres and back, gives the readings expected at a place, searches for
- * the places that readings allow, reads and writes records (docs/FORMATS.md), and makes the listing of a log.
+ * the places that readings allow, tells whether there is exactly one, reads and writes records (docs/FORMATS.md), and makes the
+ * listing of a log.
  *
  * Every function but lay_version returns the number of a refusal, or LAY_OK if nothing is refused. It sets every result that the
  * caller lends it by pointer, whatever it held before: after a refusal to 0, unless the comment of the function says otherwise.
@@ -51,6 +52,13 @@ enum {
     LAY_ABOVE = 2
 };
 
+/* How many places readings allow, as lay_how_many tells it. 0, which it sets after a refusal, is none of these. */
+enum {
+    LAY_NO_PLACE = 1,
+    LAY_ONE_PLACE = 2,
+    LAY_SEVERAL_PLACES = 3
+};
+
 /* Sizes in bytes, and how many numbers and readings a chain has. */
 enum {
     LAY_RECORD_BYTES = 32,
@@ -76,6 +84,12 @@ enum {
 struct lay_found {
     uint64_t count;
     uint64_t visits;
+};
+
+/* The place that lay_how_many gives. */
+struct lay_place {
+    uint32_t easting;
+    uint32_t northing;
 };
 
 /* A part of a listing: the length of its text in bytes and, if `held` is 1, the place that a hold right after it repeats, with the
@@ -116,6 +130,17 @@ uint32_t lay_expected(int64_t *readings, size_t readings_length, const uint8_t *
  * 10 the visits are those that were made; after any other refusal they are 0. */
 uint32_t lay_search(uint32_t *list, size_t entries, const uint8_t *chain, size_t chain_length, const int64_t *readings,
                     size_t readings_length, const uint8_t *job, size_t job_length, struct lay_found *found);
+
+/* Tells whether no cell, one cell or several cells of a job's window match the readings, and which cell if it is one. It visits the
+ * window as lay_search does, but needs no list and stops at the second matching cell: LAY_SEVERAL_PLACES comes with the visits up to
+ * and with that cell, LAY_NO_PLACE and LAY_ONE_PLACE with those of the whole window. The place is (0, 0) unless the answer is
+ * LAY_ONE_PLACE. Where lay_search with enough room finds places within the same allowance, or returns 8, the answer agrees with it.
+ *
+ * Returns 1 for a chain, readings or a job of another length, 2 if a byte of the job that must be zero is not, then 3, 5, 6, 7 in
+ * this order, all as lay_search does, then 10 if the allowance is used up before this is decided; never 8 or 9. After 10 the visits
+ * are the allowance; after any other refusal they are 0. */
+uint32_t lay_how_many(const uint8_t *chain, size_t chain_length, const int64_t *readings, size_t readings_length,
+                      const uint8_t *job, size_t job_length, uint32_t *answer, struct lay_place *place, uint64_t *visits);
 
 /* Reads a log record of LAY_RECORD_BYTES: its kind (1 hyperbolic, 2 grid, 3 hold); its chain number, which is 0 for kinds 2 and 3;
  * its line number; and, as x and y in whole centimetres, readings A and B, or easting and northing, or two zeros for a hold. Each of
