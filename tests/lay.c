@@ -2,16 +2,18 @@
  * for each, and prints each answer on a line of standard output. A verb is the name of its function without `lay_`.
  *
  * Words are separated by single spaces. Numbers are decimal. BYTES, CHAIN, JOB, TABLE, LOG and TEXT are lower-case hexadecimal, `-`
- * for no bytes. A CHAIN, and the JOB of a search, may also be its numbers with commas between, as in 0,0,30000,0,0,40000 and
- * 30000,40000,1,0,100; for log records CHAIN is the chain's number. A PATTERN is the bits of a binary64 number in 16 hexadecimal
+ * for no bytes. A CHAIN, and the JOB of search and how_many, may also be its numbers with commas between, as in 0,0,30000,0,0,40000
+ * and 30000,40000,1,0,100; for log records CHAIN is the chain's number. A PATTERN is the bits of a binary64 number in 16 hexadecimal
  * digits, the highest first. READING.. and N.. are any number of numbers. R is the number of the refusal, 0 for none. A MARK is 0, 1
- * or 2 as in lay.h. LENGTH is how many elements a lent buffer or list has, and DIRT is what each of them holds before the call.
+ * or 2 as in lay.h; an ANSWER is 1, 2 or 3 as there, and 0 after a refusal. LENGTH is how many elements a lent buffer or list has,
+ * and DIRT is what each of them holds before the call.
  *
  *   version                                      ->  VERSION
  *   centimetres PATTERN                          ->  R C MARK
  *   metres C                                     ->  R PATTERN
  *   expected LENGTH DIRT CHAIN E N               ->  R and every entry of the list
  *   search LENGTH DIRT CHAIN JOB READING..       ->  R COUNT VISITS and every entry of the list
+ *   how_many CHAIN JOB READING..                 ->  R ANSWER E N VISITS
  *   read_record BYTES                            ->  R KIND CHAIN LINE X Y XMARK YMARK
  *   write_record LENGTH DIRT KIND CHAIN LINE X Y ->  R BYTES, the whole buffer
  *   read_job BYTES                               ->  R E N K T ALLOWANCE
@@ -39,6 +41,8 @@
 /* The structs have the same layout in memory as the arrays that the library takes them for. */
 _Static_assert(sizeof(struct lay_found) == 2 * sizeof(uint64_t), "two numbers of 64 bits");
 _Static_assert(offsetof(struct lay_found, visits) == 8, "the second of them");
+_Static_assert(sizeof(struct lay_place) == 2 * sizeof(uint32_t), "two numbers of 32 bits");
+_Static_assert(offsetof(struct lay_place, easting) == 0 && offsetof(struct lay_place, northing) == 4, "in this order");
 _Static_assert(offsetof(struct lay_part, held) == 8 && offsetof(struct lay_part, easting) == 12, "behind the length");
 _Static_assert(offsetof(struct lay_part, northing) == 16 && offsetof(struct lay_part, rounded) == 20, "behind these");
 _Static_assert(sizeof(struct lay_part) == 24, "and nothing else");
@@ -338,20 +342,41 @@ static void print_list(const uint32_t *list, size_t entries)
         printf(" %" PRIu32, list[i]);
 }
 
+/* Lends all the words that are left, as readings; `count` is set to how many they are. */
+static const int64_t *readings_left(size_t *count)
+{
+    *count = words_left;
+    int64_t *readings = lend_list(*count, sizeof *readings);
+    for (size_t i = 0; i < *count; i++)
+        readings[i] = signed64();
+    return readings;
+}
+
 static void ask_search(void)
 {
-    size_t length = size();
+    size_t length = size(), count;
     uint32_t *list = dirty_list(length, number32());
     struct bytes chain = chain_bytes(), job = job_bytes();
-    size_t count = words_left;
-    int64_t *readings = lend_list(count, sizeof *readings);
-    for (size_t i = 0; i < count; i++)
-        readings[i] = signed64();
+    const int64_t *readings = readings_left(&count);
     struct lay_found *found = result(sizeof *found);
     uint32_t refusal =
         lay_search(list, length, chain.at, chain.length, readings, count, job.at, job.length, found);
     printf("%" PRIu32 " %" PRIu64 " %" PRIu64, refusal, found->count, found->visits);
     print_list(list, length);
+}
+
+static void ask_how_many(void)
+{
+    size_t count;
+    struct bytes chain = chain_bytes(), job = job_bytes();
+    const int64_t *readings = readings_left(&count);
+    uint32_t *answer = result32();
+    struct lay_place *found = result(sizeof *found);
+    uint64_t *visits = result64();
+    uint32_t refusal =
+        lay_how_many(chain.at, chain.length, readings, count, job.at, job.length, answer, found, visits);
+    printf("%" PRIu32 " %" PRIu32 " %" PRIu32 " %" PRIu32 " %" PRIu64, refusal, *answer, found->easting, found->northing,
+           *visits);
 }
 
 static void ask_read_record(void)
@@ -474,6 +499,7 @@ static const struct verb {
     {"metres", 1, false, ask_metres},
     {"expected", 5, false, ask_expected},
     {"search", 4, true, ask_search},
+    {"how_many", 2, true, ask_how_many},
     {"read_record", 1, false, ask_read_record},
     {"write_record", 7, false, ask_write_record},
     {"read_job", 1, false, ask_read_job},
