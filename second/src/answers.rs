@@ -4,7 +4,8 @@
 use std::fmt::Display;
 use std::str::FromStr;
 
-use crate::chart::{self, Place, Readings};
+use crate::chart::{self, Chain, Place, Readings};
+use crate::how_many::{self, Count};
 use crate::listing::{self, Held};
 use crate::numbers::{self, Mark};
 use crate::records::{self, Draft, Entry};
@@ -139,6 +140,7 @@ pub fn answer(line: &str) -> Result<String, String> {
         "metres" => metres(request),
         "expected" => expected(request),
         "search" => search(request),
+        "how_many" => how_many(request),
         "read_record" => read_record(request),
         "write_record" => write_record(request),
         "read_job" => read_job(request),
@@ -207,12 +209,32 @@ fn search(mut request: Request) -> Result<String, String> {
     Ok(with_entries(head, &list))
 }
 
-/// A search by bytes. Refusals: 1 for all three lengths, then 2 for the job's bytes, then those of a search.
+/// A search by bytes. Refusals: those of the bytes, then those of a search.
 fn search_by_bytes(chain: &[u8], readings: &[i64], job: &[u8], room: usize) -> Result<Found, u32> {
+    let (chain, wanted, job) = searched(chain, readings, job)?;
+    Ok(search::search(&chain, wanted, &job, room))
+}
+
+/// What is searched for, from bytes. Refusals: 1 for all three lengths, then 2 for the job's bytes.
+fn searched(chain: &[u8], readings: &[i64], job: &[u8]) -> Result<(Chain, Readings, Job), u32> {
     let chain = records::raw_chain(chain)?;
     let [a, b] = <[i64; 2]>::try_from(readings).map_err(|_| refusals::LENGTH)?;
-    let job = records::raw_job(job)?;
-    Ok(search::search(&chain, Readings { a, b }, &job, room))
+    Ok((chain, Readings { a, b }, records::raw_job(job)?))
+}
+
+fn how_many(mut request: Request) -> Result<String, String> {
+    let (chain, job) = (request.chain()?, request.job()?);
+    let readings: Vec<i64> = request.numbers()?;
+    let answer = match searched(&chain, &readings, &job) {
+        Ok((chain, wanted, job)) => how_many::how_many(&chain, wanted, &job),
+        Err(refusal) => Err((refusal, 0)),
+    };
+    Ok(match answer {
+        Ok((Count::None, visits)) => format!("0 1 0 0 {visits}"),
+        Ok((Count::One(place), visits)) => format!("0 2 {} {} {visits}", place.easting, place.northing),
+        Ok((Count::Several, visits)) => format!("0 3 0 0 {visits}"),
+        Err((refusal, visits)) => format!("{refusal} 0 0 0 {visits}"),
+    })
 }
 
 fn read_record(mut request: Request) -> Result<String, String> {
@@ -420,10 +442,45 @@ mod tests {
     fn every_zero_byte_of_a_job_counts() {
         for index in 0..32 {
             let job = format!("{}01{}", &JOB[..2 * index], &JOB[2 * index + 2..]);
-            let refusal = ok(&format!("search 0 7 {CHAIN_1} {job} 1000000001 0"));
-            let zero = (9..=11).contains(&index) || index >= 24;
-            assert_eq!(refusal, if zero { "2 0 0" } else { "3 0 0" }, "{index}");
+            let rest = format!("{CHAIN_1} {job} 1000000001 0");
+            let refusal = if (9..=11).contains(&index) || index >= 24 { 2 } else { 3 };
+            assert_eq!(ok(&format!("search 0 7 {rest}")), format!("{refusal} 0 0"), "{index}");
+            assert_eq!(ok(&format!("how_many {rest}")), format!("{refusal} 0 0 0 0"), "{index}");
         }
+    }
+
+    #[test]
+    fn how_many_places() {
+        let ask = |job: &str| ok(&format!("how_many {CHAIN_1} {job} -10000 -20000"));
+        assert_eq!(ask("30000,40000,1,0,100"), "0 3 0 0 5");
+        assert_eq!(ask("30000,40000,1,0,5"), "0 3 0 0 5");
+        assert_eq!(ask("30000,40000,1,0,4"), "10 0 0 0 4");
+        assert_eq!(ask("30001,40000,0,0,100"), "0 1 0 0 1");
+        assert_eq!(ask("30000,40000,0,0,100"), "0 2 30000 40000 1");
+        assert_eq!(ask("30000,40000,0,0,0"), "10 0 0 0 0");
+        assert_eq!(ok(&format!("how_many {CHAIN_1_BYTES} {JOB} -10000 -20000")), "0 3 0 0 5");
+    }
+
+    #[test]
+    fn how_many_refuses_in_order() {
+        let ask = |rest: &str| ok(&format!("how_many {rest}"));
+        let (job, beyond) = ("01".repeat(32), "1000000001 0");
+        for rest in [
+            format!("{CHAIN_1_BYTES}00 {job} {beyond}"),
+            format!("- {job} {beyond}"),
+            format!("{UNSOUND} {job}"),
+            format!("{UNSOUND} {job} 1000000001"),
+            format!("{UNSOUND} {job} {beyond} 0"),
+            format!("{UNSOUND} {job}00 {beyond}"),
+            format!("{UNSOUND} - {beyond}"),
+        ] {
+            assert_eq!(ask(&rest), "1 0 0 0 0", "{rest}");
+        }
+        assert_eq!(ask(&format!("{UNSOUND} {job} {beyond}")), "2 0 0 0 0");
+        assert_eq!(ask(&format!("{UNSOUND} 0,0,25,100001,9 {beyond}")), "3 0 0 0 0");
+        assert_eq!(ask(&format!("{UNSOUND} 0,0,25,100001,9 0 0")), "5 0 0 0 0");
+        assert_eq!(ask(&format!("{CHAIN_1} 0,0,25,100001,9 0 0")), "6 0 0 0 0");
+        assert_eq!(ask(&format!("{CHAIN_1} 0,0,24,100001,9 0 0")), "7 0 0 0 0");
     }
 
     #[test]
@@ -502,6 +559,7 @@ mod tests {
         }
         for job in ["0,0,256,0,0", "0,0,0,0", "0,0,0,0,0,0", "0,0,-1,0,0", "0,,0,0,0"] {
             assert!(answer(&format!("search 0 0 {CHAIN_1} {job} 0 0")).is_err(), "{job}");
+            assert!(answer(&format!("how_many {CHAIN_1} {job} 0 0")).is_err(), "{job}");
         }
     }
 }

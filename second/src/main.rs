@@ -1,11 +1,12 @@
-//! A second program for the rules of document 01 with request A1 of 02, written from these alone, to be compared with the
-//! first.
+//! A second program for the rules of document 01 with requests A1 and A2 of 02, written from these alone, to be compared
+//! with the first.
 
 mod answers;
 mod asking;
 mod chart;
 mod edges;
 mod folder;
+mod how_many;
 mod listing;
 mod making;
 mod numbers;

@@ -7,7 +7,7 @@ use crate::refusals;
 pub const MOST_EXPONENT: u32 = 24;
 pub const MOST_TOLERANCE: u32 = 100_000;
 /// Windows up to this exponent are swept cell by cell as well.
-const SWEPT_EXPONENT: u32 = 3;
+pub const SWEPT_EXPONENT: u32 = 3;
 
 #[derive(Clone, Copy, PartialEq, Eq, Debug)]
 pub struct Job {
@@ -77,7 +77,8 @@ pub fn admit_job(job: &Job) -> Result<(), u32> {
     Ok(())
 }
 
-fn admit(chain: &Chain, wanted: Readings, job: &Job) -> Result<(), u32> {
+/// Refuses readings with 3, then a chain with 5, then a job.
+pub fn admit(chain: &Chain, wanted: Readings, job: &Job) -> Result<(), u32> {
     let limits = -MOST_CENTIMETRES..=MOST_CENTIMETRES;
     if !limits.contains(&wanted.a) || !limits.contains(&wanted.b) {
         return Err(refusals::NUMBER);
