@@ -1,6 +1,7 @@
 //! Makes requests from a seed: every verb, with numbers at their limits, dirty buffers and wrong lengths.
 
 use crate::answers::{CHAIN_NUMBERS, CHAIN_READINGS, LINE_BYTES};
+use crate::asking_how_many;
 use crate::chart::{self, Chain, Place, Readings, MOST_EASTING, MOST_NORTHING};
 use crate::numbers::MOST_CENTIMETRES;
 use crate::pieces;
@@ -10,19 +11,24 @@ use crate::search::{self, Job, MOST_EXPONENT, MOST_TOLERANCE};
 use crate::words::hex;
 
 /// The visits that most searches may cost, and those that a few may cost.
-const FEW_VISITS: u64 = 2000;
-const MANY_VISITS: u64 = 50_000;
+pub const FEW_VISITS: u64 = 2000;
+pub const MANY_VISITS: u64 = 50_000;
 
-/// One request in this many asks for the version, which never changes.
-const VERSION_EVERY: u64 = 1000;
+/// The requests of one turn: each verb has its places in it.
+const TURN: u64 = 24;
 
-/// The request with an index. It depends on the seed and the index alone, not on how many are made.
+/// One request in this many asks for the version, which never changes. It is the first of a turn.
+const VERSION_EVERY: u64 = 50 * TURN;
+
+/// The request with an index. It depends on the seed and the index alone, not on how many are made. The last two of a turn are
+/// about one question, and both are made from the stream of the first.
 pub fn request(seed: u64, index: u64) -> String {
     let random = &mut Random::for_item(seed, index);
     if index % VERSION_EVERY == 0 {
         return "version".into();
     }
-    match index % 20 {
+    let turn = index / TURN;
+    match index % TURN {
         0 => format!("centimetres {:016x}", pattern(random)),
         1 => format!("metres {}", centimetres(random)),
         2 | 3 => expected(random),
@@ -36,7 +42,11 @@ pub fn request(seed: u64, index: u64) -> String {
         14 | 15 => chain_asked(random),
         16 => chain_reading(random),
         17 => chain_writing(random),
-        _ => listing(random),
+        18 | 19 => listing(random),
+        20 => asking_how_many::asked(random),
+        21 => asking_how_many::faulty(random, turn),
+        22 => asking_how_many::paired(random, turn).0,
+        _ => asking_how_many::paired(&mut Random::for_item(seed, index - 1), turn).1,
     }
 }
 
@@ -64,7 +74,7 @@ fn centimetres(random: &mut Random) -> i64 {
 }
 
 /// A chain that is mostly sound and mostly near the place.
-fn chain(random: &mut Random, place: Place) -> Chain {
+pub fn chain(random: &mut Random, place: Place) -> Chain {
     if random.once_in(12) {
         return pieces::unsound_chain(random);
     }
@@ -88,7 +98,7 @@ fn joined(numbers: &[u32], between: &str) -> String {
 }
 
 /// The word for a chain: its numbers or its bytes.
-fn chain_word(random: &mut Random, chain: &Chain) -> String {
+pub fn chain_word(random: &mut Random, chain: &Chain) -> String {
     if random.once_in(2) {
         return joined(&chart::chain_numbers(chain), ",");
     }
@@ -106,12 +116,16 @@ fn doubtful_chain_word(random: &mut Random, chain: &Chain) -> String {
 }
 
 /// The word for a job: its numbers or its bytes.
-fn job_word(random: &mut Random, job: &Job) -> String {
+pub fn job_word(random: &mut Random, job: &Job) -> String {
     if random.once_in(2) {
-        let Job { corner, k, tolerance, allowance } = job;
-        return format!("{},{},{k},{tolerance},{allowance}", corner.easting, corner.northing);
+        return job_numbers(job);
     }
     hex(&records::job_bytes(job))
+}
+
+pub fn job_numbers(job: &Job) -> String {
+    let Job { corner, k, tolerance, allowance } = job;
+    format!("{},{},{k},{tolerance},{allowance}", corner.easting, corner.northing)
 }
 
 /// A length that mostly does not fit: one beside `fitting`, twice `fitting`, 0 or any.
@@ -140,7 +154,7 @@ fn byte_dirt(random: &mut Random) -> u8 {
     random.pick(&[0, 1, 0x55, 0xff])
 }
 
-fn list_dirt(random: &mut Random) -> u32 {
+pub fn list_dirt(random: &mut Random) -> u32 {
     random.pick(&[0, 1, 7, u32::MAX, 123_456_789])
 }
 
@@ -178,7 +192,7 @@ fn entries(random: &mut Random) -> usize {
     }
 }
 
-fn search_job(random: &mut Random, place: Place) -> Job {
+pub fn search_job(random: &mut Random, place: Place) -> Job {
     let k = match random.below(30) {
         0 => random.between(20, 40) as u32,
         1 => random.pick(&[24, 25, 31, 32, 33, 63, 64, 127, 128, 255]),
@@ -207,7 +221,7 @@ fn passing(random: &mut Random, k: u32) -> Place {
     chart::place(corner(MOST_EASTING), corner(MOST_NORTHING))
 }
 
-fn wanted(random: &mut Random, chain: &Chain, place: Place) -> Readings {
+pub fn wanted(random: &mut Random, chain: &Chain, place: Place) -> Readings {
     let exact = match chart::expected(chain, place) {
         Ok(readings) => readings,
         Err(_) => Readings { a: centimetres(random), b: centimetres(random) },

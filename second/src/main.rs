@@ -3,6 +3,7 @@
 
 mod answers;
 mod asking;
+mod asking_how_many;
 mod chart;
 mod edges;
 mod folder;
