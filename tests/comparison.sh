@@ -4,7 +4,7 @@
 #
 #   bash tests/comparison.sh [SEED [FOLDERS [REQUESTS]]]
 cd "$(dirname "$0")/.." && . tests/common.bash && . tests/library.bash
-seed=${1:-20261115} folders=${2:-2100} count=${3:-150000}
+seed=${1:-20261115} folders=${2:-2100} count=${3:-180000}
 
 quietly cargo build --release --offline --manifest-path second/Cargo.toml --target-dir target/second
 second=$repository/target/second/release/second
@@ -52,7 +52,7 @@ pass_if "there are $count requests" [ "$(wc -l <"$requests")" -eq "$count" ]
 ask "$second" answers
 
 # With fewer folders or requests than the gate uses, what is tested below need not occur.
-((folders >= 2100 && count >= 150000)) || {
+((folders >= 2100 && count >= 180000)) || {
     done_testing
     exit
 }
@@ -120,6 +120,7 @@ refuses centimetres 0 3
 refuses metres 0 3
 refuses expected 0 1 4 5
 refuses search 0 1 2 3 5 6 7 8 9 10
+refuses how_many 0 1 2 3 5 6 7 10
 refuses read_record 0 1 2 3 4
 refuses write_record 0 1 2 3 4 5
 refuses read_job 0 1 2 6 7
@@ -191,17 +192,87 @@ done
 told "list $lent [17] $place [17] .*" '9 0 0 0 0 0 - kept'
 told "list $lent [17] $place [17] .*" '0 14 0 0 0 0 4a4f422052454655534544203[1267]0a kept'
 
-# Searches with the chain and the job given by numbers and by bytes, and with lengths that do not fit.
+# Searches and how_many with the chain and the job given by numbers and by bytes, and with lengths that do not fit.
 numbers='[0-9]+(,[0-9]+)+' readings='-?[0-9]+ -?[0-9]+'
-told "search $lent $numbers $numbers $readings" '0 .*'
-told "search $lent [0-9a-f]{48} [0-9a-f]{64} $readings" '0 .*'
-for digits in 46 50 96; do
-    told "search $lent [0-9a-f]{$digits} [^ ]+ $readings" '1 .*'
+for verb in "search $lent" how_many; do
+    told "$verb $numbers $numbers $readings" '0 .*'
+    told "$verb [0-9a-f]{48} [0-9a-f]{64} $readings" '0 .*'
+    for digits in 46 50 96; do
+        told "$verb [0-9a-f]{$digits} [^ ]+ $readings" '1 .*'
+    done
+    for digits in 62 66; do
+        told "$verb [^ ]+ [0-9a-f]{$digits} $readings" '1 .*'
+    done
+    for given in 0 1 3; do
+        told "$verb [^ ]+ [^ ]+( -?[0-9]+){$given}" '1 .*'
+    done
+    told "$verb [^ ]+ [0-9a-f]{64} $readings" '2 .*'
 done
-for digits in 62 66; do
-    told "search $lent [^ ]+ [0-9a-f]{$digits} $readings" '1 .*'
+
+# How many places: each answer, by numbers and by bytes; no visit allowed, and one; and what never is an answer.
+pass_if 'how_many is asked 20,000 times' [ "$(grep -c '^how_many ' "$requests")" -ge 20000 ]
+pass_if 'how_many never answers with 8 or 9' [ -z "$(grep -xE 'how_many [89]' "$met")" ]
+for answer in '1 0 0' "2 $place" '3 0 0'; do
+    told "how_many $numbers $numbers $readings" "0 $answer [0-9]+"
+    told "how_many [0-9a-f]{48} [0-9a-f]{64} $readings" "0 $answer [0-9]+"
 done
-for count in 0 1 3; do
-    told "search $lent [^ ]+ [^ ]+( -?[0-9]+){$count}" '1 .*'
+for allowance in 0 1; do
+    told "how_many [^ ]+ [0-9]+(,[0-9]+){3},$allowance $readings" "10 0 0 0 $allowance"
 done
+told "how_many [^ ]+ [0-9]+(,[0-9]+){3},1 $readings" '0 1 0 0 1'
+told "how_many [^ ]+ [0-9]+(,[0-9]+){3},1 $readings" "0 2 $place 1"
+
+# questions: what is met where how_many has its job by numbers, each on a line. The next request may be the same with another
+# allowance, or a search for the same with the same allowance and room for all places.
+questions() {
+    grep -E '^(how_many|search) ' "$both" | awk -F '[ :]' '
+        function at_least(east, north, offset) { return east - job[1] >= offset && north - job[2] >= offset }
+        function agrees() {
+            if ($8 == 8) return answer == 1 && visits == $10
+            if ($9 == 1) return answer == 2 && visits == $10 && place == $11 " " $12
+            return answer == 3 && visits <= $10
+        }
+        {
+            at = $1 == "search" ? 4 : 2
+            numbers = split($(at + 1), job, ",")
+            before = question
+            question = $at " " job[1] " " job[2] " " job[3] " " job[4] " " $(at + 2) " " $(at + 3)
+            again = numbers == 5 && question == before
+        }
+        $1 == "search" && again {
+            if ($8 == 10 && answer == 3) print "several where a search gives 10"
+            if ($8 == 0 || $8 == 8) print agrees() ? "a search agrees with " answer : "a search disagrees: " $0
+            if ($8 == 0 && $9 > 1 && at_least($11, $12, 2 ^ (job[3] - 1))) print "several in the last quarter alone"
+        }
+        $1 == "how_many" && numbers == 5 && NF == 10 {
+            if ($7 == 2 && job[3] >= 1 && at_least($8, $9, 2 ^ job[3] - 1)) print "one at the last cell"
+            if (again && visits == allowance && $6 == 10 && job[5] == allowance - 1)
+                print "the visits of " answer " are enough and one less is not"
+            if ($6 == 0 && job[5] == $10 + 1) print "one visit more than " $7 " needs"
+            answer = $6 == 0 ? $7 : "none"
+            place = $8 " " $9
+            visits = $10
+            allowance = job[5]
+        }
+        $1 == "search" { question = "" }' | sort -u
+}
+questions >"$said"
+while read -r line; do
+    pass_if "$line" grep -qxF "$line" "$said"
+done <<'END'
+a search agrees with 1
+a search agrees with 2
+a search agrees with 3
+one at the last cell
+one visit more than 1 needs
+one visit more than 2 needs
+one visit more than 3 needs
+several in the last quarter alone
+several where a search gives 10
+the visits of 1 are enough and one less is not
+the visits of 2 are enough and one less is not
+the visits of 3 are enough and one less is not
+END
+disagreeing=$(sed -n '/^a search disagrees/{p;q}' "$said")
+pass_if "$disagreeing" [ -z "$disagreeing" ]
 done_testing
