@@ -239,10 +239,10 @@ questions() {
             question = $at " " job[1] " " job[2] " " job[3] " " job[4] " " $(at + 2) " " $(at + 3)
             again = numbers == 5 && question == before
         }
-        $1 == "search" && again {
+        $1 == "search" && again && job[5] "" == allowance "" {
             if ($8 == 10 && answer == 3) print "several where a search gives 10"
             if ($8 == 0 || $8 == 8) print agrees() ? "a search agrees with " answer : "a search disagrees: " $0
-            if ($8 == 0 && $9 > 1 && at_least($11, $12, 2 ^ (job[3] - 1))) print "several in the last quarter alone"
+            if ($8 == 0 && answer == 3 && at_least($11, $12, 2 ^ (job[3] - 1))) print "several in the last quarter alone"
         }
         $1 == "how_many" && numbers == 5 && NF == 10 {
             if ($7 == 2 && job[3] >= 1 && at_least($8, $9, 2 ^ job[3] - 1)) print "one at the last cell"

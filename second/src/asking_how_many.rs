@@ -54,7 +54,7 @@ pub fn asked(random: &mut Random) -> String {
 
 /// An allowance at an edge, or an ample one if the answer is cheap.
 fn allowance(random: &mut Random, question: &Question) -> u64 {
-    let most = if random.once_in(200) { MANY_VISITS } else { FEW_VISITS };
+    let most = if random.once_in(60) { MANY_VISITS } else { FEW_VISITS };
     let figures = match question.figures(most) {
         Some(figures) => figures,
         None => return random.pick(&[0, 1, FEW_VISITS, u64::MAX]),
@@ -157,13 +157,13 @@ pub fn paired(random: &mut Random, turn: u64) -> (String, String) {
     (format!("how_many {first}"), format!("{verb} {second}"))
 }
 
-/// A question of a kind, with the figures of its whole walk, which costs few visits.
+/// A question of a kind, with the figures of its whole walk, which costs few visits but more than one.
 fn affordable(random: &mut Random, (make, fits): Kind) -> (Question, Figures) {
     loop {
         let question = make(random);
         let found = question.search();
         let complete = found.refusal == 0 || found.refusal == refusals::NOWHERE;
-        if complete && fits(&question, &found.places) {
+        if complete && found.visits > 1 && fits(&question, &found.places) {
             let figures = how_many::figures(&question.chain, question.wanted, &question.job, FEW_VISITS as usize);
             return (question, figures);
         }
