@@ -261,21 +261,26 @@ def walk(chain, wanted, job):
                 squares.append((moved(corner, east, north), half))
 
 
+def visits_of(chain, wanted, job):
+    """The visits of the walk, numbered from 1, each with the cell that is found to match there, or None."""
+    for visit, (corner, side) in enumerate(walk(chain, wanted, job), 1):
+        yield visit, corner if side == 1 and agrees(chain, corner, wanted, job.tolerance) else None
+
+
 def search(chain, wanted, job, room):
     """The refusal, the visits and the places; 8, 9 and 10 come as the walk meets them."""
     refusal, _ = tried(check_search, chain, wanted, job)
     if refusal:
         return refusal, 0, []
-    visits, places = 0, []
-    for cell, side in walk(chain, wanted, job):
-        if visits == job.allowance:
-            return 10, visits, []
-        visits += 1
-        if side == 1 and agrees(chain, cell, wanted, job.tolerance):
+    places = []
+    for visit, cell in visits_of(chain, wanted, job):
+        if visit > job.allowance:
+            return 10, job.allowance, []
+        if cell:
             if len(places) == room:
-                return 9, visits, []
+                return 9, visit, []
             places.append(cell)
-    return 0 if places else 8, visits, places
+    return 0 if places else 8, visit, places
 
 
 def check_search(chain, wanted, job):
@@ -289,6 +294,31 @@ def chart_number(corner, cell):
     """The bits of a cell's offsets interleaved, the northing's above the easting's. Chart order is the order of these numbers."""
     east, north = cell[0] - corner[0], cell[1] - corner[1]
     return sum((east >> i & 1) << 2 * i | (north >> i & 1) << 2 * i + 1 for i in range(24))
+
+
+# 02, A2: is there exactly one place?
+
+NO_PLACE, ONE_PLACE, SEVERAL_PLACES = 1, 2, 3
+
+
+def how_many(chain, wanted, job):
+    """The refusal, the answer (0 after a refusal), the place (nought unless there is exactly one) and the visits. The walk is not
+    stopped at a cell: it is made whole, or up to one visit more than is allowed, and then it is reckoned at which visit the question
+    was decided, that of the second matching cell or, without one, the last of the walk."""
+    refusal, _ = tried(check_search, chain, wanted, job)
+    if refusal:
+        return refusal, 0, (0, 0), 0
+    found = []
+    for last, cell in visits_of(chain, wanted, job):
+        if cell:
+            found.append((last, cell))
+        if last > job.allowance:
+            break
+    decided = found[1][0] if len(found) > 1 else last
+    if decided > job.allowance:
+        return 10, 0, (0, 0), job.allowance
+    answer = (NO_PLACE, ONE_PLACE, SEVERAL_PLACES)[min(len(found), 2)]
+    return 0, answer, found[0][1] if answer == ONE_PLACE else (0, 0), decided
 
 
 # 01, Numbers of refusal: a place's expected readings
