@@ -1,13 +1,14 @@
 #!/usr/bin/env python3
-"""Makes requests for searches in the words of lay.c, and answers them by rule.py.
+"""Makes requests for searches, and for how many places there are, in the words of lay.c, and answers them by rule.py.
 
     search.py named        prints the chosen requests, one to a line
-    search.py random SEED  prints 1,500 others at random
+    search.py random SEED  prints 1,500 others of each verb at random
     search.py answers      answers the requests on standard input
 
 The rule finds its places by its walk through quarters. To check them, they are also found without the walk: by halving boxes, with
 the least and the greatest distance of the cells of a box from each station, and in a small window cell by cell too. They are put
-in order by their interleaved numbers. If the ways differ, the program stops without an answer.
+in order by their interleaved numbers. How many there are must agree with the places. If the ways differ, the program stops without
+an answer.
 """
 import random
 import struct
@@ -48,9 +49,11 @@ def commas(numbers):
     return ",".join(map(str, numbers))
 
 
-def line_of(r):
+def line_of(r, verb="search"):
+    """The request by a verb: `search`, which has a list, or `how_many`, which has none."""
     chain, job = rule.flat(rule.stations(r.chain)), (*r.corner, *r.job[1:])
-    return " ".join(map(str, ("search", r.entries, r.held, commas(chain), commas(job), *r.wanted)))
+    list_of = (r.entries, r.held) if verb == "search" else ()
+    return " ".join(map(str, (verb, *list_of, commas(chain), commas(job), *r.wanted)))
 
 
 def bytes_of(word, made):
@@ -59,18 +62,28 @@ def bytes_of(word, made):
 
 
 def told(line):
-    """The answer to a request. The bytes are tested first: 1 for the lengths, and 2 for what must be zero in a job."""
-    _, entries, held, chain, job, *wanted = line.split()
-    chain = bytes_of(chain, lambda n: rule.chain_bytes(rule.chain_of(n)))
-    job = bytes_of(job, lambda n: rule.job_bytes(rule.Job((n[0], n[1]), *n[2:])))
-    refusal, asked = rule.tried(by_bytes, chain, job, wanted)
+    """The answer to a request."""
+    verb, *words = line.split()
+    return " ".join(map(str, {"search": told_search, "how_many": told_how_many}[verb](*words)))
+
+
+def told_search(entries, held, *given):
+    refusal, asked = rule.tried(by_words, *given)
     refusal, visits, places = (refusal, 0, []) if refusal else checked(*asked, int(entries) // 2)
     list_of = rule.flat(places)
-    list_of += [0] * (int(entries) - len(list_of))
-    return " ".join(map(str, (refusal, len(places), visits, *list_of)))
+    return refusal, len(places), visits, *list_of, *[0] * (int(entries) - len(list_of))
 
 
-def by_bytes(chain, job, wanted):
+def told_how_many(*given):
+    refusal, asked = rule.tried(by_words, *given)
+    refusal, answer, place, visits = (refusal, 0, (0, 0), 0) if refusal else agreed(*asked)
+    return refusal, answer, *place, visits
+
+
+def by_words(chain, job, *wanted):
+    """What is asked by these words. The bytes are tested first: 1 for the lengths, and 2 for what must be zero in a job."""
+    chain = bytes_of(chain, lambda n: rule.chain_bytes(rule.chain_of(n)))
+    job = bytes_of(job, lambda n: rule.job_bytes(rule.Job((n[0], n[1]), *n[2:])))
     rule.refuse(1, len(chain) != 24 or len(wanted) != 2 or len(job) != 32)
     rule.refuse(2, any(rule.job_zeros(job)))
     return rule.chain_of(struct.unpack("<6I", chain)), tuple(map(int, wanted)), rule.raw_job(job)
@@ -134,6 +147,23 @@ def checked(chain, wanted, job, room):
         if places != matching:
             sys.exit(f"the walk of {chain}, {wanted}, {job} meets {places}, and {matching} match")
     return refusal, visits, places
+
+
+def agreed(chain, wanted, job):
+    """What rule.how_many answers. Where the search with enough room answers at the same allowance, it must agree with that; where the
+    search uses up the allowance, it does too, or there are several places."""
+    refusal, answer, place, visits = rule.how_many(chain, wanted, job)
+    searched, made, places = checked(chain, wanted, job, 4**job.k)
+    several = refusal == 0 and answer == rule.SEVERAL_PLACES and place == (0, 0) and visits <= made
+    if searched in (0, 8) and len(places) < 2:
+        agrees = (refusal, answer, [place], visits) == (0, rule.ONE_PLACE if places else rule.NO_PLACE, places or [(0, 0)], made)
+    elif searched == 0:
+        agrees = several
+    else:
+        agrees = (refusal, answer, place, visits) == (searched, 0, (0, 0), made) or searched == 10 and several
+    if not agrees:
+        sys.exit(f"{chain}, {wanted}, {job} are {refusal}, {answer}, {place} after {visits}, but {searched}, {places} after {made}")
+    return refusal, answer, place, visits
 
 
 def answer(r):
@@ -368,6 +398,24 @@ def stations():
             yield own(r, p, corner=corner, k=2, allowance=AMPLE, entries=12)
 
 
+def decisions():
+    """The allowance by which it is decided how many places there are, and those about it: at the second of several, at the last visit
+    after a single one, with and without other visits between, and at the last if there is none."""
+    crossing = (chain._replace(wanted=wanted, corner=corner, k=k) for chain, wanted, corner, k, *_ in CROSSINGS)
+    several = (p4(tolerance=t, corner=moved(P4.corner, -by, -by), k=k) for t in (0, 1) for by, k in ((0, 1), (1, 2), (16, 5)))
+    places = (0, 0), P4.corner, (30001, 40000)
+    single = (own(P4, p, corner=corner, k=k) for p in places for corner, k in ((p, 0), (p, 1), ((0, 0), 17)))
+    none = p4(wanted=(0, 0)), p4(wanted=(0, 0), k=12), p4(corner=(30001, 40000), k=0), p4(corner=(29000, 39000), k=8)
+    for r in *crossing, *several, *single, *none:
+        decided = agreed(r.chain, r.wanted, r.job._replace(allowance=AMPLE))[3]
+        for allowance in 0, decided - 1, decided, decided + 1, r.allowance, AMPLE:
+            yield r._replace(allowance=allowance)
+    # stations so close together that a search of this window takes months: where there are two places it is decided soon
+    for wanted in (1, 1), (0, 0), (-1, 0), (5, 5):
+        for allowance in 10, 29, 30, 39, 40, 2000:
+            yield p4(a=(1, 0), b=(0, 1), wanted=wanted, corner=(0, 0), k=24, allowance=allowance)
+
+
 NAMED = examples, limits, edges, refusals, chains, crossings, lists, allowances, orders, differences, close_errors, stations
 
 
@@ -381,8 +429,8 @@ def by_their_bytes():
     for stations in chains:
         for asked in jobs:
             for wanted in "-10000 -20000", "-10000 1000000001", "-10000", "", "-10000 -20000 0":
-                words = "search", "8", "7", stations.hex() or "-", asked.hex() or "-", wanted
-                yield " ".join(filter(None, words))
+                for verb in "search 8 7", "how_many":
+                    yield " ".join(filter(None, (verb, stations.hex() or "-", asked.hex() or "-", wanted)))
 
 
 def beside(draw, p, reach):
@@ -431,23 +479,41 @@ def drawn(draw):
     return with_fault(draw, r) if draw.random() < 0.15 else r
 
 
+def about_visits(draw, visits, ample):
+    """An allowance: mostly about these visits, or ample."""
+    return max(0, draw.choice((visits, visits, visits - 1, visits + 1, draw.randint(0, visits), ample, ample, ample)))
+
+
 def at_random(seed):
-    """Requests whose allowance and room are about what each search takes, which is cut at 5,000 visits."""
+    """Requests of both verbs, whose allowance and room are about what each takes; a search is cut at 5,000 visits."""
     draw = random.Random(seed)
     for _ in range(1500):
         r = drawn(draw)
         refusal, visits, places = answer(r._replace(allowance=5000, entries=1100))
-        ample = 5000 if refusal == 10 else AMPLE
-        allowance = draw.choice((visits, visits, visits - 1, visits + 1, draw.randint(0, visits), ample, ample, ample))
+        allowance = about_visits(draw, visits, 5000 if refusal == 10 else AMPLE)
         entries = 2 * len(places) + draw.choice((-2, -1, 0, 0, 1, 2, draw.randint(0, 12), 1100))
-        yield r._replace(allowance=max(0, allowance), entries=min(max(0, entries), 1100))
+        yield line_of(r._replace(allowance=allowance, entries=min(max(0, entries), 1100)))
+    for _ in range(1500):
+        r = drawn(draw)
+        refusal, visits, _ = rule.search(r.chain, r.wanted, r.job._replace(allowance=5000), 5000)
+        decided = rule.how_many(r.chain, r.wanted, r.job._replace(allowance=5000))[3]
+        allowance = about_visits(draw, draw.choice((decided, decided, visits)), 5000 if refusal == 10 else AMPLE)
+        yield line_of(r._replace(allowance=allowance), "how_many")
+
+
+def named():
+    """The chosen requests of both verbs, each once."""
+    chosen = [r for part in NAMED for r in part()]
+    yield from dict.fromkeys(line_of(r) for r in chosen)
+    yield from dict.fromkeys(line_of(r, "how_many") for r in (*chosen, *decisions()))
+    yield from by_their_bytes()
 
 
 def main(words):
     if words == ["named"]:
-        print("\n".join(dict.fromkeys(line_of(r) for part in NAMED for r in part()) | dict.fromkeys(by_their_bytes())))
+        print("\n".join(named()))
     elif words[:1] == ["random"] and len(words) == 2:
-        print("\n".join(line_of(r) for r in at_random(int(words[1]))))
+        print("\n".join(at_random(int(words[1]))))
     elif words == ["answers"]:
         print("\n".join(told(line) for line in sys.stdin.read().splitlines()))
     else:

@@ -1,14 +1,15 @@
 #!/usr/bin/env bash
-# Tests of lay_search: compared with document 01's examples, with crossings that were worked out independently, and with the rule
-# in whole numbers (search.py, rule.py). A seed other than the gate's may be given.
+# Tests of lay_search and lay_how_many: compared with document 01's examples, with crossings that were worked out independently, and
+# with the rule in whole numbers (search.py, rule.py). A seed other than the gate's may be given.
 cd "$(dirname "$0")/.." && . tests/common.bash && . tests/library.bash
 seed=${1:-20261115}
 
-# The chosen requests, then 1,500 at random.
+# The chosen requests, then 1,500 of each verb at random.
 python3 tests/search.py named >"$requests"
 python3 tests/search.py random "$seed" >>"$requests"
 ask python3 tests/search.py answers
 refuses search 0 1 2 3 5 6 7 8 9 10
+refuses how_many 0 1 2 3 5 6 7 10
 
 # 01's examples: P4 to P9, P7 also with room 1, P2, and the place (1, 1); then its limits, of k, of the easting, of the
 # tolerance and of a reading; then no room and no allowance, and a list that is full at the last visit allowed. After them
@@ -64,4 +65,75 @@ told "search 8 7 $chain $job -10000 -20000 0" '1 0 0 0 0 0 0 0 0 0 0'
 told "search 8 7 $none ${job%00} -10000 1000000001" '1 0 0 0 0 0 0 0 0 0 0'
 told "search 8 7 $chain ${job%00}80 -10000 -20000" '2 0 0 0 0 0 0 0 0 0 0'
 told "search 8 7 $none $job -10000 1000000001" '3 0 0 0 0 0 0 0 0 0 0'
+
+# How many places there are: 1 for none, 2 for one, 3 for several. By 01's examples: P4, at the second of whose places the walk of 5
+# visits ends, with every allowance up to that; P5, whose second cell matches as well as the first, at the third visit; P8 and P9; the
+# first cell of P4's window alone, P2's readings, and the place (1, 1); the readings of the master's place, the first cell of its window,
+# after which the other three are visited still; and 01's limits, with the first of several faults: 3, 5, 6, 7.
+
+# how_many ME MN AE AN BE BN RA RB E N K T ALLOWANCE: the request
+how_many() { echo "how_many $1,$2,$3,$4,$5,$6 $9,${10},${11},${12},${13} $7 $8"; }
+while IFS=: read -r numbers answer; do
+    told "$(how_many $numbers)" "${answer# }"
+done <<'END'
+0 0 30000 0 0 40000 -10000 -20000 30000 40000 1 0 100: 0 3 0 0 5
+0 0 30000 0 0 40000 -10000 -20000 30000 40000 1 0 6: 0 3 0 0 5
+0 0 30000 0 0 40000 -10000 -20000 30000 40000 1 0 5: 0 3 0 0 5
+0 0 30000 0 0 40000 -10000 -20000 30000 40000 1 0 4: 10 0 0 0 4
+0 0 30000 0 0 40000 -10000 -20000 30000 40000 1 0 2: 10 0 0 0 2
+0 0 30000 0 0 40000 -10000 -20000 30000 40000 1 0 0: 10 0 0 0 0
+0 0 30000 0 0 40000 -10000 -20000 30000 40000 1 1 100: 0 3 0 0 3
+0 0 30000 0 0 40000 -10000 -20000 30000 40000 1 1 3: 0 3 0 0 3
+0 0 30000 0 0 40000 -10000 -20000 30000 40000 1 1 2: 10 0 0 0 2
+0 0 30000 0 0 40000 -10000 -20000 30001 40000 0 0 100: 0 1 0 0 1
+0 0 30000 0 0 40000 0 0 30000 40000 1 0 100: 0 1 0 0 1
+0 0 30000 0 0 40000 0 0 30000 40000 1 0 0: 10 0 0 0 0
+0 0 30000 0 0 40000 -10000 -20000 30000 40000 0 0 100: 0 2 30000 40000 1
+0 0 30000 0 0 40000 -10000 -19999 30001 40000 0 0 100: 0 2 30001 40000 1
+0 0 30000 0 0 40000 29998 39998 1 1 0 0 100: 0 2 1 1 1
+0 0 30000 0 0 40000 30000 40000 0 0 1 0 5: 0 2 0 0 5
+0 0 30000 0 0 40000 30000 40000 0 0 1 0 4: 10 0 0 0 4
+0 0 30000 0 0 40000 1000000000 1000000000 30000 40000 24 0 100: 0 1 0 0 1
+0 0 30000 0 0 40000 1000000000 1000000000 30000 40000 25 0 100: 6 0 0 0 0
+0 0 30000 0 0 40000 -10000 -20000 100000000 40000 1 0 100: 6 0 0 0 0
+0 0 30000 0 0 40000 -10000 -20000 30000 40000 1 100000 100: 0 3 0 0 3
+0 0 30000 0 0 40000 -10000 -20000 30000 40000 1 100001 100: 7 0 0 0 0
+0 0 30000 0 0 40000 -10000 1000000001 30000 40000 1 0 100: 3 0 0 0 0
+0 0 30000 0 0 40000 -9223372036854775808 -20000 30000 40000 1 0 100: 3 0 0 0 0
+0 0 30000 0 0 0 -10000 1000000001 30000 40000 1 0 100: 3 0 0 0 0
+0 0 30000 0 0 0 -10000 -20000 100000000 40000 1 0 100: 5 0 0 0 0
+0 0 30000 0 0 0 -10000 -20000 30000 40000 1 100001 100: 5 0 0 0 0
+0 0 30000 0 0 40000 -10000 -20000 30000 40000 25 100001 100: 6 0 0 0 0
+0 0 30000 0 0 40000 -10000 -20000 30000 40000 1 100001 0: 7 0 0 0 0
+END
+
+# The crossings above. The visits up to the second place are the rule's; with exactly so many, and with one less than the whole walk, it
+# is decided while the search is stopped. A single place takes the visits of the whole walk. Then stations so close together that every
+# square of a window of 2^24 is divided: 25 visits lead to its first cell, and by counting on (2, 0) is the 30th and (2, 2) the 40th.
+while IFS=: read -r numbers answer; do
+    told "$(how_many $numbers)" "${answer# }"
+done <<'END'
+50000000 500000000 40000000 490000000 60000000 500000000 12205441 9172617 47499999 497945629 24 0 18446744073709551615: 0 3 0 0 1791
+50000000 500000000 40000000 490000000 60000000 500000000 12205441 9172617 47499999 497945629 24 0 2753: 0 3 0 0 1791
+50000000 500000000 40000000 490000000 60000000 500000000 12205441 9172617 47499999 497945629 24 0 1791: 0 3 0 0 1791
+50000000 500000000 40000000 490000000 60000000 500000000 12205441 9172617 47499999 497945629 24 0 1790: 10 0 0 0 1790
+50000000 500000000 49000000 500000000 51000000 500000000 894427 698348 50000000 499700000 20 0 1501: 0 3 0 0 1501
+50000000 500000000 40000000 490000000 60000000 500000000 5928647 -4171602 55805696 485905696 23 0 18446744073709551615: 0 2 60000000 490100000 3557
+50000000 500000000 40000000 490000000 60000000 500000000 5928647 -4171602 55805696 485905696 23 0 3557: 0 2 60000000 490100000 3557
+50000000 500000000 40000000 490000000 60000000 500000000 5928647 -4171602 55805696 485905696 23 0 3556: 10 0 0 0 3556
+50000000 500000000 40000000 490000000 60000000 500000000 5957406 -4242337 55905696 485905696 23 0 3688: 0 3 0 0 3151
+0 0 1 0 0 1 -1 0 0 0 24 0 2000: 0 3 0 0 30
+0 0 1 0 0 1 0 0 0 0 24 0 40: 0 3 0 0 40
+0 0 1 0 0 1 0 0 0 0 24 0 39: 10 0 0 0 39
+END
+told "$(search 8 7 50000000 500000000 40000000 490000000 60000000 500000000 5957406 -4242337 55905696 485905696 23 0 3688)" '10 0 3688( 0){8}'
+
+# By bytes, as above.
+told "how_many $chain $job -10000 -20000" '0 3 0 0 5'
+told "how_many ${chain}00 $job -10000 1000000001" '1 0 0 0 0'
+told "how_many $none $job -10000" '1 0 0 0 0'
+told "how_many $chain $job -10000 -20000 0" '1 0 0 0 0'
+told "how_many $none ${job%00} -10000 1000000001" '1 0 0 0 0'
+told "how_many $chain ${job%00}80 -10000 -20000" '2 0 0 0 0'
+told "how_many $none $job -10000 1000000001" '3 0 0 0 0'
 done_testing
