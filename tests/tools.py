@@ -1,9 +1,9 @@
 #!/usr/bin/env python3
-"""Makes runs of the desk's tools (layjob, laychain, laywrite, layexpect, layshow), each with the outcome that it must have, and
-judges them. What a text means and what is shown follows docs/FORMATS.md, the rest rule.py.
+"""Makes runs of the desk's tools (layjob, laychain, laywrite, layexpect, layone, layshow), each with the outcome that it must have,
+and judges them. What a text means and what is shown follows docs/FORMATS.md, the rest rule.py.
 
     tools.py cases FOLDER          writes the chosen runs, one folder for each
-    tools.py random SEED FOLDER    writes 300 at random
+    tools.py random SEED FOLDER    writes 400 at random
     tools.py judge FOLDER          compares each run with the outcome that it must have, and prints how many things were compared
 
 A run's folder has the folder `files`, in which the tool runs, and the files `tool`, `arguments` (a zero byte after each), `input`
@@ -23,6 +23,7 @@ from typing import NamedTuple
 sys.dont_write_bytecode = True
 import records
 import rule
+import search
 from records import INFINITY, MINUS, NAN, changed
 from rule import EAST, NORTH, SIZE, Refusal, refuse
 
@@ -42,11 +43,13 @@ class Run(NamedTuple):
 
 class Told(NamedTuple):
     """A refusal: the line of the input, 0 if none is named, the number, and the words of the line that are at fault, from 1, by the
-    text of each, None for a missing one. If there are any, one of them is named; if there are none, the model does not know."""
+    text of each, None for a missing one. If there are any, one of them is named; if there are none, the model does not know. Last
+    the sentence, without the word that it names; if it is empty, it may be any."""
 
     line: int
     number: int
     faults: dict = {}
+    sentence: str = ""
 
 
 class Outcome(NamedTuple):
@@ -61,15 +64,15 @@ class Outcome(NamedTuple):
 
 
 class AtWords(Refusal):
-    """A refusal for which words of the line are at fault; see `Told`."""
+    """A refusal for which words of the line are at fault, or whose sentence is known; see `Told`."""
 
-    def __init__(self, number, faults):
+    def __init__(self, number, faults, sentence=""):
         super().__init__(number)
-        self.faults = faults
+        self.faults, self.sentence = faults, sentence
 
 
 def told(line, refusal):
-    return Told(line, refusal.number, getattr(refusal, "faults", {}))
+    return Told(line, refusal.number, getattr(refusal, "faults", {}), getattr(refusal, "sentence", ""))
 
 
 # Words and lines
@@ -307,6 +310,50 @@ def expected_line(name, reading):
     return f"{name} {reading} {sign}{whole}.{hundredths:02} {records.eight(metres).hex()} {rule.rounded([rule.mark(metres)])}"
 
 
+# If more visits than these are allowed, it is said that the answer may take long.
+MANY_VISITS = 100_000_000
+
+
+def layone(run):
+    line = line_of(run.arguments)
+    number, *wanted = values(line, [NUMBER, READING, READING])
+    table, job = (run.files.get(name, b"") for name in FILES["layone"])
+    before = missing("layone", run, FILES["layone"])
+    try:
+        chain, asked = question(WORD.findall(line), table, job, number, wanted)
+        if asked.allowance > MANY_VISITS:
+            before.append(f"layone: note: job.dat allows more than {MANY_VISITS} visits: the answer may take minutes")
+        refusal, answer, place, visits = rule.how_many(chain, wanted, asked)
+        say(10, refusal == 10, "the visits that job.dat allows ended before this was decided")
+    except Refusal as refusal:
+        return Outcome(run.files, refusals=[told(0, refusal)], before=before)
+    words = {rule.NO_PLACE: ["NONE", visits], rule.ONE_PLACE: ["ONE", visits, *place], rule.SEVERAL_PLACES: ["SEVERAL", visits]}
+    return Outcome(run.files, text_of([" ".join(map(str, words[answer]))]), before=before)
+
+
+def say(number, wrong, sentence, faults={}):
+    """A test: if `wrong` is so, it is refused with this sentence."""
+    if wrong:
+        raise AtWords(number, faults, sentence)
+
+
+def question(words, table, job, number, wanted):
+    """The chain and the job that are asked about, if nothing is refused before a visit is made."""
+    say(1, rule.tried(rule.chains_in, table)[0], "chain.dat was expected to hold 1 to 16 chains of 24 bytes")
+    say(1, len(job) != 32, "job.dat was expected to hold one job of 32 bytes")
+    say(2, any(rule.job_zeros(job)), "a byte of job.dat that must be zero is not")
+    for at, reading in enumerate(wanted, 2):
+        say(3, abs(reading) > SIZE, f"a reading is at most {SIZE} centimetres in size", {at: words[at - 1]})
+    chains, asked, named = rule.chains_in(table), rule.raw_job(job), {1: words[0]}
+    say(5, not 1 <= number <= len(chains), "chain.dat has no chain of this number", named)
+    chain = chains[number - 1]
+    say(5, not rule.is_sound(chain), "this chain of chain.dat has a station out of range, or two on one spot", named)
+    inside = rule.is_window(asked.corner, asked.k)
+    say(6, not inside, "the window in job.dat has an exponent over 24, or cells out of range")
+    say(7, asked.tolerance > 100_000, "the tolerance in job.dat is over 100000 centimetres")
+    return chain, asked
+
+
 def text_of(lines):
     return "".join(line + "\n" for line in lines).encode()
 
@@ -357,12 +404,13 @@ def in_centimetres(x):
     return "-" if refusal else whole
 
 
-TOOLS = {tool.__name__: tool for tool in (layjob, laychain, laywrite, layexpect, layshow)}
+TOOLS = {tool.__name__: tool for tool in (layjob, laychain, laywrite, layexpect, layone, layshow)}
 FILES = {
     "layjob": ["job.dat"],
     "laychain": ["chain.dat"],
     "laywrite": ["lay.dat"],
     "layexpect": ["chain.dat"],
+    "layone": ["chain.dat", "job.dat"],
     "layshow": ["job.dat", "chain.dat", "lay.dat"],
 }
 
@@ -567,7 +615,7 @@ def arguments():
     spoilt = [b""], [b" "], [b"\t"], [b"\r"], [b"\n"], [b"--"], [b"-"], [b"-h"], [b"--version"], [b"help"], [b"\xff"]
     near = [b"--help "], [b" --help"], [b"--hel"], [b"--helps"], [b"-help"], [b"--HELP"], [b"", b"--help"], [b"x", b"--help"]
     helps = [b"--help"], [b"--help", b"--help"], [b"--help", b""], [b"--help", b"1", b"30000", b"40000"], [b"--help", b"\xff "]
-    for tool, text in zip(TOOLS, (b"", line(CHAIN), lines(RECORDS), b"", b"")):
+    for tool, text in zip(TOOLS, (b"", line(CHAIN), lines(RECORDS), b"", b"", b"")):
         for given in (*spoilt, *near, *helps):
             yield Run(tool, list(given), text, THREE, "arguments that are none")
         yield Run(tool, [b"--help"], b"no line of any", {}, "help needs no file")
@@ -576,7 +624,8 @@ def arguments():
 
 def counts():
     """Too few and too many arguments, and wrong ones among right ones."""
-    for tool, right in ("layjob", words(JOB)), ("layexpect", [b"1", b"30000", b"40000"]):
+    three = [b"1", b"30000", b"40000"]
+    for tool, right in ("layjob", words(JOB)), ("layexpect", three), ("layone", three):
         for n in range(len(right) + 3):
             yield Run(tool, (right * 2)[:n], files=THREE, why="how many arguments")
         for at in range(len(right) + 1):
@@ -880,7 +929,7 @@ def expected():
         yield expecting(instead([1, 30000, 40000], at % 3, word), "a word that is no number")
 
 
-def asked_tables():
+def expected_tables():
     """Only the chain that is asked for must be sound; then tables of other lengths, and which refusal comes first."""
     unsound = [0, 0, 0, 0, 0, 40000]
     pair = of_chains(unsound, CHAIN)
@@ -901,13 +950,143 @@ def asked_tables():
     yield expecting([0, 0, b"-1"], "12 before 5")
 
 
+# How many places
+
+
+def folder_of(**files):
+    """Files are given by the stem of their names. A file not given is 01's; one given as None is missing."""
+    named = THREE | {f"{name}.dat": s for name, s in files.items()}
+    return {name: s for name, s in named.items() if s is not None}
+
+
+def asking(values, why, **files):
+    """A run of layone with these files."""
+    return Run("layone", words(values), files=folder_of(**files), why=why)
+
+
+WANTED = [1, -10000, -20000]
+ALLOWANCES = [0, 1, 2, 3, 4, 5, 6, MANY_VISITS - 1, MANY_VISITS, MANY_VISITS + 1, 2**32, 2**63, 2**64 - 1]
+
+
+def asked():
+    """01's cases, in centimetres and in metres; allowances, also about that with a note; the crossings whose places are known."""
+    spare = [b"001", b"-0010000", b"-000200.00"]
+    for given in WANTED, *(in_metres(WANTED, at) for at in ([2], [3], [2, 3])), spare:
+        yield accepted(asking(given, "P4"))
+    for others in {"lay": None}, {"lay": b"x"}, {"notes": b"x"}:
+        yield accepted(asking(WANTED, "files that it does not read", **others))
+    for changes in {"tolerance": 1}, {"k": 0}, {"easting": 30001, "k": 0}, {"northing": 40001, "k": 0}, {"tolerance": 100_000, "k": 3}:
+        for allowance in ALLOWANCES:
+            yield asking(WANTED, "01's window and others", job=records.job(**{"allowance": allowance, **changes}))
+    for allowance in ALLOWANCES:
+        yield asking(WANTED, "allowances", job=records.job(allowance=allowance))
+        yield asking([1, 0, 0], "P9", job=records.job(allowance=allowance))
+        yield asking([1, 30000, 40000], "a place, and visits after it", job=records.job(easting=0, northing=0, allowance=allowance))
+    for place in [30001, 40000], [30000, 40001], [1, 1], [0, 0], [EAST, NORTH]:
+        job = records.job(*place, k=0)
+        yield asking([1, *rule.readings(rule.chain_of(CHAIN), place)], "the readings of a place", job=job)
+    for r, wanted, corner, k, _, visits in search.CROSSINGS:
+        for allowance in visits, visits - 1, 2 * MANY_VISITS:
+            job, table = records.job(*corner, k=k, allowance=allowance), rule.chain_bytes(r.chain)
+            yield asking([1, *wanted], "crossings", chain=table, job=job)
+            yield asking(in_metres([2, *wanted], [2, 3]), "crossings in metres", chain=THREE["chain.dat"] + table, job=job)
+    for x in SIZE, -SIZE, SIZE + 1, -SIZE - 1, b"-0", b"-0.00", b"10000000.00", b"-10000000.00", b"10000000.01", b"-10000000.01":
+        yield asking([1, x, -20000], "readings at their limit")
+        yield asking([1, -10000, x], "readings at their limit")
+    for x in (sign * x for x in larger(10000) for sign in (1, -1)):
+        yield asking([1, x, -20000], "readings that are too large")
+        yield asking([1, -10000, x], "readings that are too large")
+        yield asking([1, x, x], "readings that are too large")
+
+
+def asked_words():
+    """Words that are no numbers and no readings, each in one of the fields."""
+    for at, word in enumerate([word for word in NO_WORDS + NO_READINGS if b"\0" not in word]):
+        yield refused_once(asking(instead(WANTED, at % 3, word), "a word that is no number"))
+    for word in NO_NUMBERS + METRES:
+        yield refused_once(asking(instead(WANTED, 0, word), "a word that is no chain's number"))
+    for word in METRES:
+        yield asking(instead(WANTED, 1, word), "readings in metres")
+        yield asking(instead(WANTED, 2, b"-" + word), "readings in metres")
+
+
+def refused_once(run):
+    """The run, once it is checked that it is refused."""
+    assert len(outcome(run).refusals) == 1, run
+    return run
+
+
+def asked_tables():
+    """The tables and jobs that are asked about: one of several chains, other lengths, missing files, bytes that must be zero."""
+    unsound = [0, 0, 0, 0, 0, 40000]
+    for number in 0, 1, 2, 3, *larger(2, 8):
+        yield asking([number, -10000, -20000], "a chain that is not sound beside one that is", chain=table_of([unsound, CHAIN]))
+    for chain in unsound, instead(CHAIN, 0, EAST + 1), instead(CHAIN, 3, NORTH + 1), [0, 0, 7, 7, 7, 7], [7, 0, 1, 1, 7, 0]:
+        yield refused_once(asking(WANTED, "a chain that is not sound", chain=table_of([chain])))
+    many = table_of([i, 2 * i, 30000 + i, i, 7 * i, 40000 + i] for i in range(1, 5000))
+    for number in 1, 2, 15, 16, 17:
+        yield asking([number, -10000, -20000], "one of 16 chains", chain=many[:384], job=records.job(k=4, tolerance=9, allowance=500))
+    for length in 0, 1, 23, 24, 25, 383, 384, 385, 408, 70_000:
+        yield asking(WANTED, f"a table of {length} bytes", chain=many[:length])
+    for length in 0, 1, 31, 33, 64, 100_000:
+        yield refused_once(asking(WANTED, f"a job of {length} bytes", job=(THREE["job.dat"] * 4_000)[:length]))
+    for at in 9, 10, 11, *range(24, 32):
+        yield refused_once(asking(WANTED, "a byte that must be zero", job=changed(THREE["job.dat"], at, 128)))
+    for changes in (
+        *({"k": k} for k in (24, 25, 32, 255)),
+        *({"easting": EAST, "k": k} for k in (0, 1)),
+        *({"northing": NORTH, "k": k} for k in (0, 1)),
+        *({"easting": x} for x in (EAST + 1, 2**32 - 1)),
+        *({"tolerance": t} for t in (100_000, 100_001, 2**32 - 1)),
+    ):
+        yield asking([1, SIZE, SIZE], "jobs at their limits", job=records.job(**changes))
+    for gone in ["chain"], ["job"], ["chain", "job"], ["chain", "job", "lay"]:
+        for number, a in (1, -10000), (2, SIZE + 1), (b"x", -10000):
+            yield refused_once(asking([number, a, -20000], "files that are missing", **dict.fromkeys(gone)))
+            yield refused_once(asking([number, a, -20000], "files that are empty", **dict.fromkeys(gone, b"")))
+    yield refused_once(asking(WANTED, "no table, and a job of 31 bytes", chain=None, job=THREE["job.dat"][:31]))
+    yield refused_once(asking(WANTED, "no job, and a table of 25 bytes", job=None, chain=many[:25]))
+
+
+def faulty(number=1, a=-10000, b=-20000, table=THREE["chain.dat"], length=32, **job):
+    """01's question with something wrong in it."""
+    return asking([number, a, b], f"things that are wrong: {job}", chain=table, job=(records.job(**job) + bytes(9))[:length])
+
+
+FAULTS = (
+    {"a": b"1.5"},
+    {"table": THREE["chain.dat"] + b"\0"},
+    {"length": 31},
+    {"length": 33},
+    {"zeros": (0, 1, 0)},
+    {"last": 1},
+    {"a": -SIZE - 1},
+    {"b": SIZE + 1},
+    {"number": 2},
+    {"table": table_of([[0] * 6])},
+    {"k": 25},
+    {"easting": EAST},
+    {"tolerance": 100_001},
+    {"allowance": 4},
+)
+
+
+def asked_faults():
+    """Every two things wrong at once, then all: the first test that fails answers. No note is said of visits that are not made."""
+    for at, one in enumerate(FAULTS):
+        for other in FAULTS[: at + 1]:
+            yield refused_once(faulty(**{**other, **one}))
+    yield refused_once(faulty(**{name: value for fault in FAULTS[1:] for name, value in fault.items()}))
+    for fault in FAULTS[:-1]:
+        yield refused_once(faulty(**fault, allowance=2**64 - 1))
+
+
 # What the files hold
 
 
 def showing(why, **files):
-    """A run of layshow; files are given by the stem of their names. A file not given is 01's; one given as None is missing."""
-    named = THREE | {f"{name}.dat": s for name, s in files.items()}
-    return Run("layshow", files={name: s for name, s in named.items() if s is not None}, why=why)
+    """A run of layshow with these files."""
+    return Run("layshow", files=folder_of(**files), why=why)
 
 
 def shown_jobs():
@@ -1003,7 +1182,8 @@ def cases():
     yield from (*tables(), *chains())
     yield from logs()
     yield from (*blanks(), *long_lines(), *edges(), *long_texts())
-    yield from (*expected(), *asked_tables())
+    yield from (*expected(), *expected_tables())
+    yield from (*asked(), *asked_words(), *asked_tables(), *asked_faults())
     yield from (*shown_jobs(), *shown_tables(), *shown_logs())
 
 
@@ -1101,11 +1281,15 @@ def drawn_bytes(draw):
 
 
 def drawn_files(draw):
-    """The files as they may be found, some missing, some cut or too long."""
+    """Files as they may be found."""
     east, north, *others = (number % 2**bits for number, bits in zip(drawn_job(draw, 0.2), (32, 32, 8, 32, 64)))
     job = rule.job_bytes(rule.Job((east, north), *others))
     log = b"".join(drawn_bytes(draw) for _ in range(draw.randint(0, 60)))
-    files = {"job.dat": job, "chain.dat": drawn_table(draw), "lay.dat": log}
+    return as_found(draw, {"job.dat": job, "chain.dat": drawn_table(draw), "lay.dat": log})
+
+
+def as_found(draw, files):
+    """The same, some missing, some cut or too long."""
     for name in FILES["layshow"]:
         if draw.random() < 0.1:
             files[name] = (files[name] + draw.randbytes(9))[: draw.choice((0, 1, 23, 31, 33, -1, -7, 10_000))]
@@ -1126,7 +1310,22 @@ def drawn_run(draw, tool):
     if tool == "layexpect":
         asked = [drawn(draw, 8, wild), *drawn_place(draw, wild)]
         return Run(tool, drawn_arguments(draw, asked, wild, [2, 3]), files=files)
+    if tool == "layone":
+        return drawn_question(draw, wild)
     return Run(tool, files=files)
+
+
+def drawn_question(draw, wild):
+    """A question as search.py draws them, about one of the chains of a table; its allowance is about what it takes."""
+    r, others = search.drawn(draw), drawn_table(draw)[: 24 * draw.randint(0, 15)]
+    refusal, _, _, decided = rule.how_many(r.chain, r.wanted, r.job._replace(allowance=2000))
+    ends = refusal == 0 and rule.search(r.chain, r.wanted, r.job._replace(allowance=2000), 2000)[0] != 10
+    ample = draw.choice((MANY_VISITS, MANY_VISITS + 1, 2**64 - 1)) if ends and not wild else 2000
+    job = r.job._replace(allowance=draw.choice((max(0, decided - 1), decided, decided + 1, ample, ample)))
+    number = drawn(draw, 17, wild) if draw.random() < wild else len(others) // 24 + 1
+    files = {"job.dat": rule.job_bytes(job), "chain.dat": others + rule.chain_bytes(r.chain), "lay.dat": b""}
+    files = as_found(draw, files) if wild else files
+    return Run("layone", drawn_arguments(draw, [number, *r.wanted], wild, [2, 3]), files=files)
 
 
 def drawn_arguments(draw, values, wild, lengths):
@@ -1135,7 +1334,7 @@ def drawn_arguments(draw, values, wild, lengths):
 
 def at_random(seed):
     draw = random.Random(seed)
-    for tool, many in ("layjob", 40), ("laychain", 60), ("laywrite", 100), ("layexpect", 50), ("layshow", 50):
+    for tool, many in ("layjob", 40), ("laychain", 60), ("laywrite", 100), ("layexpect", 50), ("layone", 100), ("layshow", 50):
         for _ in range(many):
             yield drawn_run(draw, tool)._replace(why=f"at random, seed {seed}")
 
@@ -1150,10 +1349,10 @@ def put(folder, files):
 
 
 def as_text(refusal):
-    """A refusal as `saying` has it: `told`, line and number; then each word at fault, with its bytes in hexadecimal, or `-` if it is
-    missing."""
+    """A refusal as `saying` has it: `told`, line and number; the sentence in hexadecimal, or `-` if it may be any; then each word at
+    fault, with its bytes in hexadecimal, or `-` if it is missing."""
     faults = (f"{at}:{'-' if word is None else word.hex()}" for at, word in refusal.faults.items())
-    return " ".join(("told", str(refusal.line), str(refusal.number), *faults))
+    return " ".join(("told", str(refusal.line), str(refusal.number), refusal.sentence.encode().hex() or "-", *faults))
 
 
 def write(folder, runs):
@@ -1196,25 +1395,30 @@ def said_as(tool, said, saying):
             yield wanted if wanted is not None and tells(tool, one, wanted) else one
 
 
+ANY = rb"[!-~][ -~]*"
+
+
 def tells(tool, one, wanted):
     """That a line tells the refusal `wanted`, which is as `as_text` has it."""
-    first, line, number, *faults = wanted.split(b" ") if wanted.startswith(b"told ") else [b"", b"", b""]
+    first, line, number, sentence, *faults = wanted.split(b" ") if wanted.startswith(b"told ") else [b""] * 4
     head = b"%s: %sREFUSED %s: " % (tool.encode(), b"" if line == b"0" else b"line %s " % line, number)
     if not first or not one.startswith(head):
         return False
-    sentence = one[len(head) :]
-    if not faults:
-        return re.fullmatch(rb"(word [0-9]+, `.*`: )?[!-~][ -~]*", sentence, re.DOTALL)
-    return any(names(sentence, *fault.split(b":")) for fault in faults)
+    rest, known = one[len(head) :], sentence != b"-"
+    ending = re.escape(bytes.fromhex(sentence.decode())) if known else ANY
+    if faults:
+        return any(names(rest, ending, *fault.split(b":")) for fault in faults)
+    return re.fullmatch(ending if known else rb"(word [0-9]+, `.*`: )?" + ANY, rest, re.DOTALL)
 
 
-def names(sentence, at, word):
-    """That a sentence begins with this word: with the whole of it, if it has 40 bytes at most and all of them can be read."""
-    if word in (b"-", b"") and re.fullmatch(rb"word %s is missing: [!-~][ -~]*" % at, sentence):
+def names(rest, ending, at, word):
+    """That what is said begins with this word, with the whole of it, if it has 40 bytes at most and all of them can be read; and how
+    it ends."""
+    if word in (b"-", b"") and re.fullmatch(rb"word %s is missing: %s" % (at, ending), rest):
         return True
     text = b"" if word == b"-" else bytes.fromhex(word.decode())
     whole = re.escape(text) if re.fullmatch(rb"[ -~]{0,40}", text) else rb".*"
-    return word != b"-" and re.fullmatch(rb"word %s, `%s`: [!-~][ -~]*" % (at, whole), sentence, re.DOTALL)
+    return word != b"-" and re.fullmatch(rb"word %s, `%s`: %s" % (at, whole, ending), rest, re.DOTALL)
 
 
 def checks(folder):
