@@ -250,6 +250,7 @@ def goes_on(what, desk, run, files):
 READS = {
     "a folder shown": Run("layshow", files={**LONG, "job.dat": THREE["job.dat"]}),
     "readings": Run("layexpect", tools.words([1, 30000, 40000]), files=THREE),
+    "a question": Run("layone", tools.words([1, -10000, -20000]), files=THREE),
     "a listing": Run("laylist", files={**LONG, "job.dat": THREE["job.dat"]}),
 }
 
@@ -793,6 +794,10 @@ ENDLESS = {
 }
 
 
+def endless_job(allowance):
+    return rule.job_bytes(rule.Job((0, 0), 24, 0, allowance))
+
+
 def first_lines(process, many):
     """What a process prints until it has printed so many lines, or has ended, or a while is over."""
     text, limit = b"", time.monotonic() + SOON
@@ -807,8 +812,7 @@ def first_lines(process, many):
 
 def listed(desk, allowance):
     """What laylist prints of this log with this allowance: up to three lines, and whether it then goes on."""
-    job = rule.job_bytes(rule.Job((0, 0), 24, 0, allowance))
-    desk.put({**ENDLESS, "job.dat": job})
+    desk.put({**ENDLESS, "job.dat": endless_job(allowance)})
     process = subprocess.Popen([*desk.loader, PROGRAMS / "laylist"], stdout=subprocess.PIPE, cwd=desk.work)
     text = first_lines(process, 3)
     goes_on = process.poll() is None
@@ -816,9 +820,42 @@ def listed(desk, allowance):
     return text + process.communicate()[0], goes_on
 
 
+def goes_on_after(process, seconds):
+    try:
+        process.wait(seconds)
+    except subprocess.TimeoutExpired:
+        return True
+    return False
+
+
+def question(desk):
+    """layone, where the search does not end: it is said before that this may take minutes. If two places are met, it ends at once."""
+    note = b"layone: note: job.dat allows more than 100000000 visits: the answer may take minutes\n"
+    refused = b"layone: REFUSED 10: the visits that job.dat allows ended before this was decided\n"
+    _, answer, _, visits = rule.how_many(rule.chain_of(CLOSE), (0, 0), rule.Job((0, 0), 24, 0, 1000))
+    check(f"two places are met soon, {answer} after {visits}", answer == rule.SEVERAL_PLACES)
+    for allowance in 2**64 - 1, 10**12, 10**6:
+        desk.put({**ENDLESS, "job.dat": endless_job(allowance)})
+        came = desk.run(Run("layone", tools.words([1, 0, 0])))
+        several = b"SEVERAL %d\n" % visits, note if allowance > 10**8 else b""
+        check(f"of {allowance} visits two places take {came.printed!r}, {came.said!r}", (came.printed, came.said) == several)
+    came = desk.run(Run("layone", tools.words([1, 5, 5])))
+    check(f"with the usual allowance it said {came.said!r}", (came.printed, came.said) == (b"", refused))
+    for allowance in 2**64 - 1, 10**12:
+        desk.put({**ENDLESS, "job.dat": endless_job(allowance)})
+        command = [*desk.loader, PROGRAMS / "layone", "1", "5", "5"]
+        process = subprocess.Popen(command, stdout=subprocess.PIPE, stderr=subprocess.STDOUT, cwd=desk.work)
+        said = first_lines(process, 1)
+        goes_on = goes_on_after(process, 0.3)
+        process.kill()
+        said += process.communicate()[0]
+        check(f"while a question of {allowance} visits is not decided, there is {said!r}", goes_on and said == note)
+
+
 def search(desk):
+    question(desk)
     log = rule.pieces(ENDLESS["lay.dat"], 32)
-    short = rule.job_bytes(rule.Job((0, 0), 24, 0, 10**6))
+    short = endless_job(10**6)
     before = tools.text_of(line for line, _ in rule.listing(short, ENDLESS["chain.dat"], b"".join(log[:3])))
     for allowance in 2**64 - 1, 2**63, 10**12:
         text, goes_on = listed(desk, allowance)

@@ -10,7 +10,7 @@ trap 'rm -rf "$folders"' EXIT
 chmod 755 "$folders"
 folder=$folders/folder printed=$folders/printed said=$folders/said before=$folders/before
 files=(chain.dat job.dat lay.dat)
-tools=(layjob laychain laywrite layexpect layshow laylist)
+tools=(layjob laychain laywrite layexpect layone layshow laylist)
 writes='job.dat layjob 30001 40000 1 0 100
 chain.dat laychain 1 0 30000 0 0 40000
 lay.dat laywrite 3 0 4 0 0'
@@ -140,6 +140,8 @@ while read -r file mark tool words; do
     done
 done <<'END'
 chain.dat . layexpect 1 30000 40000
+chain.dat . layone 1 -10000 -20000
+job.dat . layone 1 -10000 -20000
 job.dat JOB layshow
 chain.dat CHAIN layshow
 lay.dat LOG layshow
@@ -292,14 +294,32 @@ layexpect 1.00 30000 40000|12|word 1, `1.00`
 layexpect 1 30000 -1|12|word 3, `-1`
 layexpect 1 100000001 0|4|word 2, `100000001`
 layexpect 2 30000 40000|5|word 1, `2`
+layone|12|word 1 is missing
+layone 1|12|word 2 is missing
+layone 1 -10000|12|word 3 is missing
+layone 1 -10000 -20000 0|12|word 4, `0`
+layone 1.00 -10000 -20000|12|word 1, `1.00`
+layone -1 -10000 -20000|12|word 1, `-1`
+layone 1 -100,00 -20000|12|word 2, `-100,00`
+layone 1 300.1 -20000|12|word 2, `300.1`
+layone 1 300. -20000|12|word 2, `300.`
+layone 1 -.50 -20000|12|word 2, `-.50`
+layone 1 -10000 +1.00|12|word 3, `+1.00`
+layone 1 -10000 300.011|12|word 3, `300.011`
+layone 1 -10000 x|12|word 3, `x`
+layone 1 1000000001 0|3|word 2, `1000000001`
+layone 1 1000000001 1000000002|3|word 2, `1000000001`
+layone 1 0 -10000000.01|3|word 3, `-10000000.01`
+layone 2 -10000 -20000|5|word 1, `2`
 layshow job.dat|12|word 1, `job.dat`
 END
 
 # A word that is metres with a wrong number of decimals, a sign where there is none, a point where there is none: each has a sentence
 # of its own, and not all that is allowed.
+told_sentence() { head -n 1 "$said" | sed 's/.*`: //'; }
 sentence_of() {
     give laywrite 1 1 $1 $2 0
-    head -n 1 "$said" | sed 's/.*`: //'
+    told_sentence
 }
 fresh "${files[@]}"
 pass_if 'decimals are told apart from what is no number' [ "$(sentence_of 1 300.1)" != "$(sentence_of 1 x)" ]
@@ -307,6 +327,24 @@ pass_if "metres have two decimals: $(sentence_of 1 300.1)" grep -q 'metres.*two'
 for line in '1 300.1' '1 x' '1.00 0' '1 300.011'; do
     pass_if "a sentence of no more than 120 bytes: $(sentence_of $line)" [ "$(sentence_of $line | wc -c)" -le 120 ]
 done
+
+# layone says of its readings what laywrite says of X and Y, and of its chain what layexpect says.
+for word in 300.1 300. .50 300.011 3.00.00 -.50 +1.00 1,00 x --1; do
+    of_x=$(sentence_of 1 $word)
+    give layone 1 $word 0
+    pass_if "reading A, $word: $(told_sentence)" [ "$(told_sentence)" = "${of_x/#X/reading A}" ]
+    give layone 1 0 $word
+    pass_if "reading B, $word: $(told_sentence)" [ "$(told_sentence)" = "${of_x/#X/reading B}" ]
+    pass_if "X has a name: $of_x" [ "${of_x/#X/}" != "$of_x" ]
+done
+for word in 1.00 -1 x 0x1; do
+    give layexpect $word 30000 40000
+    of_chain=$(told_sentence)
+    give layone $word -10000 -20000
+    pass_if "the chain, $word: $(told_sentence)" [ "$(told_sentence)" = "$of_chain" ]
+done
+give layone 1 -10000 -20000 0
+pass_if "a fourth word: $(cat "$said")" says 'layone: REFUSED 12: word 4, `0`: a question has three words'
 
 # What is written is told on standard output, with what is there now.
 fresh
@@ -407,6 +445,10 @@ pass_if 'it ends with 0' [ "$status" -eq 0 ]
 by=bin give layexpect 1 30000 40000
 pass_if "layexpect without a table: $(cat "$said")" grep -qx 'layexpect: note: chain.dat is missing, and counts as empty' "$said"
 pass_if 'which is refused' grep -q '^layexpect: REFUSED 1: ' "$said"
+pass_if 'and it ends with 1' [ "$status" -eq 1 ]
+by=bin give layone 1 -10000 -20000
+pass_if "layone without files: $(cat "$said")" says 'layone: note: chain.dat is missing, and counts as empty' \
+    'layone: note: job.dat is missing, and counts as empty' 'layone: REFUSED 1: chain.dat was expected to hold 1 to 16 chains of 24 bytes'
 pass_if 'and it ends with 1' [ "$status" -eq 1 ]
 
 # What the help says of the allowance.

@@ -25,7 +25,7 @@ on_desk() {
 # Installed into an empty folder, and then moved, as a folder that is taken to another machine is.
 installs "$asked/new/desk"
 pass_if "an installation: $(cat "$said")" ended_well
-pass_if 'it says what was installed' grep -qF "$asked/new/desk: laychain layexpect layjob laylist layshow laywrite, lib/liblay.a" "$printed"
+pass_if 'it says what was installed' grep -qF "$asked/new/desk: laychain layexpect layjob laylist layone layshow laywrite, lib/liblay.a" "$printed"
 mv "$asked/new/desk" "$desk"
 pass_if 'there is a program for each link of bin/' [ "$(ls "$desk/bin")" = "$(find bin -type l -printf '%f\n' | sort)" ]
 names_neither() { ! grep -rlF -e "$repository" -e "${emulator[0]:-$toolchain}" "$desk"; }
@@ -52,6 +52,8 @@ LOG 3 0 3 0 0'
 on_desk layexpect 1 30000 40000
 pass_if "layexpect on the desk: $(cat "$said")" prints 'A -10000 -100.00 00000000000059c0 0
 B -20000 -200.00 00000000000069c0 0'
+on_desk layone 1 -10000 -20000
+pass_if "layone on the desk: $(cat "$said")" prints 'SEVERAL 5'
 for name in $(cd examples && ls -d */); do
     on_desk laylist "$documents/examples/$name"
     pass_if "the installed example $name" prints "$(<"examples/$name/listing")"

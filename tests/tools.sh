@@ -81,6 +81,37 @@ done <<'END'
 END
 pass_if 'the files stay' holds "${files[@]}"
 
+# How many places there are, by 01's cases: after the words of a job, the readings, in centimetres or in metres. P4, also with just enough
+# visits; P5; P8; P9; the first cell of P4's window alone; P2; the master's place, with three cells to visit after it. Nothing changes.
+while IFS=: read -r job readings line; do
+    fresh chain.dat
+    run layjob $job
+    cp "$folder/job.dat" "$folders/asked"
+    give layone 1 $readings
+    pass_if "layone 1 $readings in the window $job: $(head -n 9 "$printed" "$said")" prints "${line# }"
+    pass_if 'the files stay' cmp "$folder/job.dat" "$folders/asked"
+done <<'END'
+30000 40000 1 0 100:-10000 -20000: SEVERAL 5
+30000 40000 1 0 5:-100.00 -200.00: SEVERAL 5
+30000 40000 1 1 100:-10000 -200.00: SEVERAL 3
+30001 40000 0 0 100:-100.00 -20000: NONE 1
+30000 40000 1 0 100:0 0: NONE 1
+30000 40000 0 0 100:-10000 -20000: ONE 1 30000 40000
+30001 40000 0 0 1:-100.00 -199.99: ONE 1 30001 40000
+0 0 1 0 5:30000 40000: ONE 5 0 0
+END
+
+# More than 100,000,000 visits: a note, before the answer. Here that does not take long.
+for allowance in 100000000 100000001; do
+    fresh chain.dat
+    run layjob 30000 40000 1 0 $allowance
+    give layone 1 -10000 -20000
+    pass_if "layone with $allowance visits: $(cat "$said")" [ "$(<"$printed")" = 'SEVERAL 5' ]
+    note=
+    [ $allowance -eq 100000000 ] || note='layone: note: job.dat allows more than 100000000 visits: the answer may take minutes'
+    pass_if "layone with $allowance visits says '$note': $(cat "$said")" [ "$(<"$said")" = "$note" ]
+done
+
 # Records that are refused are shown as docs/FORMATS.md shows them, from the bytes that stand there.
 refusals=$(sed -n 's/^    \(LOG .* REFUSED .*\)/\1/p' docs/FORMATS.md)
 pass_if 'docs/FORMATS.md shows refused records' [ "$(wc -l <<<"$refusals")" -eq 2 ]
@@ -207,6 +238,24 @@ layexpect 1 0.00 10000000.01: 4
 layexpect 1.00 300.00 400.00: 12
 layexpect 1 300.0 400.00: 12
 layexpect 1 -0.00 400.00: 12
+layone 1 1000000000 -1000000000: 0
+layone 1 1000000001 0: 3
+layone 1 0 -1000000001: 3
+layone 1 18446744073709541616 -20000: 3
+layone 0 -10000 -20000: 5
+layone 2 -10000 -20000: 5
+layone 257 -10000 -20000: 5
+layone 2 1000000001 0: 3
+layone 1 -10000: 12
+layone 1 -10000 -20000 0: 12
+layone 1 10000000.00 -10000000.00: 0
+layone 1 10000000.01 0.00: 3
+layone 1 0.00 -10000000.01: 3
+layone 1 -0 -0.00: 0
+layone 1.00 -100.00 -200.00: 12
+layone -1 -10000 -20000: 12
+layone 1 -100.0 -200.00: 12
+layone 1 +1 -200.00: 12
 layshow 1: 12
 laylist 1: 12
 END
@@ -265,22 +314,28 @@ pass_if "a log of 5,000 records: $(head -n 3 "$said")" ended_well
 pass_if 'a large folder, shown and written again' shown_again
 
 # Help is the same whatever comes after it.
-for tool in layjob laychain laywrite layexpect layshow laylist; do
+tools=(layjob laychain laywrite layexpect layone layshow laylist)
+for tool in "${tools[@]}"; do
     fresh
     run "$tool" --help </dev/null
-    cp "$printed" "$folders/help"
+    cp "$printed" "$folders/$tool.help"
     pass_if "$tool --help is printed" [ -s "$printed" ]
     run "$tool" --help 1 30000 '' </dev/null
-    pass_if "$tool --help with others after it" cmp -s "$printed" "$folders/help"
+    pass_if "$tool --help with others after it" cmp -s "$printed" "$folders/$tool.help"
     pass_if "$tool --help does nothing else" holds
 done
 
-# That of laylist, the last one, has the form of each line that docs/FORMATS.md has.
-forms=$(sed -n 's/^| `\(LINE [^`]*\)` |.*/\1/p' "$repository/docs/FORMATS.md")
-pass_if 'docs/FORMATS.md has four forms of a line' [ "$(wc -l <<<"$forms")" -eq 4 ]
-while read -r form; do
-    pass_if "laylist --help has the form $form" grep -qE "^  ${form//./\\.}  " "$folders/help"
-done <<<"$forms"
+# That of laylist and of layone has the form of each line that docs/FORMATS.md has: after the tool, how many, and how they begin.
+while read -r tool count first; do
+    forms=$(sed -nE 's/^\| `(('"$first"') [^`]*)` \|.*/\1/p' docs/FORMATS.md)
+    pass_if "docs/FORMATS.md has $count forms of a line of $tool" [ "$(wc -l <<<"$forms")" -eq "$count" ]
+    while read -r form; do
+        pass_if "$tool --help has the form $form" grep -qE "^  ${form//./\\.}  " "$folders/$tool.help"
+    done <<<"$forms"
+done <<'END'
+laylist 4 LINE
+layone 3 NONE|ONE|SEVERAL
+END
 
 # pieces TEXT...: one text, in pieces that come one after the other
 pieces() {
@@ -313,6 +368,8 @@ job.dat . layjob 30000 40000 1 0 100
 chain.dat . laychain 0 0 30000 0 0 40000
 lay.dat . laywrite 3 0 3 0 0
 chain.dat . layexpect 1 30000 40000
+chain.dat . layone 1 -10000 -20000
+job.dat . layone 1 -10000 -20000
 job.dat JOB layshow
 chain.dat CHAIN layshow
 lay.dat LOG layshow
@@ -326,6 +383,8 @@ while read -r file words; do
     pass_if "$words, with memory as $file, is reported: $(head -n 3 "$said")" reports "$file"
 done <<'END'
 chain.dat layexpect 1 30000 40000
+chain.dat layone 1 -10000 -20000
+job.dat layone 1 -10000 -20000
 job.dat layshow
 chain.dat layshow
 lay.dat layshow
@@ -394,7 +453,8 @@ unprinted() {
 fresh "${files[@]}"
 unprinted layshow
 unprinted layexpect 1 30000 40000
-for tool in layjob laychain laywrite layexpect layshow laylist; do unprinted "$tool" --help; done
+unprinted layone 1 -10000 -20000
+for tool in "${tools[@]}"; do unprinted "$tool" --help; done
 head -c 320000 /dev/zero >"$folder/lay.dat"
 unprinted layshow
 
@@ -418,6 +478,8 @@ pass_if "bin/layshow: $(head -n 3 "$said")" prints "$shown"
 by_bin layexpect 1 30000 40000
 pass_if "bin/layexpect: $(head -n 3 "$said")" prints 'A -10000 -100.00 00000000000059c0 0
 B -20000 -200.00 00000000000069c0 0'
+by_bin layone 1 -10000 -20000
+pass_if "bin/layone: $(head -n 3 "$said")" prints 'SEVERAL 5'
 by_bin laylist
 pass_if "bin/laylist: $(head -n 3 "$said")" prints "$(<"$example/listing")"
 mkdir "$folders/links"
@@ -437,6 +499,8 @@ done <<'END'
 1 laychain
 12 laywrite 1
 5 layexpect 2 30000 40000
+3 layone 1 -10000 1000000001
+12 layone 1 -10000
 12 layshow job.dat
 END
 status=0
@@ -456,6 +520,15 @@ job.dat layjob 30001 40000 1 0 100
 chain.dat laychain 1 0 30000 0 0 40000
 lay.dat laywrite 3 0 3 0 0
 END
+# A note leaves the status 0; visits that end too soon are a refusal.
+for allowance in 200000000:0 4:1; do
+    fresh chain.dat
+    run layjob 30000 40000 1 0 ${allowance%:*}
+    by_bin layone 1 -10000 -20000
+    pass_if "bin/layone with ${allowance%:*} visits ends with $status: $(head -n 3 "$said")" [ "$status" -eq ${allowance#*:} ]
+    pass_if "bin/layone with ${allowance%:*} visits says one thing" [ "$(wc -l <"$said")" -eq 1 ]
+done
+fresh "${files[@]}"
 by_bin layjob '30000 40000' 1 0 100
 pass_if 'bin/layjob passes its arguments on as they are' [ "$status" -eq 1 ]
 by_bin laywrite < <(printf '4 0 0 0 0\n3 0 3 0')
