@@ -35,7 +35,7 @@ use Rattle.records.specs.Bytes.{byteAt}
 use Rattle.records.specs.LogRecords.{rawRecordOf, logRecordOf, logEntryOf}
 use Rattle.records.specs.Marks.{isRoundedIn, markedEntryOf}
 use Rattle.records.specs.ChainTables.{chainCountOf, rawChainOf, chainOf}
-use Rattle.records.specs.Jobs.{jobOf}
+use Rattle.records.specs.Jobs.{formedJobOf, jobOf}
 use Rattle.records.specs.Refusals.{rawRefusal, logRefusal, entryRefusal, countRefusal, chainRefusal, jobRefusal, isAmong}
 use Rattle.records.proofs.Theorems.{raw-refusals, log-refusals, entry-refusals, count-refusals, chain-refusals, job-refusals}
 use Rattle.writing.specs.declared.Draft.{Draft}
@@ -50,10 +50,10 @@ use Rattle.text.specs.Texts.{spaced, bytesIn}
 use Rattle.listing.specs.Listings.{Part, listingOf, hasListingRoom, listedIn, bufferWith}
 use Rattle.listing.proofs.Theorems.{job-first, then-chain}
 use Rattle.chart.specs.Places.{placeOf}
-use Rattle.lay.specs.Figures.{jobBy, chainBy, chainTold, chainWritten, stationsTold, expectedTold, searchTold, recordFigures, countFigures, jobAnswered, heldFigures, listedFigures}
-use Rattle.demands.specs.Numbers.{recordRefusal, listedRefusal, NoneOr, Refuses, Leaves, SearchIsTold}
+use Rattle.lay.specs.Figures.{jobBy, chainBy, chainTold, chainWritten, stationsTold, expectedTold, searchTold, askedIn, recordFigures, countFigures, jobAnswered, heldFigures, listedFigures}
+use Rattle.demands.specs.Numbers.{recordRefusal, listedRefusal, NoneOr, Refuses, Leaves, SearchIsTold, ManyIsTold}
 use Rattle.demands.proofs.NumberLaws.{some-number, whole-number, whole-marked, length-number, readings-number, listed-number, search-number, refused-lists, refused-early, answered-lists, room-kept, list-length, job-good, answer-number}
-use Rattle.demands.proofs.LibraryLaws.{record-told, marks-told, count-told, chain-told, stations-counted, bytes-counted, stations-told, expected-told, job-told, listing-told, search-told}
+use Rattle.demands.proofs.LibraryLaws.{record-told, marks-told, count-told, chain-told, stations-counted, bytes-counted, stations-told, expected-told, job-told, listing-told, search-told, many-told}
 use Rattle.demands.proofs.NeverLaws.{raw-never, log-never, entry-never, count-never, chain-never, job-never, answer-never}
 
 -- A number of metres gives its whole centimetres; or it is refused with 3, and gives 0 centimetres and the mark `Equal`.
@@ -248,6 +248,11 @@ chain-figures-told chain entries e n = (
 pub search-figures-told : (chain : List ℕ) (readings : List ℤ) (job : List ℕ) (entries : ℕ) →
     SearchIsTold entries (searchTold chain readings job entries)
 search-figures-told chain readings job entries = search-told chain readings job entries (λ q w. search-answered q w entries)
+
+-- How many places there are, by the bytes of a chain and of a job: refusal 1 or 2 if the bytes or the count of readings are wrong,
+-- else what the question answers, which is never 8 or 9. After a refusal the answer is none of the three, and the place is zeros.
+pub how-many-figures-told : (chain : List ℕ) (readings : List ℤ) (job : List ℕ) → ManyIsTold (askedIn (rawChainOf chain) readings (formedJobOf job))
+how-many-figures-told chain readings job = many-told chain readings job
 
 -- A job: after 1, 2, 6 or 7 window, tolerance and allowance are all 0.
 pub job-figures-told : (s : List ℕ) →

@@ -61,11 +61,13 @@ use Rattle.parsing.specs.declared.ParsedJob.the-variants as parsed-job
 use Rattle.parsing.specs.declared.ParsedChain.the-variants as parsed-chain
 use Rattle.parsing.specs.declared.ParsedDraft.the-variants as parsed-draft
 use Rattle.parsing.specs.declared.ParsedQuestion.the-variants as parsed-question
-use Rattle.parsing.specs.Numbers.{isLength, centimetresIn, isBelow, sizeIn, isReading, valueAt, lengthAt}
-use Rattle.parsing.specs.Parsed.{parsedJob, parsedChain, parsedDraft, parsedQuestion}
+use Rattle.parsing.specs.declared.ParsedReadings.the-variants as parsed-readings
+use Rattle.parsing.specs.Numbers.{isLength, centimetresIn, isBelow, sizeIn, isReading, valueAt, lengthAt, readingAt}
+use Rattle.parsing.specs.Parsed.{parsedJob, parsedChain, parsedDraft, parsedQuestion, parsedReadings}
 use Rattle.shown.specs.Lines.{jobText, jobLine, stationFigures, chainLine, recordText, recordLine}
 use Rattle.shown.specs.Fields.{metresText}
 use Rattle.shown.specs.Expected.{expectedIn}
+use Rattle.shown.specs.Counted.{countedIn}
 use Rattle.parsing.proofs.Lengths.{metres-length, metres-say}
 use Rattle.parsing.proofs.TypedLaws.{digits-length, digits-centimetres}
 use Rattle.listing.specs.declared.Carried.{Carried}
@@ -78,7 +80,7 @@ use Rattle.demands.proofs.NumberLaws.{job-good}
 use Rattle.demands.proofs.WritingLaws.{hyperbolic-accepted, grid-accepted, hold-accepted, chain-byte}
 use Rattle.demands.proofs.TextLaws.{job-line-shown, job-typed-again, chain-line-shown, chain-typed-again, is-digit, metres-says, record-line-shown, metres-line, record-typed-again}
 use Rattle.demands.proofs.MetresLaws.{chain-in-metres, job-in-metres}
-use Rattle.demands.proofs.QuestionLaws.{expected-as-typed}
+use Rattle.demands.proofs.QuestionLaws.{expected-as-typed, counted-as-typed}
 use Rattle.demands.proofs.RoundingLaws.{own-field, hold-as-before}
 use Rattle.demands.proofs.AskingLaws.{own-readings, found-by, tests-pass, fix-places}
 
@@ -226,6 +228,12 @@ job-shown-and-typed j small accepted = (job-line-shown j small accepted, job-typ
 pub question-as-typed : (table s : List ℕ) (number : ℕ) (p : Place) → parsedQuestion s ≡ parsed-question.Question number p →
     expectedIn table number p ≡ expectedIn table (valueAt s 0) (record { easting = lengthAt s 1; northing = lengthAt s 2 })
 question-as-typed table s number p e = expected-as-typed table s number p e
+
+-- How many places are shown for typed readings is the answer for the chain number and the readings exactly as they were typed,
+-- however large these numbers are.
+pub readings-as-typed : (table job s : List ℕ) (number : ℕ) (a b : ℤ) → parsedReadings s ≡ parsed-readings.Readings number a b →
+    countedIn table job number (a ∷ b ∷ []) ≡ countedIn table job (valueAt s 0) (readingAt s 1 ∷ readingAt s 2 ∷ [])
+readings-as-typed table job s number a b e = counted-as-typed table job s number a b e
 
 -- A length that is typed in digits alone says so many centimetres; one that is typed in metres, with a point and two decimals, says
 -- a hundred times the metres and the decimals.

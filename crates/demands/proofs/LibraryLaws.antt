@@ -1,7 +1,7 @@
 -- What the library for C returns for each answer: the same refusal number, and zeros after a refusal.
 use Prim.Native.Nat.{ℕ}
-use mathlib.Core.Path.{_≡_, refl, sym, ap, _∙_}
-use mathlib.Core.Bool.{Bool, true, false, _&&_}
+use mathlib.Core.Path.{_≡_, refl, sym, ap, _∙_, subst}
+use mathlib.Core.Bool.{Bool, true, false, _&&_, false≢true}
 use mathlib.Core.List.{List, [], _∷_}
 use lib.Dec.{eqb}
 use lib.IntN.{ℤ, pos}
@@ -13,11 +13,14 @@ use Rattle.chart.specs.declared.Figures.{Figures}
 use Rattle.chart.specs.Chains.{stationsOf, isSound}
 use Rattle.chart.specs.Readings.{expectedAt, figuresOf}
 use Rattle.search.specs.declared.Window.{Window}
-use Rattle.search.specs.Questions.{Question, questionOf}
-use Rattle.search.specs.Answers.{entriesOf, figuresIn}
+use Rattle.search.specs.declared.HowMany.{HowMany}
+use Rattle.search.specs.declared.HowMany.the-variants as many
+use Rattle.search.specs.Questions.{Rule, Question, ruleOf, questionOf}
+use Rattle.search.specs.Answers.{entriesOf, searchFigures, figuresIn}
+use Rattle.search.proofs.CountLaws.{Counting, early, none, one, several, out, counting}
 use Rattle.records.specs.Bytes.{areZero, unless}
 use Rattle.records.specs.ChainTables.{chainBytes, chainAt, rawChainOf}
-use Rattle.records.specs.Jobs.{jobBytes, jobIn, formedJobOf}
+use Rattle.records.specs.Jobs.{jobBytes, jobIn, formedJobOf, manyBy}
 use Rattle.writing.proofs.Theorems.{chain-write-refusals, refused-chain-zeros}
 use Rattle.records.specs.declared.RawAnswer.{RawAnswer}
 use Rattle.records.specs.declared.RawAnswer.the-variants as raw
@@ -36,9 +39,10 @@ use Rattle.listing.specs.declared.Listed.the-variants as listed
 use Rattle.listing.specs.declared.Carried.the-variants as carried
 use Rattle.records.specs.LogRecords.{inCentimetres}
 use Rattle.records.specs.Marks.{isAccepted, marksOf, withMarksOf}
-use Rattle.lay.specs.Figures.{jobBy, chainNumbers, chainWith, chainBy, refusedWith, chainLent, stationsLent, chainReadings, readingsLent, expectedLent, unsearched, searchedBy, searchedIn, searchTold, markFigure, entryFigures, markedFigures, recordBy, countFigures, jobAnswered, heldFigures, listedFigures}
-use Rattle.demands.specs.Numbers.{listedRefusal, NoneOr, Refuses, Leaves, searchNumbers, SearchIsTold}
+use Rattle.lay.specs.Figures.{jobBy, chainNumbers, chainWith, chainBy, refusedWith, chainLent, stationsLent, chainReadings, readingsLent, expectedLent, unsearched, searchedBy, searchedIn, searchTold, manyFigures, askedIn, markFigure, entryFigures, markedFigures, recordBy, countFigures, jobAnswered, heldFigures, listedFigures}
+use Rattle.demands.specs.Numbers.{listedRefusal, NoneOr, Refuses, Leaves, searchNumbers, SearchIsTold, manyNumbers, ManyIsTold}
 use Rattle.demands.proofs.NumberLaws.{wider, readings-number}
+use Rattle.demands.proofs.CountingLaws.{early-number}
 
 -- After a refusal every figure but the line number is 0.
 entry-told : (line chain : ℕ) (e : LogEntry) (numbers : List ℕ) → NoneOr numbers (entryRefusal e) →
@@ -192,3 +196,58 @@ search-told chain readings job entries answered = by-chain (rawChainOf chain) (b
     by-chain : (a : NamedChain) → NoneOr (1 ∷ []) (chainRefusal a) → SearchIsTold entries (searchedIn a readings (formedJobOf job) entries)
     by-chain (named.Chain c) h = by-count c (eqb (length readings) chainReadings)
     by-chain (named.Refused number) h = not-searched number entries (wider number (0 ∷ 1 ∷ []) (0 ∷ 1 ∷ 2 ∷ []) refl h)
+
+-- How many places there are: a refusal has one of these numbers.
+abbrev IsNumbered : HowMany → Type 0
+IsNumbered (many.None visits) = Unit {0}
+IsNumbered (many.One p visits) = Unit {0}
+IsNumbered (many.Several visits) = Unit {0}
+IsNumbered (many.Refused number visits) = isAmong number manyNumbers ≡ true
+
+question-numbered : (rule : Rule) (w : Window) (n : ℕ) (m : HowMany) → Counting rule w n m → IsNumbered m
+unfolding isAmong
+question-numbered rule w n _ (early a f) =
+    wider (searchFigures a .refusal) (3 ∷ 5 ∷ 6 ∷ 7 ∷ []) manyNumbers refl (early-number a (f .low) (f .high))
+question-numbered rule w n _ (none a e h) = tt
+question-numbered rule w n _ (one p a e h) = tt
+question-numbered rule w n _ (several p o ps a e h) = tt
+question-numbered rule w n _ (out a less) = refl
+
+job-numbered : (c : Chain) (readings : List ℤ) (s : List ℕ) → IsNumbered (manyBy (formedJobOf s) c readings)
+unfolding formedJobOf manyBy isAmong
+job-numbered c readings s = go (eqb (length s) jobBytes) (areZero 3 s 9 && areZero 8 s 24)
+  where
+    go : (t u : Bool) → IsNumbered (manyBy (unless t (job.Refused 1) (unless u (job.Refused 2) (job.Job (jobIn s)))) c readings)
+    go false u = refl
+    go true false = refl
+    go true true =
+        let j = jobIn s in
+        question-numbered (ruleOf c readings (j .tolerance)) (j .window) (j .allowance) _ (counting (ruleOf c readings (j .tolerance)) (j .window) (j .allowance))
+
+asked-numbered : (chain : List ℕ) (readings : List ℤ) (job : List ℕ) → IsNumbered (askedIn (rawChainOf chain) readings (formedJobOf job))
+unfolding rawChainOf askedIn isAmong
+asked-numbered chain readings job = go (eqb (length chain) chainBytes) (eqb (length readings) chainReadings)
+  where
+    go : (t u : Bool) → IsNumbered (askedIn (unless t (named.Refused 1) (named.Chain (chainAt chain 0))) readings (formedJobOf job))
+    go false u = refl
+    go true u = by-count (eqb (length readings) chainReadings)
+      where
+        by-count : (u : Bool) → IsNumbered (unless u (many.Refused 1 0) (manyBy (formedJobOf job) (chainAt chain 0) readings))
+        by-count true = job-numbered (chainAt chain 0) readings job
+        by-count false = refl
+
+-- Its figures.
+figures-numbered : (m : HowMany) → IsNumbered m → ManyIsTold m
+unfolding manyFigures isAmong
+figures-numbered (many.None visits) h = (refl, (λ r. absurd (r refl)), (λ e. refl), (λ n. refl))
+figures-numbered (many.One p visits) h = (refl, (λ r. absurd (r refl)), (λ e. refl), (λ n. absurd (n refl)))
+figures-numbered (many.Several visits) h = (refl, (λ r. absurd (r refl)), (λ e. refl), (λ n. refl))
+figures-numbered (many.Refused number visits) h = (
+  wider number manyNumbers (0 ∷ manyNumbers) refl h,
+  (λ r. refl),
+  (λ e. absurd (false≢true (subst (λ (n : ℕ). isAmong n manyNumbers ≡ true) e h))),
+  (λ n. refl),
+)
+
+pub many-told : (chain : List ℕ) (readings : List ℤ) (job : List ℕ) → ManyIsTold (askedIn (rawChainOf chain) readings (formedJobOf job))
+many-told chain readings job = figures-numbered _ (asked-numbered chain readings job)

@@ -170,8 +170,8 @@ search-number (AllowanceUsed visits) = refl
 -- A search that is refused lists nothing.
 pub refused-lists : (q : Question) (w : Window) (o : Outcome) → Ending q w o → Refuses (searchFigures (o .answer) .refusal) → o .places ≡ []
 unfolding searchFigures
-refused-lists q w _ (early a f v) r = refl
-refused-lists q w _ (done most) r = go (matchingIn (q .rule) w) r
+refused-lists q w _ (early a f) r = refl
+refused-lists q w _ (done ok most) r = go (matchingIn (q .rule) w) r
   where
     go : (ps : List Place) → Refuses (searchFigures (gone ps (visitsIn (q .rule) w) .answer) .refusal) → gone ps (visitsIn (q .rule) w) .places ≡ []
     go [] r = refl
@@ -182,8 +182,8 @@ refused-lists q w _ out r = refl
 -- One that is refused before its walk makes no visit.
 pub refused-early : (q : Question) (w : Window) (o : Outcome) → Ending q w o → isAmong (searchFigures (o .answer) .refusal) (3 ∷ 5 ∷ 6 ∷ 7 ∷ []) ≡ true → searchFigures (o .answer) .visits ≡ 0
 unfolding searchFigures isAmong
-refused-early q w _ (early a f v) r = v
-refused-early q w _ (done most) r = go (matchingIn (q .rule) w) r
+refused-early q w _ (early a f) r = f .unvisited
+refused-early q w _ (done ok most) r = go (matchingIn (q .rule) w) r
   where
     go : (ps : List Place) → isAmong (searchFigures (gone ps (visitsIn (q .rule) w) .answer) .refusal) (3 ∷ 5 ∷ 6 ∷ 7 ∷ []) ≡ true → searchFigures (gone ps (visitsIn (q .rule) w) .answer) .visits ≡ 0
     go [] r = absurd (false≢true r)

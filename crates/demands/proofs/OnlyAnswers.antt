@@ -41,6 +41,7 @@ use Rattle.chart.proofs.gap as gap
 use Rattle.chart.proofs.ReadingLaws.{said-once}
 use Rattle.search.proofs.is_window as is-window
 use Rattle.search.proofs.search as search
+use Rattle.search.proofs.how_many as search-how-many
 use Rattle.search.proofs.as_figures as search-as-figures
 use Rattle.search.proofs.clear_entries as clear-entries
 use Rattle.records.proofs.raw_record as raw-record
@@ -55,6 +56,7 @@ use Rattle.records.proofs.raw_chain as raw-chain
 use Rattle.records.proofs.raw_job as raw-job
 use Rattle.records.proofs.formed_job as formed-job
 use Rattle.records.proofs.job_of as job-of
+use Rattle.records.proofs.many_by as many-by
 use Rattle.records.proofs.piece_end as piece-end
 use Rattle.writing.proofs.write as write
 use Rattle.writing.proofs.write_chain as write-chain
@@ -71,6 +73,7 @@ use Rattle.parsing.proofs.job as parsed-job
 use Rattle.parsing.proofs.chain as parsed-chain
 use Rattle.parsing.proofs.draft as parsed-draft
 use Rattle.parsing.proofs.question as parsed-question
+use Rattle.parsing.proofs.readings as parsed-readings
 use Rattle.parsing.proofs.good_words as good-words
 use Rattle.parsing.proofs.wrong_at as wrong-at
 use Rattle.parsing.proofs.taken_for as taken-for
@@ -84,6 +87,7 @@ use Rattle.shown.proofs.job as shown-job
 use Rattle.shown.proofs.chain as shown-chain
 use Rattle.shown.proofs.record as shown-record
 use Rattle.shown.proofs.expected as shown-expected
+use Rattle.shown.proofs.how_many as shown-how-many
 use Rattle.files.proofs.none_given as none-given
 use Rattle.files.proofs.refused as refused
 use Rattle.files.proofs.missing as files-missing
@@ -104,6 +108,7 @@ use Rattle.lay.proofs.lay_centimetres as lay-centimetres
 use Rattle.lay.proofs.lay_metres as lay-metres
 use Rattle.lay.proofs.lay_expected as lay-expected
 use Rattle.lay.proofs.lay_search as lay-search
+use Rattle.lay.proofs.lay_how_many as lay-how-many
 use Rattle.lay.proofs.lay_read_record as lay-read-record
 use Rattle.lay.proofs.lay_write_record as lay-write-record
 use Rattle.lay.proofs.lay_read_job as lay-read-job
@@ -194,6 +199,9 @@ module _ {M : Type 1} (𝓤 : URA M) (H : Heap 𝓤) (A : Atoms 𝓤) (mem : Mem
   pub search-only : OneAnswer 𝓤 search.ended (search.clauses 𝓤 H A mem run)
   search-only κs a g x y = only 𝓤 (same beside same) (λ (answer, list). answer & list & refl)
 
+  pub search-how-many-only : OneAnswer 𝓤 search-how-many.ended (search-how-many.clauses 𝓤 H A mem run)
+  search-how-many-only κs a g x y = only 𝓤 same (λ answer. answer & refl)
+
   pub search-as-figures-only : OneAnswer 𝓤 search-as-figures.ended (search-as-figures.clauses 𝓤 H A mem run)
   search-as-figures-only κs a g x y = only 𝓤 same (λ answer. answer & refl)
 
@@ -235,6 +243,9 @@ module _ {M : Type 1} (𝓤 : URA M) (H : Heap 𝓤) (A : Atoms 𝓤) (mem : Mem
 
   pub job-of-only : OneAnswer 𝓤 job-of.ended (job-of.clauses 𝓤 H A mem run)
   job-of-only κs a g x y = only 𝓤 same (λ answer. answer & refl)
+
+  pub many-by-only : OneAnswer 𝓤 many-by.ended (many-by.clauses 𝓤 H A mem run)
+  many-by-only κs a g x y = only 𝓤 same (λ answer. answer & refl)
 
   pub piece-end-only : OneAnswer 𝓤 piece-end.ended (piece-end.clauses 𝓤 H A mem run)
   piece-end-only κs a g x y = only 𝓤 same (λ answer. answer & refl)
@@ -284,6 +295,9 @@ module _ {M : Type 1} (𝓤 : URA M) (H : Heap 𝓤) (A : Atoms 𝓤) (mem : Mem
   pub parsed-question-only : OneAnswer 𝓤 parsed-question.ended (parsed-question.clauses 𝓤 H A mem run)
   parsed-question-only κs a g x y = only 𝓤 same (λ answer. answer & refl)
 
+  pub parsed-readings-only : OneAnswer 𝓤 parsed-readings.ended (parsed-readings.clauses 𝓤 H A mem run)
+  parsed-readings-only κs a g x y = only 𝓤 same (λ answer. answer & refl)
+
   pub good-words-only : OneAnswer 𝓤 good-words.ended (good-words.clauses 𝓤 H A mem run)
   good-words-only κs a g x y = only 𝓤 same (λ answer. answer & refl)
 
@@ -322,6 +336,9 @@ module _ {M : Type 1} (𝓤 : URA M) (H : Heap 𝓤) (A : Atoms 𝓤) (mem : Mem
 
   pub shown-expected-only : OneAnswer 𝓤 shown-expected.ended (shown-expected.clauses 𝓤 H A mem run)
   shown-expected-only κs a g x y = only 𝓤 (same beside same) (λ (answer, out). answer & out & refl)
+
+  pub shown-how-many-only : OneAnswer 𝓤 shown-how-many.ended (shown-how-many.clauses 𝓤 H A mem run)
+  shown-how-many-only κs a g x y = only 𝓤 (same beside same) (λ (answer, out). answer & out & refl)
 
   pub none-given-only : OneAnswer 𝓤 none-given.ended (none-given.clauses 𝓤 H A mem run)
   none-given-only κs a g x y = only 𝓤 same (λ answer. answer & refl)
@@ -382,6 +399,9 @@ module _ {M : Type 1} (𝓤 : URA M) (H : Heap 𝓤) (A : Atoms 𝓤) (mem : Mem
 
   pub lay-search-only : OneAnswer 𝓤 lay-search.ended (lay-search.clauses 𝓤 H A mem run)
   lay-search-only κs a g x y = only 𝓤 (same beside same beside same) (λ (answer, (list, found)). answer & list & refl & refl & refl & found & refl)
+
+  pub lay-how-many-only : OneAnswer 𝓤 lay-how-many.ended (lay-how-many.clauses 𝓤 H A mem run)
+  lay-how-many-only κs a g x y = only 𝓤 (same beside same beside same beside same) (λ (refusal, (answer, (place, visits))). refusal & refl & refl & refl & answer & place & visits & refl)
 
   pub lay-read-record-only : OneAnswer 𝓤 lay-read-record.ended (lay-read-record.clauses 𝓤 H A mem run)
   lay-read-record-only κs a g x y = only 𝓤 (same beside same beside same beside same beside same beside same beside same beside same) (λ (answer, (kind, (chain, (line, (first, (second, (first-mark, second-mark))))))). answer & refl & kind & chain & line & first & second & first-mark & second-mark & refl)

@@ -4,4 +4,5 @@ pub mod Numbers
 pub mod Typed
 pub mod Roundings
 pub mod Finding
+pub mod Counting
 pub mod OneAnswer

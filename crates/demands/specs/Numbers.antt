@@ -5,13 +5,16 @@ use mathlib.Core.Path.{_≡_}
 use mathlib.Core.Bool.{true}
 use mathlib.Core.List.{List, [], _∷_}
 use lib.ListN.{replicate}
+use Rattle.chart.specs.Places.{placeOf}
 use Rattle.search.specs.declared.Window.{Window}
+use Rattle.search.specs.declared.HowMany.{HowMany}
+use Rattle.search.specs.declared.HowMany.the-variants as many
 use Rattle.search.specs.Questions.{Question}
 use Rattle.search.specs.Answers.{searchOf, listOf, figuresIn}
 use Rattle.records.specs.Refusals.{isAmong}
 use Rattle.listing.specs.declared.Listed.{Listed}
 use Rattle.listing.specs.declared.Listed.the-variants as listed
-use Rattle.lay.specs.Figures.{SearchTold}
+use Rattle.lay.specs.Figures.{SearchTold, manyFigures}
 use Rattle.listing.specs.Answers.{RecordAnswer, Fix, Grid, Hold, Refused}
 
 -- The refusal number in the answer to a record of a log, and in the answer to a listing.
@@ -24,6 +27,19 @@ recordRefusal (Refused number visits) = number
 unfoldable pub listedRefusal : Listed → ℕ
 listedRefusal (listed.Text bytes carried) = 0
 listedRefusal (listed.Refused number) = number
+
+-- The same in the answer to the question how many places there are, and its visits.
+unfoldable pub manyRefusal : HowMany → ℕ
+manyRefusal (many.None visits) = 0
+manyRefusal (many.One p visits) = 0
+manyRefusal (many.Several visits) = 0
+manyRefusal (many.Refused number visits) = number
+
+unfoldable pub manyVisits : HowMany → ℕ
+manyVisits (many.None visits) = visits
+manyVisits (many.One p visits) = visits
+manyVisits (many.Several visits) = visits
+manyVisits (many.Refused number visits) = visits
 
 -- n is 0, which means no refusal, or one of `numbers`.
 abbrev pub NoneOr : List ℕ → ℕ → Type 0
@@ -55,3 +71,16 @@ abbrev pub SearchIsTold : ℕ → SearchTold → Type 0
 SearchIsTold entries t =
     NoneOr searchNumbers (t .figures .refusal)
     × (Refuses (t .figures .refusal) → (t .list ≡ replicate entries 0) × (t .figures .count ≡ 0))
+
+-- What it returns for any question how many places there are: 0 or one of `manyNumbers`. After a refusal the answer is 0, which is
+-- none of the three answers; else it is one of them. The place is zeros unless there is one.
+abbrev pub manyNumbers : List ℕ
+manyNumbers = 1 ∷ 2 ∷ 3 ∷ 5 ∷ 6 ∷ 7 ∷ 10 ∷ []
+
+abbrev pub ManyIsTold : HowMany → Type 0
+ManyIsTold m =
+    let f = manyFigures m in
+    NoneOr manyNumbers (f .refusal)
+    × (Refuses (f .refusal) → f .many ≡ 0)
+    × (f .refusal ≡ 0 → isAmong (f .many) (1 ∷ 2 ∷ 3 ∷ []) ≡ true)
+    × ((f .many ≡ 2 → ⊥) → f .place ≡ placeOf 0 0)

@@ -28,9 +28,9 @@ this folder.
 It looks in the job's window, with the job's tolerance, and stops at the second place. One line is
 printed, in centimetres:
 
-  NONE VISITS     no place of the window has these readings
-  ONE VISITS E N  exactly one has them: this easting and northing
-  SEVERAL VISITS  more than one has them; laylist lists all places of a record
+  NONE VISITS     no place of the window fits the readings
+  ONE VISITS E N  exactly one does: this easting and northing
+  SEVERAL VISITS  more than one does; laylist lists all places of a record
 
 VISITS is how many squares of the chart were visited. If the job's allowance ends before this is
 decided, that is refusal 10. A refusal is printed with its number.

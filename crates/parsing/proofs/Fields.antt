@@ -2,9 +2,9 @@
 -- are refused exactly as the typed numbers would be, whatever their size; and every number that is written is the one that was
 -- typed.
 use Prim.Native.Nat.{ℕ, _+_, _^_, _<_}
-use mathlib.Core.Path.{_≡_, refl, sym, ap, _∙_}
+use mathlib.Core.Path.{_≡_, refl, sym, ap, ap₂, _∙_}
 use mathlib.Core.Bool.{Bool, true, false, cond, _&&_, _||_, false≢true}
-use mathlib.Core.List.{List}
+use mathlib.Core.List.{List, [], _∷_}
 use native.Mathlib.Omega.{arith}
 use borrow.Author.Tests.{ltb-true}
 use lib.IntN.{ℤ}
@@ -15,7 +15,8 @@ use Rattle.chart.specs.Readings.{expectedAt}
 use Rattle.chart.proofs.PlaceLaws.{both}
 use Rattle.records.specs.Bytes.{unless}
 use Rattle.records.specs.declared.Job.{Job}
-use Rattle.records.specs.Jobs.{usualAllowance}
+use Rattle.records.specs.declared.JobAnswer.{JobAnswer}
+use Rattle.records.specs.Jobs.{usualAllowance, manyBy}
 use Rattle.records.specs.ChainTables.{chainOf}
 use Rattle.writing.specs.declared.Draft.{Draft}
 use Rattle.writing.specs.Writing.{refusalOf, usedOf}
@@ -33,8 +34,8 @@ use Rattle.parsing.specs.Numbers.{isNumber, isBelow, fits, valueAt, leng
 use Rattle.parsing.specs.Forms.{wordsOf, takenFor, isTaken, isForm}
 use Rattle.parsing.specs.Parsed.{allowanceIn, parsedJob, parsedChain, parsedDraft, parsedQuestion, parsedReadings}
 use Rattle.parsing.proofs.Forms.{form-word}
-use Rattle.parsing.proofs.Held.{heldPlace, held-in-range, heldChain, heldWhole, held-signed}
-use Rattle.parsing.proofs.HeldRecords.{heldJob, job-refused, job-kept, chain-refused, chain-kept, heldDraft, draft-refused, used-kept, draft-kept, named-held, expected-held}
+use Rattle.parsing.proofs.Held.{heldPlace, held-in-range, heldChain, held-signed}
+use Rattle.parsing.proofs.HeldRecords.{heldJob, job-refused, job-kept, chain-refused, chain-kept, heldDraft, draft-refused, used-kept, draft-kept, named-held, expected-held, many-held}
 
 -- What a line says, whatever the size of its numbers.
 abbrev pub placeTyped : List ℕ → ℕ → Place
@@ -155,10 +156,11 @@ question-as-typed table s number p e =
       λ c. ap (expectedAt c) place ∙ expected-held c (placeTyped s 1),
     )
 
--- A line that is read as readings: its number names the same chain of a table as the typed number, and its readings are the typed
--- ones, as their fields hold them.
+-- A line that is read as readings: its number names the same chain of a table as the typed number, and by any job and chain its
+-- readings allow as many places as the typed ones, or are refused as these would be.
 pub readings-as-typed : (table s : List ℕ) (number : ℕ) (a b : ℤ) → parsedReadings s ≡ readings.Readings number a b →
-    (chainOf table number ≡ chainOf table (valueAt s 0)) × (a ≡ heldWhole (readingAt s 1)) × (b ≡ heldWhole (readingAt s 2))
+    (chainOf table number ≡ chainOf table (valueAt s 0))
+    × ((j : JobAnswer) (c : Chain) → manyBy j c (a ∷ b ∷ []) ≡ manyBy j c (readingAt s 1 ∷ readingAt s 2 ∷ []))
 unfolding parsedReadings
 readings-as-typed table s number a b e =
     let of = passed (isForm form.Readings s) (λ f. false≢true (cc)) e in
@@ -166,6 +168,7 @@ readings-as-typed table s number a b e =
     let x : a ≡ heldReading s 1 = cc (of .1) in
     let y : b ≡ heldReading s 2 = cc (of .1) in (
       ap (chainOf table) n ∙ named-held table (valueAt s 0),
-      x ∙ sym (held-signed (isBelow (wordAt 1 s)) (sizeAt s 1)),
-      y ∙ sym (held-signed (isBelow (wordAt 2 s)) (sizeAt s 2)),
+      λ j c.
+          ap₂ (λ (u v : ℤ). manyBy j c (u ∷ v ∷ [])) (x ∙ sym (held-signed (isBelow (wordAt 1 s)) (sizeAt s 1))) (y ∙ sym (held-signed (isBelow (wordAt 2 s)) (sizeAt s 2)))
+          ∙ many-held c (readingAt s 1) (readingAt s 2) j,
     )

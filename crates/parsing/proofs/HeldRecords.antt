@@ -1,9 +1,9 @@
--- A job, a chain, a draft and a question with their numbers as the fields hold them: they are refused exactly as the typed
--- numbers would be, and what is accepted has the typed numbers.
+-- A job, a chain, a draft, a question and readings with their numbers as the fields hold them: they are refused exactly as the
+-- typed numbers would be, and what is accepted has the typed numbers.
 use Prim.Native.Nat.{ℕ, _%_, _^_, _≤_, _<_}
-use mathlib.Core.Path.{_≡_, refl, sym, ap, _∙_}
+use mathlib.Core.Path.{_≡_, refl, sym, ap, ap₂, _∙_}
 use mathlib.Core.Bool.{Bool, true, false, cond, _&&_, _||_, and-false}
-use mathlib.Core.List.{List}
+use mathlib.Core.List.{List, [], _∷_}
 use native.Mathlib.Omega.{arith}
 use borrow.Author.Tests.{leb-true, lt-leb, ltb-true, ltb-false}
 use lib.Dec.{leb, ltb, eqb}
@@ -14,15 +14,21 @@ use Rattle.chart.specs.declared.Place.{Place}
 use Rattle.chart.specs.declared.Chain.{Chain}
 use Rattle.chart.specs.Places.{inRange}
 use Rattle.chart.specs.Chains.{isSound}
-use Rattle.chart.specs.Readings.{expectedAt}
+use Rattle.chart.specs.Readings.{wantedOf, expectedAt}
 use Rattle.chart.proofs.PlaceLaws.{both}
 use Rattle.chart.proofs.ReadingLaws.{expected-out}
 use Rattle.search.specs.Windows.{isWindow}
-use Rattle.search.specs.Questions.{mostTolerance}
+use Rattle.search.specs.declared.HowMany.{HowMany}
+use Rattle.search.specs.Questions.{Question, ruleOf, mostReading, mostTolerance, noneTooLarge}
+use Rattle.search.specs.Answers.{Outcome}
+use Rattle.search.specs.Counts.{forOne, firstOf, saidFor, howManyOf}
+use Rattle.search.proofs.AnswerLaws.{search-3}
 use Rattle.records.specs.declared.Job.{Job}
+use Rattle.records.specs.declared.JobAnswer.{JobAnswer}
+use Rattle.records.specs.declared.JobAnswer.the-variants as job
 use Rattle.records.specs.LogRecords.{logBytes}
 use Rattle.records.specs.ChainTables.{chainBytes, mostChains, oneTo, chainOf, isTable, chainsIn}
-use Rattle.records.specs.Jobs.{jobBytes}
+use Rattle.records.specs.Jobs.{jobBytes, manyBy}
 use Rattle.records.proofs.TableLaws.{one-to-says}
 use Rattle.writing.specs.declared.Draft.{Draft}
 use Rattle.writing.specs.Writing.{isKind, numbersFit, refusalOf, usedOf}
@@ -161,3 +167,38 @@ expected-held c p = go (inRange p) refl
     go false e =
         expected-out c (heldPlace p) (held-in-range 32 (p .easting) (p .northing) (omega arith) ∙ e)
         ∙ sym (expected-out c p e)
+
+-- Readings to ask about: how many places they allow by a job.
+module _ (c : Chain) (x y : ℤ) where
+  -- They are too large exactly if the typed readings are.
+  none-held : noneTooLarge (wantedOf c (heldWhole x ∷ heldWhole y ∷ [])) ≡ noneTooLarge (wantedOf c (x ∷ y ∷ []))
+  unfolding noneTooLarge
+  none-held = rw (held-size x, held-size y)
+
+  both-held : noneTooLarge (wantedOf c (x ∷ y ∷ [])) ≡ true → heldWhole x ∷ heldWhole y ∷ [] ≡ x ∷ y ∷ []
+  unfolding noneTooLarge
+  both-held e =
+      let first = both (leb (natAbs x) mostReading) _ e in
+      let second = both (leb (natAbs y) mostReading) true (first .1) in
+      ap₂ (λ (u v : ℤ). u ∷ v ∷ []) (whole-held x (leb-true _ _ (first .0))) (whole-held y (leb-true _ _ (second .0)))
+
+  asked-held : (j : Job) → manyBy (job.Job j) c (heldWhole x ∷ heldWhole y ∷ []) ≡ manyBy (job.Job j) c (x ∷ y ∷ [])
+  unfolding manyBy howManyOf
+  asked-held j = go (noneTooLarge (wantedOf c (x ∷ y ∷ []))) refl
+    where
+      said : List ℤ → Question
+      said readings = forOne (ruleOf c readings (j .tolerance)) (j .allowance)
+
+      three : Outcome → HowMany
+      three o = saidFor (o .answer) (firstOf (o .places))
+
+      go : (b : Bool) → noneTooLarge (wantedOf c (x ∷ y ∷ [])) ≡ b → manyBy (job.Job j) c (heldWhole x ∷ heldWhole y ∷ []) ≡ manyBy (job.Job j) c (x ∷ y ∷ [])
+      go true e = ap (λ (l : List ℤ). manyBy (job.Job j) c l) (both-held e)
+      go false e =
+          ap three (search-3 (said (heldWhole x ∷ heldWhole y ∷ [])) (j .window) (none-held ∙ e))
+          ∙ sym (ap three (search-3 (said (x ∷ y ∷ [])) (j .window) e))
+
+  pub many-held : (a : JobAnswer) → manyBy a c (heldWhole x ∷ heldWhole y ∷ []) ≡ manyBy a c (x ∷ y ∷ [])
+  unfolding manyBy
+  many-held (job.Job j) = asked-held j
+  many-held (job.Refused number) = refl

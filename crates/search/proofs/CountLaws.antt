@@ -3,10 +3,13 @@
 use Prim.Native.Nat.{ℕ, _+_, _≤_, _<_}
 use mathlib.Core.Path.{_≡_, refl, ap, ap₂, _∙_, subst⁻¹}
 use mathlib.Core.Logic.{⊎-elim}
+use mathlib.Core.Bool.{Bool, true, false, cond}
 use mathlib.Core.List.{List, [], _∷_, List·Memᴰ·head, List·Memᴰ·tail}
 use native.Mathlib.Omega.{arith}
 use native.Mathlib.Nat.{lt-of-not-le}
 use native.Mathlib.Decide.{decLe}
+use borrow.Author.Tests.{leb-true, leb-false, le-leb, lt-leb}
+use lib.Dec.{leb}
 use lib.IntN.{ℤ}
 use lib.ListN.{length, getD}
 use Rattle.chart.specs.declared.Place.{Place}
@@ -16,12 +19,12 @@ use Rattle.search.specs.declared.Window.{Window}
 use Rattle.search.specs.declared.Answer.{Answer}
 use Rattle.search.specs.declared.Answer.the-variants.{Places, ReadingTooLarge, Unsound, BadWindow, BadTolerance, NoMatch, NoRoom, AllowanceUsed}
 use Rattle.search.specs.declared.HowMany.{HowMany}
-use Rattle.search.specs.declared.HowMany.the-variants.{Several, Refused}
+use Rattle.search.specs.declared.HowMany.the-variants.{None, One, Several, Refused}
 use Rattle.search.specs.Questions.{Rule, Question, ruleOf, questionOf}
 use Rattle.search.specs.Walk.{Standing}
 use Rattle.search.specs.Answers.{Outcome, gone, ended, Accepted, searchOf, entriesOf, listOf, searchLeft, searchFigures}
 use Rattle.search.specs.Cells.{matchingIn, visitsIn, visitsTo, IsListed}
-use Rattle.search.specs.Counts.{forOne, firstOf, saidFor, howManyOf, countOf, decidingVisits}
+use Rattle.search.specs.Counts.{forOne, firstOf, saidFor, howManyOf, countOf, decidingVisits, decidedBy}
 use Rattle.search.proofs.AnswerLaws.{ended-out, search-walks}
 use Rattle.search.proofs.Whole.{going, whole}
 use Rattle.search.proofs.Limits.{bounded}
@@ -90,10 +93,13 @@ module _ (rule : Rule) (w : Window) where
       go (p ∷ o ∷ ps) e =
           to-few rule (w .k) (w .corner) o (subst⁻¹ (IsListed o) e (List·Memᴰ·tail (List·Memᴰ·head refl)))
 
--- How many cells match, said without a walk: by how it ends.
+-- How it ends: a test before the walk fails; no cell matches, one or several; or the allowance ends before that is decided.
 pub data Counting (rule : Rule) (w : Window) (n : ℕ) : HowMany → Type 0 where
   early : (a : Answer) → Fails rule w a → Counting rule w n (Refused (searchFigures a .refusal) 0)
-  told : Accepted rule w → decidingVisits rule w (matchingIn rule w) ≤ n → Counting rule w n (countOf (matchingIn rule w) (decidingVisits rule w (matchingIn rule w)))
+  none : Accepted rule w → matchingIn rule w ≡ [] → visitsIn rule w ≤ n → Counting rule w n (None (visitsIn rule w))
+  one : (p : Place) → Accepted rule w → matchingIn rule w ≡ p ∷ [] → visitsIn rule w ≤ n → Counting rule w n (One p (visitsIn rule w))
+  several : (p o : Place) (ps : List Place) → Accepted rule w → matchingIn rule w ≡ p ∷ o ∷ ps → visitsTo rule (w .k) (w .corner) o ≤ n →
+      Counting rule w n (Several (visitsTo rule (w .k) (w .corner) o))
   out : Accepted rule w → n < decidingVisits rule w (matchingIn rule w) → Counting rule w n (Refused 10 n)
 
 -- What is said if a test before the walk fails.
@@ -109,26 +115,47 @@ said-early (NoRoom visits) p l h = absurd (omega (arith, h))
 said-early (AllowanceUsed visits) p l h = absurd (omega (arith, h))
 
 module _ (rule : Rule) (w : Window) (n : ℕ) where
+  -- If a test fails, the question is refused with the number of the search, and without a visit.
+  pub early-refused : (a : Answer) → Fails rule w a → howManyOf rule w n ≡ Refused (searchFigures a .refusal) 0
+  unfolding howManyOf
+  early-refused a f = ap said (f .same (record { allowance = n; room = 1 })) ∙ said-early a _ (f .low) (f .high)
+
   abbrev q : Question
   q = forOne rule n
 
-  by-allowance : Accepted rule w → Dec (decidingVisits rule w (matchingIn rule w) ≤ n) → Counting rule w n (howManyOf rule w n)
+  -- If the tests pass, the answer follows from the matching cells, the visits that decide, and the allowance.
+  pub decided : Accepted rule w → howManyOf rule w n ≡ decidedBy rule w n
   unfolding howManyOf saidFor
-  by-allowance a (yes h) =
-      subst⁻¹ (Counting rule w n) (ap said (search-walks q w a) ∙ decides rule w n (matchingIn rule w) refl h .1) (told a h)
-  by-allowance a (no f) =
-      let less = lt-of-not-le f in
-      let ten = short rule w n less in
-      subst⁻¹ (Counting rule w n)
-      (ap said (search-walks q w a ∙ ended-out (walk q w) ten) ∙ ap (Refused 10) (bounded q (w .k) (w .corner) .all ten))
-      (out a less)
+  decided a = go (decLe (decidingVisits rule w (matchingIn rule w)) n)
+    where
+      go : Dec (decidingVisits rule w (matchingIn rule w) ≤ n) → howManyOf rule w n ≡ decidedBy rule w n
+      go (yes h) =
+          ap said (search-walks q w a)
+          ∙ decides rule w n (matchingIn rule w) refl h .1
+          ∙ rw (le-leb (decidingVisits rule w (matchingIn rule w)) n h)
+      go (no f) =
+          let less = lt-of-not-le f in
+          let ten = short rule w n less in
+          ap said (search-walks q w a ∙ ended-out (walk q w) ten)
+          ∙ ap (Refused 10) (bounded q (w .k) (w .corner) .all ten)
+          ∙ rw (lt-leb (decidingVisits rule w (matchingIn rule w)) n less)
+
+  by-cells : Accepted rule w → (ms : List Place) → matchingIn rule w ≡ ms → decidingVisits rule w ms ≤ n → Counting rule w n (countOf ms (decidingVisits rule w ms))
+  by-cells a [] e h = none a e h
+  by-cells a (p ∷ []) e h = one p a e h
+  by-cells a (p ∷ o ∷ ps) e h = several p o ps a e h
+
+  by-allowance : Accepted rule w → (b : Bool) → leb (decidingVisits rule w (matchingIn rule w)) n ≡ b →
+      Counting rule w n (cond b (countOf (matchingIn rule w) (decidingVisits rule w (matchingIn rule w))) (Refused 10 n))
+  by-allowance a true e = by-cells a (matchingIn rule w) refl (leb-true _ n e)
+  by-allowance a false e = out a (leb-false _ n e)
 
   -- It ends in one of these ways.
   pub counting : Counting rule w n (howManyOf rule w n)
   unfolding howManyOf
   counting =
       ⊎-elim
-      (λ a. by-allowance a (decLe (decidingVisits rule w (matchingIn rule w)) n))
+      (λ a. subst⁻¹ (Counting rule w n) (decided a) (by-allowance a (leb (decidingVisits rule w (matchingIn rule w)) n) refl))
       (λ f.
-      subst⁻¹ (Counting rule w n) (ap said (f .1 .same (record { allowance = n; room = 1 })) ∙ said-early (f .0) _ (f .1 .low) (f .1 .high)) (early (f .0) (f .1)))
+      subst⁻¹ (Counting rule w n) (early-refused (f .0) (f .1)) (early (f .0) (f .1)))
       (tested rule w)
