@@ -619,9 +619,15 @@ class Typing:
             stderr=subprocess.PIPE,
             cwd=desk.work,
             start_new_session=True,
-            preexec_fn=(lambda: fcntl.ioctl(0, termios.TIOCSCTTY, 0)) if terminal else None,
+            preexec_fn=Typing.at_terminal if terminal else None,
         )
         os.close(reading)
+
+    @staticmethod
+    def at_terminal():
+        """The terminal is the tool's own, and Ctrl-C ends the tool, also if the tests run where that is ignored."""
+        fcntl.ioctl(0, termios.TIOCSCTTY, 0)
+        signal.signal(signal.SIGINT, signal.SIG_DFL)
 
     def type(self, text):
         os.write(self.into, text)

@@ -319,10 +319,11 @@ def layone(run):
     number, *wanted = values(line, [NUMBER, READING, READING])
     table, job = (run.files.get(name, b"") for name in FILES["layone"])
     before = missing("layone", run, FILES["layone"])
+    accepted, allowed = rule.tried(lambda: rule.job_in(job).allowance)
+    if not accepted and allowed > MANY_VISITS:
+        before.append(f"layone: note: job.dat allows more than {MANY_VISITS} visits: the answer may take minutes")
     try:
         chain, asked = question(WORD.findall(line), table, job, number, wanted)
-        if asked.allowance > MANY_VISITS:
-            before.append(f"layone: note: job.dat allows more than {MANY_VISITS} visits: the answer may take minutes")
         refusal, answer, place, visits = rule.how_many(chain, wanted, asked)
         say(10, refusal == 10, "the visits that job.dat allows ended before this was decided")
     except Refusal as refusal:
@@ -1072,7 +1073,7 @@ FAULTS = (
 
 
 def asked_faults():
-    """Every two things wrong at once, then all: the first test that fails answers. No note is said of visits that are not made."""
+    """Every two things wrong at once, then all: the first test that fails answers. A job that is accepted may have a note before."""
     for at, one in enumerate(FAULTS):
         for other in FAULTS[: at + 1]:
             yield refused_once(faulty(**{**other, **one}))

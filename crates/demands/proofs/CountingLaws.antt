@@ -15,14 +15,13 @@ use Rattle.search.specs.declared.Answer.{Answer}
 use Rattle.search.specs.declared.Answer.the-variants.{Places, ReadingTooLarge, Unsound, BadWindow, BadTolerance, NoMatch, NoRoom, AllowanceUsed}
 use Rattle.search.specs.declared.HowMany.{HowMany}
 use Rattle.search.specs.declared.HowMany.the-variants.{None, One, Several, Refused}
-use Rattle.search.specs.Windows.{IsCellIn}
 use Rattle.search.specs.Questions.{Rule, Question, matches}
 use Rattle.search.specs.Answers.{Outcome, gone, Accepted, searchOf, searchFigures}
 use Rattle.search.specs.Cells.{chartNumber, Rises, matchingIn, visitsIn, IsMatch, IsListed}
-use Rattle.search.specs.Counts.{forOne, howManyOf, countOf, decidingVisits, decidedBy}
+use Rattle.search.specs.Counts.{forOne, howManyOf, countOf, decidingVisits}
 use Rattle.search.proofs.CellLaws.{matching-all, matching-only}
 use Rattle.search.proofs.Order.{matching-rises}
-use Rattle.search.proofs.Outcomes.{Ending, Fails}
+use Rattle.search.proofs.Outcomes.{Ending}
 use Rattle.search.proofs.Outcomes as end
 use Rattle.search.proofs.Telling.{unmatched}
 use Rattle.search.proofs.CountLaws.{Counting, early, none, one, several, out, decided, deciding-few}

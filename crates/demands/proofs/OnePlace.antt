@@ -2,7 +2,7 @@
 -- and stops at the second matching cell. Where the full search with enough room answers within the same allowance, the two agree.
 -- Refusal 10 comes if the allowance ends undecided; 8 becomes none, and 9 does not occur.
 use Prim.Native.Nat.{ℕ, _≤_, _<_}
-use mathlib.Core.Path.{_≡_, refl, ap, _∙_}
+use mathlib.Core.Path.{_≡_, ap}
 use mathlib.Core.Logic.{_↔_, _⊎_, inl, inr, ⊎-elim}
 use mathlib.Core.Bool.{true}
 use mathlib.Core.List.{[], _∷_}

@@ -10,7 +10,7 @@ ghost use Rattle.chart.specs.Places.{samePlace};
 ghost use Rattle.records.specs.LogRecords.{isPlace};
 ghost use Rattle.text.specs.Texts.{numeral, numeralFrom};
 ghost use Rattle.parsing.specs.Words.{run, areAll, isInLine, isBlank, isOneWord, wordAt, startAt, spanAt, Spans, noWord, isPassed};
-ghost use Rattle.parsing.specs.Numbers.{isDigit, isNumber, fits, isMetres, isLength, centimetresIn, isBelow, sizeIn, isReading, valueAt, lengthAt, held, heldReading};
+ghost use Rattle.parsing.specs.Numbers.{isDigit, isNumber, isMetres, isLength, centimetresIn, isBelow, sizeIn, isReading, valueAt, lengthAt, held, heldReading};
 ghost use Rattle.parsing.specs.Forms.{wordsOf, takenFor, isTaken, goodWords, isForm, hasPoint, wrongIn, wrongAt};
 ghost use Rattle.parsing.specs.Parsed.{placeIn, windowIn, allowanceIn, parsedJob, parsedChain, parsedDraft, parsedQuestion, parsedReadings};
 ghost use Rattle.parsing.specs.Faults.{placeFault, jobFault, draftFault, chainFault};

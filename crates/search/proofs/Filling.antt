@@ -9,10 +9,10 @@ use borrow.Author.Tests.{eqb-false, lt-ltb, le-ltb}
 use lib.Dec.{ltb}
 use lib.ListN.{length, length-append}
 use Rattle.chart.specs.declared.Place.{Place}
-use Rattle.search.specs.Windows.{east, north, northEast, IsCellOf}
+use Rattle.search.specs.Windows.{east, north, northEast}
 use Rattle.search.specs.Questions.{Rule, Question, matches, isKept}
 use Rattle.search.specs.Walk.{Standing, either, unchanged, visit}
-use Rattle.search.specs.Cells.{ifSo, matching, visitsOf, visitsTo, IsListed}
+use Rattle.search.specs.Cells.{matching, visitsOf, visitsTo, IsListed}
 use Rattle.search.proofs.WalkLaws.{visit-after, visit-cell, visit-square, quarters, cell-full}
 use Rattle.search.proofs.CellLaws.{matching-only, matching-square}
 use Rattle.search.proofs.Dropping.{dropped-none}

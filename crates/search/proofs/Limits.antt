@@ -1,24 +1,13 @@
 -- How a walk is stopped. It makes no more visits than allowed, and exactly the allowance if it stops with 10.
-use Prim.Native.Nat.{ℕ, zero, suc, _+_, _^_, _≤_, _<_}
-use mathlib.Core.Path.{_≡_, refl, sym, ap, _∙_}
+use Prim.Native.Nat.{ℕ, _≤_}
+use mathlib.Core.Path.{_≡_, refl, sym, _∙_}
 use mathlib.Core.Logic.{_⊎_, inl, inr}
-use mathlib.Core.Bool.{Bool, true, false}
-use mathlib.Core.List.{List, [], _++_}
 use native.Mathlib.Omega.{arith}
-use native.Mathlib.Nat.{lt-of-not-le}
-use native.Mathlib.Decide.{decLe}
 use borrow.Author.Tests.{eqb-false}
-use lib.ListN.{length, length-append}
 use Rattle.chart.specs.declared.Place.{Place}
-use Rattle.search.specs.Windows.{east, north, northEast}
-use Rattle.search.specs.Questions.{Question, matches, isKept}
-use Rattle.search.specs.Walk.{Standing, start, either, unchanged, visit}
-use Rattle.search.specs.Cells.{matching, visitsOf}
-use Rattle.search.proofs.WalkLaws.{visit-after, visit-cell, visit-square, quarters, cell-full}
+use Rattle.search.specs.Questions.{Question}
+use Rattle.search.specs.Walk.{Standing, start, visit}
 use Rattle.search.proofs.Keeping.{Keeps, visit-keeps}
-use Rattle.search.proofs.CellLaws.{matching-counted}
-use Rattle.search.proofs.Dropping.{dropped-none}
-use Rattle.search.proofs.Whole.{going, whole, visits-kept, one-visit, matching-cell}
 
 -- A walk goes on or was stopped with 9 or 10; it has made no more visits than allowed, and exactly as many with 10.
 pub record Bounded (q : Question) (s : Standing) : Type 0 where

@@ -1,5 +1,4 @@
 -- `shown::put_many` meets its contract: the word, the figures and the newline.
-use Prim.Native.Nat.{_*_}
 use mathlib.Core.List.{_++_}
 use native.Mathlib.Omega.{arith}
 use borrow.Author.Tests.{le-leb}
