@@ -136,11 +136,11 @@ word (One p visits) = 2
 word (Several visits) = 3
 word (Refused number visits) = 0
 
-placeIn : Place → HowMany → Place
-placeIn other (None visits) = other
-placeIn other (One p visits) = p
-placeIn other (Several visits) = other
-placeIn other (Refused number visits) = other
+placeOr : Place → HowMany → Place
+placeOr other (None visits) = other
+placeOr other (One p visits) = p
+placeOr other (Several visits) = other
+placeOr other (Refused number visits) = other
 
 -- Two statements that both fail are equivalent.
 neither : {P Q : Type 0} → (P → ⊥) → (Q → ⊥) → P ↔ Q
@@ -148,7 +148,7 @@ neither f g = ((λ p. absurd (f p)), (λ q. absurd (g q)))
 
 -- For the same matching cells the two answers agree, if none and one take the same visits.
 same-cells : (ms : List Place) (d v : ℕ) → (length ms ≤ 1 → d ≡ v) → Agrees (countOf ms d) (gone ms v)
-unfolding word placeIn manyVisits searchFigures
+unfolding word placeOr manyVisits searchFigures
 same-cells [] d v same =
     let s = same (omega arith) in (
       (λ u. ((λ e. ap NoMatch (sym s ∙ ap manyVisits e)), (λ e. ap None (s ∙ ap (λ (a : Answer). searchFigures a .visits) e)))),
@@ -159,7 +159,7 @@ same-cells (q ∷ []) d v same =
     let s = same (omega arith) in (
       (λ u. neither (λ e. eqb-false 2 1 refl (ap word e)) (λ e. eqb-false 0 8 refl (ap (λ (a : Answer). searchFigures a .refusal) e))),
       (λ p u. (
-        (λ e. ap₂ (λ (x : Place) (y : ℕ). record { answer = Places 1 y; places = x ∷ [] }) (ap (placeIn q) e) (sym s ∙ ap manyVisits e)),
+        (λ e. ap₂ (λ (x : Place) (y : ℕ). record { answer = Places 1 y; places = x ∷ [] }) (ap (placeOr q) e) (sym s ∙ ap manyVisits e)),
         (λ e.
             ap₂ One (head-eq-of-cons-eq (ap (λ (o : Outcome). o .places) e)) (s ∙ ap (λ (o : Outcome). searchFigures (o .answer) .visits) e)),
       )),

@@ -19,8 +19,8 @@ use Rattle.search.proofs.Dropping.{dropped-none}
 use Rattle.search.proofs.Whole.{going, whole, visits-kept, matching-cell}
 
 -- A walk that was stopped by a full list.
-abbrev pub filled : List Place → ℕ → Standing
-filled ps v = record { stop = 9; places = ps; visits = v }
+abbrev pub fullAt : List Place → ℕ → Standing
+fullAt ps v = record { stop = 9; places = ps; visits = v }
 
 -- A list that is joined from two has a member o: it lies in the first of them, or in the second, with all of the first before it.
 split : (a b before : List Place) (o : Place) (rest : List Place) → a ++ b ≡ before ++ (o ∷ rest) →
@@ -123,7 +123,7 @@ module _ (q : Question) where
   pub record Fills (part : Standing → Standing) (ms : List Place) (to : Place → ℕ) : Type 0 where
     pub stays : (s : Standing) → s .stop ≡ 9 → part s ≡ s
     pub over : (ps before rest : List Place) (o : Place) (v : ℕ) → ms ≡ before ++ (o ∷ rest) → length ps + length before ≡ q .limits .room → v + to o ≤ q .limits .allowance →
-        part (going ps v) ≡ filled (ps ++ before) (v + to o)
+        part (going ps v) ≡ fullAt (ps ++ before) (v + to o)
 
   nine-stays : (k : ℕ) (p : Place) (s : Standing) → s .stop ≡ 9 → visit q k p s ≡ s
   nine-stays k p s e = visit-after q k p s (λ z. eqb-false 9 0 refl (sym e ∙ z))
@@ -145,12 +145,12 @@ module _ (q : Question) where
       where
         go : (ps before rest : List Place) (o : Place) (v : ℕ) → length ps + length before ≡ q .limits .room → v + whole-to o ≤ q .limits .allowance →
             ((l : List Place) × (first ≡ before ++ (o ∷ l))) ⊎ ((l : List Place) × ((before ≡ first ++ l) × (ms ≡ l ++ (o ∷ rest)))) →
-            part (visit q k r (going ps v)) ≡ filled (ps ++ before) (v + whole-to o)
+            part (visit q k r (going ps v)) ≡ fullAt (ps ++ before) (v + whole-to o)
         go ps before rest o v room most (inl (l, e)) =
             let at = here o (has before o l first e) in
             ap part (a .over ps before l o v e room (omega (arith, most, at)))
             ∙ b .stays _ refl
-            ∙ ap (λ (n : ℕ). filled (ps ++ before) (v + n)) (sym at)
+            ∙ ap (λ (n : ℕ). fullAt (ps ++ before) (v + n)) (sym at)
         go ps before rest o v room most (inr (l, (e, f))) =
             let at = past o (has l o rest ms f) in
             let long = ap length e ∙ length-append first l in
@@ -158,22 +158,22 @@ module _ (q : Question) where
             let c : ℕ = visitsOf (q .rule) k r in
             ap part (whole q k r ps v (omega (arith, most, at)) (omega (arith, room, long)))
             ∙ b .over (ps ++ first) l rest o (v + c) f (omega (arith, room, long, longer)) (omega (arith, most, at))
-            ∙ ap₂ filled (append-assoc ps first l ∙ ap (λ (x : List Place). ps ++ x) (sym e)) (omega (arith, at))
+            ∙ ap₂ fullAt (append-assoc ps first l ∙ ap (λ (x : List Place). ps ++ x) (sym e)) (omega (arith, at))
 
   cell-over : (p : Place) (b : Bool) → matches (q .rule) p ≡ b → (ps before rest : List Place) (o : Place) (v : ℕ) → matching (q .rule) 0 p ≡ before ++ (o ∷ rest) →
-      length ps + length before ≡ q .limits .room → v + visitsTo (q .rule) 0 p o ≤ q .limits .allowance → visit q 0 p (going ps v) ≡ filled (ps ++ before) (v + visitsTo (q .rule) 0 p o)
+      length ps + length before ≡ q .limits .room → v + visitsTo (q .rule) 0 p o ≤ q .limits .allowance → visit q 0 p (going ps v) ≡ fullAt (ps ++ before) (v + visitsTo (q .rule) 0 p o)
   unfolding visitsTo
   cell-over p true m ps before rest o v e room most =
       let none = alone p before o rest (sym (matching-cell (q .rule) p true m) ∙ e) in
       visit-cell q p (going ps v) refl (omega (arith, most))
       ∙ cell-full q p (going ps (v + 1)) m (omega (arith, room, ap length none))
-      ∙ ap (λ (l : List Place). filled l (v + 1)) (sym (append-nil ps) ∙ ap (λ (l : List Place). ps ++ l) none)
+      ∙ ap (λ (l : List Place). fullAt l (v + 1)) (sym (append-nil ps) ∙ ap (λ (l : List Place). ps ++ l) none)
   cell-over p false m ps before rest o v e room most =
       absurd (List·Memᴰ·not-nil (has before o rest [] (sym (matching-cell (q .rule) p false m) ∙ e)))
 
   square-over : (k : ℕ) (p : Place) → ((o : Place) → Fills (visit q k o) (matching (q .rule) k o) (visitsTo (q .rule) k o)) → (b : Bool) → isKept (q .rule) k p ≡ b →
       (ps before rest : List Place) (o : Place) (v : ℕ) → matching (q .rule) (suc k) p ≡ before ++ (o ∷ rest) → length ps + length before ≡ q .limits .room →
-      v + visitsTo (q .rule) (suc k) p o ≤ q .limits .allowance → either b (quarters q k p) unchanged (going ps (v + 1)) ≡ filled (ps ++ before) (v + visitsTo (q .rule) (suc k) p o)
+      v + visitsTo (q .rule) (suc k) p o ≤ q .limits .allowance → either b (quarters q k p) unchanged (going ps (v + 1)) ≡ fullAt (ps ++ before) (v + visitsTo (q .rule) (suc k) p o)
   unfolding visitsTo
   square-over k p ih false t ps before rest o v e room most =
       absurd (List·Memᴰ·not-nil (has before o rest [] (sym (dropped-none (q .rule) k p t) ∙ e)))
@@ -182,7 +182,7 @@ module _ (q : Question) where
       let second = then k (east (2 ^ k) p) _ _ _ (fromSecond (q .rule) k p) (ih (east (2 ^ k) p)) third (here-second (q .rule) k p) (past-second (q .rule) k p) in
       let all = then k p _ _ _ (fromFirst (q .rule) k p) (ih p) second (here-first (q .rule) k p) (past-first (q .rule) k p) in
       all .over ps before rest o (v + 1) (sym (matching-square (q .rule) k p) ∙ e) room (omega (arith, most))
-      ∙ ap (filled (ps ++ before)) (omega arith)
+      ∙ ap (fullAt (ps ++ before)) (omega arith)
 
   -- The law, for every square.
   pub fills : (k : ℕ) (p : Place) → Fills (visit q k p) (matching (q .rule) k p) (visitsTo (q .rule) k p)

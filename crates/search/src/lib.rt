@@ -190,20 +190,20 @@ fn said_for(a: Answer, first: Place) -> HowMany
             place: first,
             visits,
         },
-        Answer::ReadingTooLarge => refused(3, 0),
-        Answer::Unsound => refused(5, 0),
-        Answer::BadWindow => refused(6, 0),
-        Answer::BadTolerance => refused(7, 0),
+        Answer::ReadingTooLarge => unvisited(3),
+        Answer::Unsound => unvisited(5),
+        Answer::BadWindow => unvisited(6),
+        Answer::BadTolerance => unvisited(7),
         Answer::NoMatch { visits } => HowMany::None { visits },
         Answer::NoRoom { visits } => HowMany::Several { visits },
-        Answer::AllowanceUsed { visits } => refused(10, visits),
+        Answer::AllowanceUsed { visits } => HowMany::Refused { number: 10, visits },
     }
 }
 
-fn refused(number: u32, visits: u64) -> HowMany
-    ensures { λ r. ⌜ r ≡ Refused number visits ⌝ }
+fn unvisited(number: u32) -> HowMany
+    ensures { λ r. ⌜ r ≡ Refused number 0 ⌝ }
 {
-    HowMany::Refused { number, visits }
+    HowMany::Refused { number, visits: 0 }
 }
 
 fn told(refusal: u32, count: usize, visits: u64) -> SearchFigures

@@ -12,26 +12,26 @@ enum-known-a c = search needs
 enum-told : tie.Need-enum-told
 enum-told c = search needs
 
-refused-requires : tie.Need-refused-requires
-refused-requires c κs = search needs
+unvisited-requires : tie.Need-unvisited-requires
+unvisited-requires c κs = search needs
 
 enum-told-2 : tie.Need-enum-told-2
 enum-told-2 c = search needs
 
-refused-requires-2 : tie.Need-refused-requires-2
-refused-requires-2 c κs = search needs
+unvisited-requires-2 : tie.Need-unvisited-requires-2
+unvisited-requires-2 c κs = search needs
 
 enum-told-3 : tie.Need-enum-told-3
 enum-told-3 c = search needs
 
-refused-requires-3 : tie.Need-refused-requires-3
-refused-requires-3 c κs = search needs
+unvisited-requires-3 : tie.Need-unvisited-requires-3
+unvisited-requires-3 c κs = search needs
 
 enum-told-4 : tie.Need-enum-told-4
 enum-told-4 c = search needs
 
-refused-requires-4 : tie.Need-refused-requires-4
-refused-requires-4 c κs = search needs
+unvisited-requires-4 : tie.Need-unvisited-requires-4
+unvisited-requires-4 c κs = search needs
 
 enum-known-a-2 : tie.Need-enum-known-a-2
 enum-known-a-2 c = search needs
@@ -42,9 +42,6 @@ enum-known-a-3 c = search needs
 enum-known-a-4 : tie.Need-enum-known-a-4
 enum-known-a-4 c = search needs
 
-refused-requires-5 : tie.Need-refused-requires-5
-refused-requires-5 c κs = search needs
-
 returns : tie.Need-returns
 unfolding saidFor
 returns c = sym (ap (λ (a : Answer). saidFor a (c .before .before .before .args .first)) (c .before .a .given .1))
@@ -52,22 +49,22 @@ returns c = sym (ap (λ (a : Answer). saidFor a (c .before .before .before .args
 returns-2 : tie.Need-returns-2
 unfolding saidFor
 returns-2 c =
-    c .refused .ensures ∙ sym (ap (λ (a : Answer). saidFor a (c .before .before .before .args .first)) (c .before .enum-told .given .1))
+    c .unvisited .ensures ∙ sym (ap (λ (a : Answer). saidFor a (c .before .before .before .args .first)) (c .before .enum-told .given .1))
 
 returns-3 : tie.Need-returns-3
 unfolding saidFor
 returns-3 c =
-    c .refused2 .ensures ∙ sym (ap (λ (a : Answer). saidFor a (c .before .before .before .args .first)) (c .before .enum-told2 .given .1))
+    c .unvisited2 .ensures ∙ sym (ap (λ (a : Answer). saidFor a (c .before .before .before .args .first)) (c .before .enum-told2 .given .1))
 
 returns-4 : tie.Need-returns-4
 unfolding saidFor
 returns-4 c =
-    c .refused3 .ensures ∙ sym (ap (λ (a : Answer). saidFor a (c .before .before .before .args .first)) (c .before .enum-told3 .given .1))
+    c .unvisited3 .ensures ∙ sym (ap (λ (a : Answer). saidFor a (c .before .before .before .args .first)) (c .before .enum-told3 .given .1))
 
 returns-5 : tie.Need-returns-5
 unfolding saidFor
 returns-5 c =
-    c .refused4 .ensures ∙ sym (ap (λ (a : Answer). saidFor a (c .before .before .before .args .first)) (c .before .enum-told4 .given .1))
+    c .unvisited4 .ensures ∙ sym (ap (λ (a : Answer). saidFor a (c .before .before .before .args .first)) (c .before .enum-told4 .given .1))
 
 returns-6 : tie.Need-returns-6
 unfolding saidFor
@@ -80,7 +77,7 @@ returns-7 c = sym (ap (λ (a : Answer). saidFor a (c .before .before .before .ar
 returns-8 : tie.Need-returns-8
 unfolding saidFor
 returns-8 c =
-    c .refused5 .ensures ∙ sym (ap (λ (a : Answer). saidFor a (c .before .before .before .before .args .first)) (c .before .before .a4 .given .1))
+    sym (ap (λ (a : Answer). saidFor a (c .before .before .before .args .first)) (c .before .a4 .given .1))
 
 pub said-for-spec : {M : Type 1} → statement M
 said-for-spec =
@@ -88,17 +85,16 @@ said-for-spec =
     (tie.spec
     enum-known-a
     enum-told
-    refused-requires
+    unvisited-requires
     enum-told-2
-    refused-requires-2
+    unvisited-requires-2
     enum-told-3
-    refused-requires-3
+    unvisited-requires-3
     enum-told-4
-    refused-requires-4
+    unvisited-requires-4
     enum-known-a-2
     enum-known-a-3
     enum-known-a-4
-    refused-requires-5
     returns
     returns-2
     returns-3
