@@ -1,14 +1,11 @@
 -- `search::how_many` meets its contract: it says what a search with a list of two entries, room for one place, answers.
-use Prim.Native.Nat.{ℕ}
-use mathlib.Core.Path.{ap, ap₂, _∙_}
+use mathlib.Core.Path.{_≡_, ap, ap₂, _∙_}
 use mathlib.Core.List.{List, [], _∷_}
 use lib.IntN.{ℤ}
 use mir.Syntax.{w64}
+use mir.Val.{toZ, ofZ}
 use mir.ValLaws.{toZ-ofZ}
-use Rattle.chart.specs.declared.Chain.{Chain}
-use Rattle.search.specs.declared.Window.{Window}
-use Rattle.search.specs.declared.HowMany.{HowMany}
-use Rattle.search.specs.Answers.{searchLeft}
+use Rattle.search.specs.Answers.{SearchLeft, searchLeft}
 use Rattle.search.specs.Counts.{saidFor}
 use Rattle.search.proofs.CountLaws.{placeAhead, said-of-two}
 use borrow.Author.Needs.{needs}
@@ -30,20 +27,45 @@ array-read-t17 c = search needs
 said-for-requires : tie.Need-said-for-requires
 said-for-requires c κs = search needs
 
+-- The search with a list of two entries, room for one place.
+abbrev left : tie.Start → List ℤ → SearchLeft
+left o readings =
+    let a = o .args in
+    searchLeft (a .c) readings (a .w) (a .tolerance) (a .allowance) 2
+
+-- The readings, as the machine reads them back from their bits, and as they were given.
+abbrev read : tie.Start → List ℤ
+read o = toZ w64 (ofZ w64 (o .args .ra)) ∷ toZ w64 (ofZ w64 (o .args .rb)) ∷ []
+
+abbrev given : tie.Start → List ℤ
+given o = o .args .ra ∷ o .args .rb ∷ []
+
+read-back : (o : tie.Start) → read o ≡ given o
+read-back o = ap₂ (λ (x y : ℤ). x ∷ y ∷ []) (toZ-ofZ w64 (o .args .ra) (o .fits .ra)) (toZ-ofZ w64 (o .args .rb) (o .fits .rb))
+
+answered : (c : tie.After-search) → let o = c .before .before in c .search .result ≡ left o (given o) .answer
+answered c =
+    let o = c .before .before in
+    let told : c .search .result ≡ left o (read o) .answer = c .search .ensures .0 in
+    told ∙ ap (λ (l : List ℤ). left o l .answer) (read-back o)
+
+listed : (c : tie.After-search) → let o = c .before .before in c .search .last .0 ≡ left o (given o) .list
+listed c =
+    let o = c .before .before in
+    let told : c .search .last .0 ≡ left o (read o) .list = c .search .ensures .1 in
+    told ∙ ap (λ (l : List ℤ). left o l .list) (read-back o)
+
+-- What is said of it, with the place that its list begins with.
+said : (c : tie.After-said-for) → let found = c .before .before .search in c .said-for .result ≡ saidFor (found .result) (placeAhead (found .last .0))
+said c = c .said-for .ensures
+
 returns : tie.Need-returns
 returns c =
     let call = c .before .before in
-    let o = call .before .before in
-    let a = o .args in
-    c .said-for .ensures
-    ∙ ap₂ saidFor (call .search .ensures .0) (ap placeAhead (call .search .ensures .1))
-    ∙ ap₂ (λ (x y : ℤ). said (a .c) (x ∷ y ∷ []) (a .w) (a .tolerance) (a .allowance)) (toZ-ofZ w64 (a .ra) (o .fits .ra)) (toZ-ofZ w64 (a .rb) (o .fits .rb))
+    let a = call .before .before .args in
+    said c
+    ∙ ap₂ saidFor (answered call) (ap placeAhead (listed call))
     ∙ said-of-two (a .c) (a .ra ∷ a .rb ∷ []) (a .w) (a .tolerance) (a .allowance)
-  where
-    said : Chain → List ℤ → Window → ℕ → ℕ → HowMany
-    said c readings w tolerance allowance =
-        let left = searchLeft c readings w tolerance allowance 2 in
-        saidFor (left .answer) (placeAhead (left .list))
 
 pub how-many-spec : {M : Type 1} → statement M
 how-many-spec =
