@@ -54,6 +54,16 @@ LAY_BELOW 3fd8000000000000 38
 LAY_ABOVE 3fc0000000000000 12
 END
 
+# How many places by their names: in P8's window none, in that of one cell one, in P4's several.
+while read -r name window place visits; do
+    pass_if "$name is the answer in the window $window" \
+        same "$(harness <<<"how_many 0,0,30000,0,0,40000 $window,0,100 -10000 -20000")" "0 $(in_header "$name") ${place/,/ } $visits"
+done <<'END'
+LAY_NO_PLACE 30001,40000,0 0,0 1
+LAY_ONE_PLACE 30000,40000,0 30000,40000 1
+LAY_SEVERAL_PLACES 30000,40000,1 0,0 5
+END
+
 # declared: a line for each function of the header, its name and its arguments; symbols: what the library has, by the tool that
 # belongs to its compiler; exported: its functions
 declared() { tr '\n' ' ' <$header | grep -oE 'uint32_t lay_[a-z_]+\([^)]*\);' | sed 's/^uint32_t //'; }
