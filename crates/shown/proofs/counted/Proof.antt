@@ -1,8 +1,9 @@
 -- `shown::counted` meets its contract: the table is tested first, then the job, then the question is put.
-use mathlib.Core.Path.{sym, ap, ap₂, _∙_}
+use mathlib.Core.Path.{_≡_, sym, ap, ap₂, _∙_}
 use mathlib.Core.List.{[], _∷_}
 use lib.IntN.{ℤ}
 use mir.Syntax.{w64}
+use mir.Val.{toZ, ofZ}
 use mir.ValLaws.{toZ-ofZ}
 use Rattle.chart.specs.declared.Chain.{Chain}
 use Rattle.records.specs.declared.ChainCount.{ChainCount}
@@ -43,6 +44,14 @@ chain-or-none-requires c κs = search needs
 many-by-requires : tie.Need-many-by-requires
 many-by-requires c κs = search needs
 
+-- What is asked if the table is accepted, with the readings as the machine reads them back from their bits.
+asked : (c : tie.After-many-by) →
+    let chain = c .before in
+    let formed = chain .before .before in
+    let a = formed .before .before .before .before .before .before .args in
+    c .many-by .result ≡ manyBy (formed .formed-job .result) (chain .chain-or-none .result) (toZ w64 (ofZ w64 (a .a)) ∷ toZ w64 (ofZ w64 (a .b)) ∷ [])
+asked c = c .many-by .ensures
+
 returns-2 : tie.Need-returns-2
 unfolding manyIn
 returns-2 c =
@@ -53,7 +62,7 @@ returns-2 c =
     let count = told .before .before in
     let start = count .before .before .before in
     let a = start .args in
-    c .many-by .ensures
+    asked c
     ∙ ap₂ (λ (x y : ℤ). manyBy (formed .formed-job .result) (chain .chain-or-none .result) (x ∷ y ∷ [])) (toZ-ofZ w64 (a .a) (start .fits .a)) (toZ-ofZ w64 (a .b) (start .fits .b))
     ∙ ap₂ (λ (j : JobAnswer) (x : Chain). manyBy j x (a .a ∷ a .b ∷ [])) (formed .formed-job .ensures) (chain .chain-or-none .ensures ∙ ap chainOrNone (named .chain-of .ensures))
     ∙ ap (λ (n : ChainCount). manyIn n (formedJobOf (a .job .now)) (chainOf (a .table .now) (a .chain)) (a .a ∷ a .b ∷ [])) (sym (told .enum-told .given .1) ∙ count .chain-count .ensures)

@@ -1,8 +1,8 @@
 -- `shown::how_many` meets its contract: the line of each answer, or the number of the refusal.
-use Prim.Native.Nat.{_≤_}
+use Prim.Native.Nat.{ℕ, _≤_}
 use mathlib.Core.Path.{_≡_, sym, ap, ap₂, _∙_}
 use mathlib.Core.Bool.{true}
-use mathlib.Core.List.{[], _∷_}
+use mathlib.Core.List.{List, [], _∷_}
 use native.Mathlib.Omega.{arith}
 use borrow.Author.Tests.{not-true, not-false, leb-true}
 use lib.IntN.{ℤ}
@@ -10,8 +10,9 @@ use lib.ListN.{length}
 use mir.Syntax.{w64}
 use mir.ValLaws.{toZ-ofZ}
 use Rattle.text.specs.Texts.{bytesIn}
-use Rattle.shown.specs.Counted.{countedIn, manyReply}
-use Rattle.shown.specs.Rooms.{Reply, lineFor, bufferFor, hasLineRoom, inRoom}
+use Rattle.shown.specs.declared.Line.{Line}
+use Rattle.shown.specs.Counted.{countedIn, manyLine, manyReply}
+use Rattle.shown.specs.Rooms.{Reply, Says, lineFor, bufferFor, hasLineRoom, inRoom, shownIn}
 use Rattle.shown.proofs.ShownLaws.{with-room, without-room}
 use borrow.Author.Needs.{needs}
 use Rattle.shown.proofs.how_many.Statement.{statement}
@@ -34,6 +35,39 @@ asked c =
     let a = o .args in
     ap manyReply (c .counted .ensures)
     ∙ ap₂ (λ (x y : ℤ). manyReply (countedIn (a .table .now) (a .job .now) (a .chain) (x ∷ y ∷ []))) (toZ-ofZ w64 (a .a) (o .fits .a)) (toZ-ofZ w64 (a .b) (o .fits .b))
+
+-- A line that was put, with its answer.
+abbrev IsLine : List ℕ → List ℕ → Line → List ℕ → Type 0
+IsLine out text r after =
+    let shown = shownIn out 0 (Says text) in
+    (r ≡ shown .answer) × (after ≡ shown .buffer)
+
+-- It is what is answered, if it is the line of the answer.
+with-reply : (out text : List ℕ) (reply : Reply) {r : Line} {after : List ℕ} → Says text ≡ reply → IsLine out text r after →
+    (r ≡ lineFor (inRoom (length out) 0 reply)) × (after ≡ bufferFor out (inRoom (length out) 0 reply))
+with-reply out text reply e p = (
+  p .0 ∙ ap (λ (x : Reply). lineFor (inRoom (length out) 0 x)) e,
+  p .1 ∙ ap (λ (x : Reply). bufferFor out (inRoom (length out) 0 x)) e,
+)
+
+-- The lines that are put.
+none-put : (c : tie.After-put-many) →
+    let known = c .before .before .before .before .before in
+    IsLine (known .before .before .before .before .before .before .before .before .args .out .now) (manyLine (bytesIn "NONE") (known .visits .given .0 .0 ∷ [])) (c .put-many .result) (c .put-many .last .0)
+unfolding bytesIn
+none-put c = c .put-many .ensures
+
+one-put : (c : tie.After-put-many2) →
+    let known = c .before .before .before .before .before .before .before in
+    IsLine (known .before .before .before .before .before .before .before .before .args .out .now) (manyLine (bytesIn "ONE") (known .place .given .0 .1 .0 ∷ known .place .given .0 .0 .easting ∷ known .place .given .0 .0 .northing ∷ [])) (c .put-many2 .result) (c .put-many2 .last .0)
+unfolding bytesIn
+one-put c = c .put-many2 .ensures
+
+several-put : (c : tie.After-put-many3) →
+    let known = c .before .before .before .before .before in
+    IsLine (known .before .before .before .before .before .before .before .before .args .out .now) (manyLine (bytesIn "SEVERAL") (known .visits2 .given .0 .0 ∷ [])) (c .put-many3 .result) (c .put-many3 .last .0)
+unfolding bytesIn
+several-put c = c .put-many3 .ensures
 
 returns : tie.Need-returns
 returns c =
@@ -92,40 +126,34 @@ same-length : tie.Need-same-length
 same-length c = search needs
 
 returns-2 : tie.Need-returns-2
-unfolding manyReply bytesIn
+unfolding manyReply
 returns-2 c =
     let put = c .before .before in
     let known = put .before .before .before .before .before in
     let read = known .before .before in
-    let out = read .before .before .before .before .before .before .args .out .now in
-    let reply = ap manyReply (sym (known .visits .given .1)) ∙ asked read in
-    (put .put-many .ensures .0 ∙ ap (λ (r : Reply). lineFor (inRoom (length out) 0 r)) reply, put .put-many .ensures .1 ∙ ap (λ (r : Reply). bufferFor out (inRoom (length out) 0 r)) reply)
+    with-reply _ _ _ (ap manyReply (sym (known .visits .given .1)) ∙ asked read) (none-put put)
 
 same-length-2 : tie.Need-same-length-2
 same-length-2 c = search needs
 
 returns-3 : tie.Need-returns-3
-unfolding manyReply bytesIn
+unfolding manyReply
 returns-3 c =
     let put = c .before .before in
     let known = put .before .before .before .before .before .before .before in
     let read = known .before .before in
-    let out = read .before .before .before .before .before .before .args .out .now in
-    let reply = ap manyReply (sym (known .place .given .1)) ∙ asked read in
-    (put .put-many2 .ensures .0 ∙ ap (λ (r : Reply). lineFor (inRoom (length out) 0 r)) reply, put .put-many2 .ensures .1 ∙ ap (λ (r : Reply). bufferFor out (inRoom (length out) 0 r)) reply)
+    with-reply _ _ _ (ap manyReply (sym (known .place .given .1)) ∙ asked read) (one-put put)
 
 same-length-3 : tie.Need-same-length-3
 same-length-3 c = search needs
 
 returns-4 : tie.Need-returns-4
-unfolding manyReply bytesIn
+unfolding manyReply
 returns-4 c =
     let put = c .before .before in
     let known = put .before .before .before .before .before in
     let read = known .before .before in
-    let out = read .before .before .before .before .before .before .args .out .now in
-    let reply = ap manyReply (sym (known .visits2 .given .1)) ∙ asked read in
-    (put .put-many3 .ensures .0 ∙ ap (λ (r : Reply). lineFor (inRoom (length out) 0 r)) reply, put .put-many3 .ensures .1 ∙ ap (λ (r : Reply). bufferFor out (inRoom (length out) 0 r)) reply)
+    with-reply _ _ _ (ap manyReply (sym (known .visits2 .given .1)) ∙ asked read) (several-put put)
 
 returns-5 : tie.Need-returns-5
 unfolding manyReply lineFor bufferFor
