@@ -1,9 +1,10 @@
 -- `lay::asked_for` meets its contract: the readings are counted, then read.
-use mathlib.Core.Path.{ap, ap₂, _∙_}
+use mathlib.Core.Path.{_≡_, ap, ap₂, _∙_}
 use mathlib.Core.List.{List, [], _∷_}
 use lib.IntN.{ℤ, pos}
 use lib.ListN.{length, getD}
 use mir.Syntax.{w64}
+use mir.Val.{toZ, ofZ}
 use mir.ValLaws.{toZ-ofZ}
 use borrow.Author.Tests.{eq-eqb, ne-eqb}
 use Rattle.records.specs.Jobs.{manyBy}
@@ -37,12 +38,14 @@ returns-2 c =
     let d = first .before .before .args in
     let l = d .readings .now in
     let whole = first .before .if1 .left in
+    let told : c .many-by .result ≡ manyBy (d .job) (d .c) (toZ w64 (ofZ w64 (getD l 0 (pos 0))) ∷ toZ w64 (ofZ w64 (getD l 1 (pos 0))) ∷ []) =
+    c .many-by .ensures in
     let same =
     ap₂ (λ (a b : ℤ). manyBy (d .job) (d .c) (a ∷ b ∷ []))
     (toZ-ofZ w64 (getD l 0 (pos 0)) (record { sfits = search (needs, first .a .given) }))
     (toZ-ofZ w64 (getD l 1 (pos 0)) (record { sfits = search (needs, second .b .given) }))
     ∙ ap (λ (x : List ℤ). manyBy (d .job) (d .c) x) (two-read l whole) in
-    rw (eq-eqb (length l) chainReadings whole) (c .many-by .ensures ∙ same)
+    rw (eq-eqb (length l) chainReadings whole) (told ∙ same)
 
 pub asked-for-spec : {M : Type 1} → statement M
 asked-for-spec =

@@ -1,5 +1,6 @@
 -- `lay::many_figures` meets its contract, case by case.
-use mathlib.Core.Path.{sym, ap, _∙_}
+use mathlib.Core.Path.{_≡_, sym, ap, _∙_}
+use Rattle.search.specs.declared.HowMany.the-variants as many
 use Rattle.lay.specs.Figures.{manyFigures}
 use borrow.Author.Needs.{needs}
 use Rattle.lay.proofs.many_figures.Statement.{statement}
@@ -29,21 +30,34 @@ enum-known-m-4 c = search needs
 many-told-requires-4 : tie.Need-many-told-requires-4
 many-told-requires-4 c κs = search needs
 
-returns : tie.Need-returns
+-- What is told for each answer.
+none-told : (c : tie.After-many-told) → c .many-told .result ≡ manyFigures (many.None (c .before .before .m .given .0 .0))
 unfolding manyFigures
-returns c = c .many-told .ensures ∙ sym (ap manyFigures (c .before .before .m .given .1))
+none-told c = c .many-told .ensures
+
+one-told : (c : tie.After-many-told2) → c .many-told2 .result ≡ manyFigures (many.One (c .before .before .m2 .given .0 .0) (c .before .before .m2 .given .0 .1 .0))
+unfolding manyFigures
+one-told c = c .many-told2 .ensures
+
+several-told : (c : tie.After-many-told3) → c .many-told3 .result ≡ manyFigures (many.Several (c .before .before .m3 .given .0 .0))
+unfolding manyFigures
+several-told c = c .many-told3 .ensures
+
+refused-told : (c : tie.After-many-told4) → c .many-told4 .result ≡ manyFigures (many.Refused (c .before .before .m4 .given .0 .0) (c .before .before .m4 .given .0 .1 .0))
+unfolding manyFigures
+refused-told c = c .many-told4 .ensures
+
+returns : tie.Need-returns
+returns c = none-told c ∙ sym (ap manyFigures (c .before .before .m .given .1))
 
 returns-2 : tie.Need-returns-2
-unfolding manyFigures
-returns-2 c = c .many-told2 .ensures ∙ sym (ap manyFigures (c .before .before .m2 .given .1))
+returns-2 c = one-told c ∙ sym (ap manyFigures (c .before .before .m2 .given .1))
 
 returns-3 : tie.Need-returns-3
-unfolding manyFigures
-returns-3 c = c .many-told3 .ensures ∙ sym (ap manyFigures (c .before .before .m3 .given .1))
+returns-3 c = several-told c ∙ sym (ap manyFigures (c .before .before .m3 .given .1))
 
 returns-4 : tie.Need-returns-4
-unfolding manyFigures
-returns-4 c = c .many-told4 .ensures ∙ sym (ap manyFigures (c .before .before .m4 .given .1))
+returns-4 c = refused-told c ∙ sym (ap manyFigures (c .before .before .m4 .given .1))
 
 pub many-figures-spec : {M : Type 1} → statement M
 many-figures-spec =
