@@ -53,8 +53,8 @@ visitsOf rule (suc k) p =
     1 + whereSo (isKept rule k p) 0
     (λ _. visitsOf rule k p + (visitsOf rule k (east (2 ^ k) p) + (visitsOf rule k (north (2 ^ k) p) + visitsOf rule k (northEast (2 ^ k) p))))
 
--- The visits that a square takes up to and with its cell o: one, those of the quarters before the one that o lies in, and those in
--- that quarter up to and with o.
+-- The visits that a square takes up to and with its cell o, if no square around o is dropped, as none is around a cell that matches:
+-- one, those of the quarters before the one that o lies in, and those in that quarter up to and with o.
 unfoldable pub visitsTo : Rule → ℕ → Place → Place → ℕ
 visitsTo rule zero p o = 1
 visitsTo rule (suc k) p o =

@@ -41,18 +41,19 @@ howManyOf rule w allowance =
     let o = searchOf (forOne rule allowance) w in
     saidFor (o .answer) (firstOf (o .places))
 
--- The same said without a walk: how many a list of places has; the visits that decide it, up to and with the second matching cell or,
--- if there is none, all; and the answer by the allowance.
+-- The same said without a walk, in three steps. How many places a list has:
 abbrev pub countOf : List Place → ℕ → HowMany
 countOf [] visits = None visits
 countOf (p ∷ []) visits = One p visits
 countOf (p ∷ o ∷ ps) visits = Several visits
 
+-- The visits that decide it, for the matching cells of a window in chart order: up to and with the second, or all if there is none.
 abbrev pub decidingVisits : Rule → Window → List Place → ℕ
 decidingVisits rule w [] = visitsIn rule w
 decidingVisits rule w (p ∷ []) = visitsIn rule w
 decidingVisits rule w (p ∷ o ∷ ps) = visitsTo rule (w .k) (w .corner) o
 
+-- The count, if the allowance covers these visits; else 10, with all of the allowance used.
 abbrev pub decidedBy : Rule → Window → ℕ → HowMany
 decidedBy rule w allowance =
     let visits = decidingVisits rule w (matchingIn rule w) in
