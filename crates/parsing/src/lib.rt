@@ -410,10 +410,10 @@ fn in_question(i: usize) -> Taken
 fn in_readings(i: usize) -> Taken
     ensures { λ r. ⌜ r ≡ takenFor forms.Readings i ⌝ }
 {
-    if i == 0 {
-        return Taken::Number;
+    if i > 0 {
+        return Taken::Reading;
     }
-    Taken::Reading
+    Taken::Number
 }
 
 fn is_form(s: &[u8], form: Form) -> bool

@@ -189,12 +189,9 @@ fn counted(table: &[u8], job: &[u8], chain: u32, a: i64, b: i64) -> HowMany
     if let ChainCount::Refused(number) = records::chain_count(table) {
         return HowMany::Refused { number, visits: 0 };
     }
-    records::many_by(
-        records::formed_job(job),
-        chain_or_none(records::chain_of(table, chain)),
-        a,
-        b,
-    )
+    let formed = records::formed_job(job);
+    let c = chain_or_none(records::chain_of(table, chain));
+    records::many_by(formed, c, a, b)
 }
 
 // The chain, or if there is none three stations on one spot, which the search refuses with 5 when its turn comes.
