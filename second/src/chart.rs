@@ -159,6 +159,13 @@ pub mod tests {
         b: Place { easting: 0, northing: 40000 },
     };
 
+    /// The chain of source document 002.
+    pub const CHAIN_002: Chain = Chain {
+        master: Place { easting: 50000000, northing: 500000000 },
+        a: Place { easting: 40000000, northing: 490000000 },
+        b: Place { easting: 60000000, northing: 500000000 },
+    };
+
     fn at(easting: u32, northing: u32) -> (i64, i64) {
         let found = expected(&CHAIN_1, place(easting, northing)).unwrap();
         (found.a, found.b)

@@ -164,7 +164,7 @@ pub fn how_many(chain: &Chain, wanted: Readings, job: &Job) -> Answer {
 #[cfg(test)]
 mod tests {
     use super::*;
-    use crate::chart::tests::CHAIN_1;
+    use crate::chart::tests::{CHAIN_002, CHAIN_1};
     use crate::chart::{MOST_EASTING, MOST_NORTHING};
     use crate::pieces;
     use crate::random::Random;
@@ -250,19 +250,14 @@ mod tests {
 
     #[test]
     fn published_crossings() {
-        let chain = Chain {
-            master: chart::place(50000000, 500000000),
-            a: chart::place(40000000, 490000000),
-            b: chart::place(60000000, 500000000),
-        };
         let wanted = Readings { a: 12205441, b: 9172617 };
         let job = Job { corner: chart::place(47499999, 497945629), k: 24, ..P4 };
-        let figures = figures(&chain, wanted, &job, 10_000);
+        let figures = figures(&CHAIN_002, wanted, &job, 10_000);
         assert_eq!((figures.visits, figures.whole, figures.matches.len()), (2753, true, 3));
         let second = figures.matches[1].0;
-        assert_eq!(how_many(&chain, wanted, &job), Ok((Count::Several, second)));
-        assert_eq!(how_many(&chain, wanted, &Job { allowance: second, ..job }), Ok((Count::Several, second)));
-        assert_eq!(how_many(&chain, wanted, &Job { allowance: second - 1, ..job }), Err((10, second - 1)));
+        assert_eq!(how_many(&CHAIN_002, wanted, &job), Ok((Count::Several, second)));
+        assert_eq!(how_many(&CHAIN_002, wanted, &Job { allowance: second, ..job }), Ok((Count::Several, second)));
+        assert_eq!(how_many(&CHAIN_002, wanted, &Job { allowance: second - 1, ..job }), Err((10, second - 1)));
     }
 
     #[test]

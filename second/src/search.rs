@@ -154,7 +154,7 @@ pub fn full_allowance(k: u32) -> u64 {
 #[cfg(test)]
 mod tests {
     use super::*;
-    use crate::chart::tests::CHAIN_1;
+    use crate::chart::tests::{CHAIN_002, CHAIN_1};
 
     const P4: Job = Job { corner: Place { easting: 30000, northing: 40000 }, k: 1, tolerance: 0, allowance: u64::MAX };
     const WANTED: Readings = Readings { a: -10000, b: -20000 };
@@ -224,13 +224,8 @@ mod tests {
 
     #[test]
     fn published_crossings() {
-        let chain = Chain {
-            master: chart::place(50000000, 500000000),
-            a: chart::place(40000000, 490000000),
-            b: chart::place(60000000, 500000000),
-        };
         let job = Job { corner: chart::place(47499999, 497945629), k: 24, ..P4 };
-        let found = search(&chain, Readings { a: 12205441, b: 9172617 }, &job, 256);
+        let found = search(&CHAIN_002, Readings { a: 12205441, b: 9172617 }, &job, 256);
         assert_eq!(found.visits, 2753);
         let places = [(49810530, 498945629), (48500000, 502000000), (48500000, 502000001)];
         assert_eq!(found.places, places.map(|(east, north)| chart::place(east, north)));
