@@ -3,7 +3,8 @@ ghost use mathlib.Core.Path.{_≡_};
 ghost use mathlib.Core.Bool.{true};
 ghost use Prim.Native.Nat.{_<_, _^_};
 ghost use lib.IntN.{subℕ};
-ghost use Rattle.chart.specs.Places.{inRange, samePlace, apart};
+ghost use Rattle.chart.specs.Places.{inRange, samePlace, apart, distanceOf};
+ghost use Rattle.chart.specs.Factors.{isFactor, onGround};
 ghost use Rattle.chart.specs.Chains.{stationsOf, allInRange, noTwoEqual, isSound};
 ghost use Rattle.chart.specs.Readings.{rangeOf, expectedAt, saidBy, figuresOf};
 
@@ -13,11 +14,12 @@ pub struct Place {
     pub northing: u32,
 }
 
-// The stations of a chain: the master, and the slaves A and B.
+// The stations of a chain, the master and the slaves A and B, and its scale factor in millionths.
 pub struct Chain {
     pub master: Place,
     pub a: Place,
     pub b: Place,
+    pub factor: u32,
 }
 
 // The readings expected at a place, or the number of the refusal in 01's table.
@@ -37,6 +39,13 @@ const MOST_EASTING: u32 = 100_000_000;
 
 const MOST_NORTHING: u32 = 1_000_000_000;
 
+// The factor with which ground and grid are the same length, and the ends of what is allowed.
+pub const UNIT_FACTOR: u32 = 1_000_000;
+
+const LEAST_FACTOR: u32 = 999_000;
+
+const MOST_FACTOR: u32 = 1_001_000;
+
 // Whether a place is in range.
 pub fn in_range(p: Place) -> bool
     ensures { λ r. ⌜ r ≡ inRange p ⌝ }
@@ -47,10 +56,23 @@ pub fn in_range(p: Place) -> bool
     p.northing <= MOST_NORTHING
 }
 
-// Whether a chain is sound: all its stations in range, and no two of them equal.
+// Whether a scale factor is allowed.
+pub fn is_factor(f: u32) -> bool
+    ensures { λ r. ⌜ r ≡ isFactor f ⌝ }
+{
+    if f < LEAST_FACTOR {
+        return false;
+    }
+    f <= MOST_FACTOR
+}
+
+// Whether a chain is sound: its factor is allowed, all its stations are in range, and no two of them are equal.
 pub fn sound(c: Chain) -> bool
     ensures { λ r. ⌜ r ≡ isSound c ⌝ }
 {
+    if !is_factor(c.factor) {
+        return false;
+    }
     if !all_in_range(c) {
         return false;
     }
@@ -124,10 +146,26 @@ fn same(p: Place, q: Place) -> bool
     p.northing == q.northing
 }
 
-// The range from a place to a station of a chain. Both squares fit, since both places are in range.
+// The range from a place to a station of a chain.
 fn range(c: Chain, p: Place, station: Place) -> u64
+    requires { ⌜ (isFactor (c .factor) ≡ true) × (inRange p ≡ true) × (inRange station ≡ true) ⌝ }
+    ensures { λ r. ⌜ (r ≡ rangeOf c p station) × (r < 2 ^ 31) ⌝ }
+{
+    on_ground(c.factor, distance(p, station))
+}
+
+// How long a distance of the grid is on the ground.
+fn on_ground(factor: u32, d: u64) -> u64
+    requires { ⌜ (isFactor factor ≡ true) × (d < 2 ^ 30) ⌝ }
+    ensures { λ r. ⌜ (r ≡ onGround factor d) × (r < 2 ^ 31) ⌝ }
+{
+    d * UNIT_FACTOR as u64 / factor as u64
+}
+
+// Both squares fit, since both places are in range.
+fn distance(p: Place, station: Place) -> u64
     requires { ⌜ (inRange p ≡ true) × (inRange station ≡ true) ⌝ }
-    ensures { λ r. ⌜ (r ≡ rangeOf c p station) × (r < 2 ^ 30) ⌝ }
+    ensures { λ r. ⌜ (r ≡ distanceOf p station) × (r < 2 ^ 30) ⌝ }
 {
     let e = gap(p.easting, station.easting);
     let n = gap(p.northing, station.northing);
