@@ -13,7 +13,7 @@ use Rattle.chart.specs.Places.{inRange}
 use Rattle.chart.specs.Chains.{isSound}
 use Rattle.chart.specs.Readings.{Wanted, wantedOf}
 use Rattle.chart.proofs.PlaceLaws.{both}
-use Rattle.chart.proofs.ChainLaws.{stations-in-range}
+use Rattle.chart.proofs.ChainLaws.{factor-allowed, stations-in-range}
 use Rattle.search.specs.declared.Wish.{Wish}
 use Rattle.search.specs.declared.Hunt.{Hunt}
 use Rattle.search.specs.Questions.{Question, questionOf, mostReading, mostTolerance, noneTooLarge}
@@ -41,12 +41,12 @@ both-small c ra rb e =
 module _ (c : Chain) (ra rb : ℤ) (tolerance allowance room : ℕ) (a b : Wish) (ea : a ≡ wishOf (c .a) ra) (eb : b ≡ wishOf (c .b) rb) where
   -- The hunt that is made.
   abbrev pub made : Hunt
-  made = record { master = c .master; a = a; b = b; tolerance = tolerance; allowance = allowance; room = room }
+  made = record { factor = c .factor; master = c .master; a = a; b = b; tolerance = tolerance; allowance = allowance; room = room }
 
   -- It asks what the readings ask.
   pub asks : (entries : ℕ) → room ≡ entries / 2 → questionBy made ≡ questionOf c (ra ∷ rb ∷ []) tolerance allowance entries
   asks entries e =
-      ap₂ (λ (x y : Wish). questionBy (record { master = c .master; a = x; b = y; tolerance = tolerance; allowance = allowance; room = room })) ea eb
+      ap₂ (λ (x y : Wish). questionBy (record { factor = c .factor; master = c .master; a = x; b = y; tolerance = tolerance; allowance = allowance; room = room })) ea eb
       ∙ ap₂ (λ (x y : Wanted). question (x ∷ y ∷ []) room) (wanted-again (c .a) ra) (wanted-again (c .b) rb)
       ∙ ap (question (wantedOf c (ra ∷ rb ∷ []))) e
     where
@@ -63,6 +63,7 @@ module _ (c : Chain) (ra rb : ℤ) (tolerance allowance room : ℕ) (a b : Wish)
       let stations = stations-in-range c sound in
       let sizes = both-small c ra rb small in
       record {
+        factor = factor-allowed c sound;
         master = stations .0;
         a = subst⁻¹ Fair ea (fair-wish (c .a) ra (stations .1 .0) (sizes .0));
         b = subst⁻¹ Fair eb (fair-wish (c .b) rb (stations .1 .1 .0) (sizes .1));

@@ -29,6 +29,8 @@ use Rattle.search.proofs.AnswerLaws.{ended-out, search-walks}
 use Rattle.search.proofs.Whole.{going, whole}
 use Rattle.search.proofs.Limits.{bounded}
 use Rattle.search.proofs.Raising.{ten-by-more}
+use Rattle.chart.proofs.ChainLaws.{factor-allowed}
+use Rattle.search.proofs.Dropping.{Allowed}
 use Rattle.search.proofs.Filling.{fills, to-few}
 use Rattle.search.proofs.Outcomes.{walk, Fails, tested}
 
@@ -58,10 +60,10 @@ said o = saidFor (o .answer) (firstOf (o .places))
 none-before : (v : ℕ) → 0 + v ≡ v
 none-before v = omega arith
 
-module _ (rule : Rule) (w : Window) where
+module _ (rule : Rule) (w : Window) (allowed : Allowed rule) where
   -- A walk with allowance for all its visits and at most one matching cell goes to its end.
   goes : (m : ℕ) → visitsIn rule w ≤ m → length (matchingIn rule w) ≤ 1 → walk (forOne rule m) w ≡ going (matchingIn rule w) (0 + visitsIn rule w)
-  goes m h few = whole (forOne rule m) (w .k) (w .corner) [] 0 (omega (arith, h)) (omega (arith, few))
+  goes m h few = whole (forOne rule m) (w .k) (w .corner) allowed [] 0 (omega (arith, h)) (omega (arith, few))
 
   -- With an allowance for the visits that decide, the walk makes just these, and says how many cells match.
   decides : (m : ℕ) (ms : List Place) → matchingIn rule w ≡ ms → decidingVisits rule w ms ≤ m →
@@ -74,7 +76,7 @@ module _ (rule : Rule) (w : Window) where
       let end = goes m h (omega (arith, ap length e)) in
       (ap (λ (s : Standing). s .visits) end ∙ none-before _, ap (λ (s : Standing). said (ended s)) end ∙ ap₂ (λ (l : List Place) (v : ℕ). said (gone l v)) e (none-before _))
   decides m (p ∷ o ∷ ps) e h =
-      let end = fills (forOne rule m) (w .k) (w .corner) .over [] (p ∷ []) ps o 0 e refl (omega (arith, h)) in
+      let end = fills (forOne rule m) allowed (w .k) (w .corner) .over [] (p ∷ []) ps o 0 e refl (omega (arith, h)) in
       (ap (λ (s : Standing). s .visits) end ∙ none-before _, ap (λ (s : Standing). said (ended s)) end ∙ ap Several (none-before _))
 
   -- With less, the allowance stops it.
@@ -91,7 +93,7 @@ module _ (rule : Rule) (w : Window) where
       go [] e = omega arith
       go (p ∷ []) e = omega arith
       go (p ∷ o ∷ ps) e =
-          to-few rule (w .k) (w .corner) o (subst⁻¹ (IsListed o) e (List·Memᴰ·tail (List·Memᴰ·head refl)))
+          to-few rule (w .k) (w .corner) o allowed (subst⁻¹ (IsListed o) e (List·Memᴰ·tail (List·Memᴰ·head refl)))
 
 -- How it ends: a test before the walk fails; no cell matches, one or several; or the allowance ends before that is decided.
 pub data Counting (rule : Rule) (w : Window) (n : ℕ) : HowMany → Type 0 where
@@ -131,11 +133,11 @@ module _ (rule : Rule) (w : Window) (n : ℕ) where
       go : Dec (decidingVisits rule w (matchingIn rule w) ≤ n) → howManyOf rule w n ≡ decidedBy rule w n
       go (yes h) =
           ap said (search-walks q w a)
-          ∙ decides rule w n (matchingIn rule w) refl h .1
+          ∙ decides rule w (factor-allowed _ (a .chain)) n (matchingIn rule w) refl h .1
           ∙ rw (le-leb (decidingVisits rule w (matchingIn rule w)) n h)
       go (no f) =
           let less = lt-of-not-le f in
-          let ten = short rule w n less in
+          let ten = short rule w (factor-allowed _ (a .chain)) n less in
           ap said (search-walks q w a ∙ ended-out (walk q w) ten)
           ∙ ap (Refused 10) (bounded q (w .k) (w .corner) .all ten)
           ∙ rw (lt-leb (decidingVisits rule w (matchingIn rule w)) n less)

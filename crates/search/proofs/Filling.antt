@@ -15,7 +15,7 @@ use Rattle.search.specs.Walk.{Standing, either, unchanged, visit}
 use Rattle.search.specs.Cells.{matching, visitsOf, visitsTo, IsListed}
 use Rattle.search.proofs.WalkLaws.{visit-after, visit-cell, visit-square, quarters, cell-full}
 use Rattle.search.proofs.CellLaws.{matching-only, matching-square}
-use Rattle.search.proofs.Dropping.{dropped-none}
+use Rattle.search.proofs.Dropping.{Allowed, dropped-none}
 use Rattle.search.proofs.Whole.{going, whole, visits-kept, matching-cell}
 
 -- A walk that was stopped by a full list.
@@ -117,7 +117,7 @@ reached : (rule : Rule) (k : ℕ) (p o : Place) → 1 ≤ visitsTo rule (suc k) 
 unfolding visitsTo
 reached rule k p o = omega arith
 
-module _ (q : Question) where
+module _ (q : Question) (allowed : Allowed (q .rule)) where
   -- A part of a walk with the matching cells ms, each after `to` visits. If ms has a cell o for which there is no room, the part
   -- ends there.
   pub record Fills (part : Standing → Standing) (ms : List Place) (to : Place → ℕ) : Type 0 where
@@ -156,7 +156,7 @@ module _ (q : Question) where
             let long = ap length e ∙ length-append first l in
             let longer = length-append ps first in
             let c : ℕ = visitsOf (q .rule) k r in
-            ap part (whole q k r ps v (omega (arith, most, at)) (omega (arith, room, long)))
+            ap part (whole q k r allowed ps v (omega (arith, most, at)) (omega (arith, room, long)))
             ∙ b .over (ps ++ first) l rest o (v + c) f (omega (arith, room, long, longer)) (omega (arith, most, at))
             ∙ ap₂ fullAt (append-assoc ps first l ∙ ap (λ (x : List Place). ps ++ x) (sym e)) (omega (arith, at))
 
@@ -176,7 +176,7 @@ module _ (q : Question) where
       v + visitsTo (q .rule) (suc k) p o ≤ q .limits .allowance → either b (quarters q k p) unchanged (going ps (v + 1)) ≡ fullAt (ps ++ before) (v + visitsTo (q .rule) (suc k) p o)
   unfolding visitsTo
   square-over k p ih false t ps before rest o v e room most =
-      absurd (List·Memᴰ·not-nil (has before o rest [] (sym (dropped-none (q .rule) k p t) ∙ e)))
+      absurd (List·Memᴰ·not-nil (has before o rest [] (sym (dropped-none (q .rule) k p allowed t) ∙ e)))
   square-over k p ih true t ps before rest o v e room most =
       let third = then k (north (2 ^ k) p) _ _ _ (fromThird (q .rule) k p) (ih (north (2 ^ k) p)) (ih (northEast (2 ^ k) p)) (here-third (q .rule) k p) (past-third (q .rule) k p) in
       let second = then k (east (2 ^ k) p) _ _ _ (fromSecond (q .rule) k p) (ih (east (2 ^ k) p)) third (here-second (q .rule) k p) (past-second (q .rule) k p) in
@@ -197,10 +197,10 @@ module _ (q : Question) where
       }
 
 -- A matching cell is reached within the visits that its square takes, if that holds for the quarters.
-few-in-quarters : (rule : Rule) (k : ℕ) (p o : Place) → ((r : Place) → IsListed o (matching rule k r) → visitsTo rule k r o ≤ visitsOf rule k r) → IsListed o (matching rule (suc k) p) →
+few-in-quarters : (rule : Rule) (k : ℕ) (p o : Place) → Allowed rule → ((r : Place) → IsListed o (matching rule k r) → visitsTo rule k r o ≤ visitsOf rule k r) → IsListed o (matching rule (suc k) p) →
     visitsTo rule (suc k) p o ≤ visitsOf rule (suc k) p
 unfolding visitsTo
-few-in-quarters rule k p o few m = go (isKept rule k p) refl
+few-in-quarters rule k p o allowed few m = go (isKept rule k p) refl
   where
     four : IsListed o (matching rule k p) ⊎ IsListed o (matching rule k (east (2 ^ k) p) ++ (matching rule k (north (2 ^ k) p) ++ matching rule k (northEast (2 ^ k) p)))
     four = List·Memᴰ·append-cases (matching rule k p) (subst (IsListed o) (matching-square rule k p) m)
@@ -221,17 +221,17 @@ few-in-quarters rule k p o few m = go (isKept rule k p) refl
         (List·Memᴰ·append-cases (matching rule k (east (2 ^ k) p)) m)
 
     go : (b : Bool) → isKept rule k p ≡ b → visitsTo rule (suc k) p o ≤ visitsOf rule (suc k) p
-    go false t = absurd (List·Memᴰ·not-nil (subst (IsListed o) (dropped-none rule k p t) m))
+    go false t = absurd (List·Memᴰ·not-nil (subst (IsListed o) (dropped-none rule k p allowed t) m))
     go true t =
         ⊎-elim
         (λ m. omega (arith, visits-kept rule k p t, here-first rule k p o m, few p m))
         (λ m. omega (arith, visits-kept rule k p t, past-first rule k p o m, second m))
         four
 
-pub to-few : (rule : Rule) (k : ℕ) (p o : Place) → IsListed o (matching rule k p) → visitsTo rule k p o ≤ visitsOf rule k p
+pub to-few : (rule : Rule) (k : ℕ) (p o : Place) → Allowed rule → IsListed o (matching rule k p) → visitsTo rule k p o ≤ visitsOf rule k p
 unfolding visitsTo visitsOf
-to-few rule zero p o m = omega arith
-to-few rule (suc k) p o m = few-in-quarters rule k p o (λ r. to-few rule k r o) m
+to-few rule zero p o allowed m = omega arith
+to-few rule (suc k) p o allowed m = few-in-quarters rule k p o allowed (λ r. to-few rule k r o allowed) m
 
 -- A list has an entry at every index below its length.
 entry-at : (n : ℕ) (l : List Place) → n < length l → (before : List Place) × (o : Place) × (rest : List Place) × (l ≡ before ++ (o ∷ rest)) × (length before ≡ n)
@@ -242,8 +242,8 @@ entry-at (suc n) (x ∷ l) h =
     (x ∷ before, o, rest, ap (λ (l : List Place). x ∷ l) e, omega (arith, long))
 
 -- With allowance for its visits but too little room, a walk stops with 9.
-pub too-little-room : (q : Question) (k : ℕ) (p : Place) → visitsOf (q .rule) k p ≤ q .limits .allowance → q .limits .room < length (matching (q .rule) k p) → visit q k p (going [] 0) .stop ≡ 9
-too-little-room q k p a r =
+pub too-little-room : (q : Question) (k : ℕ) (p : Place) → Allowed (q .rule) → visitsOf (q .rule) k p ≤ q .limits .allowance → q .limits .room < length (matching (q .rule) k p) → visit q k p (going [] 0) .stop ≡ 9
+too-little-room q k p allowed a r =
     let (before, o, rest, e, long) = entry-at (q .limits .room) (matching (q .rule) k p) r in
     ap (λ (s : Standing). s .stop)
-    (fills q k p .over [] before rest o 0 e (omega (arith, long)) (omega (arith, a, to-few (q .rule) k p o (has before o rest _ e))))
+    (fills q allowed k p .over [] before rest o 0 e (omega (arith, long)) (omega (arith, a, to-few (q .rule) k p o allowed (has before o rest _ e))))

@@ -13,6 +13,7 @@ use Rattle.search.specs.Questions.{Question, matches, isKept}
 use Rattle.search.specs.Walk.{Standing, either, unchanged, visit}
 use Rattle.search.specs.Cells.{matching, visitsOf}
 use Rattle.search.proofs.WalkLaws.{visit-after, visit-out, visit-cell, visit-square, quarters, cell-missed, cell-full, cell-listed}
+use Rattle.search.proofs.Dropping.{Allowed}
 use Rattle.search.proofs.Whole.{going, after, after-missed, after-listed, after-dropped, after-quarters}
 
 -- A walk that is not stopped after a visit was not stopped before it.
@@ -62,19 +63,19 @@ module _ (q : Question) (p : Place) (ps : List Place) (v : ℕ) where
       ∙ ih ne (((ps ++ matching (q .rule) k p) ++ matching (q .rule) k se) ++ matching (q .rule) k nw) (v + 1 + visitsOf (q .rule) k p + visitsOf (q .rule) k se + visitsOf (q .rule) k nw) (sym (ap (λ (x : Standing). x .stop) g4) ∙ e)
       ∙ after-quarters (q .rule) k p ps v t
 
-  square-finished : (k : ℕ) → ((o : Place) → Finished q k o) → (b : Bool) → isKept (q .rule) k p ≡ b → Dec (q .limits .allowance ≤ v) → visit q (suc k) p (going ps v) .stop ≡ 0 → visit q (suc k) p (going ps v) ≡ after (q .rule) (suc k) p ps v
-  square-finished k ih b t (yes h) e = absurd (covered q (suc k) p ps v e h)
-  square-finished k ih false t (no h) e =
+  square-finished : (k : ℕ) → Allowed (q .rule) → ((o : Place) → Finished q k o) → (b : Bool) → isKept (q .rule) k p ≡ b → Dec (q .limits .allowance ≤ v) → visit q (suc k) p (going ps v) .stop ≡ 0 → visit q (suc k) p (going ps v) ≡ after (q .rule) (suc k) p ps v
+  square-finished k allowed ih b t (yes h) e = absurd (covered q (suc k) p ps v e h)
+  square-finished k allowed ih false t (no h) e =
       visit-square q k p (going ps v) refl (lt-of-not-le h)
       ∙ ap (λ (b : Bool). either b (quarters q k p) unchanged (going ps (v + 1))) t
-      ∙ after-dropped (q .rule) k p ps v t
-  square-finished k ih true t (no h) e =
+      ∙ after-dropped (q .rule) k p ps v allowed t
+  square-finished k allowed ih true t (no h) e =
       let step : visit q (suc k) p (going ps v) ≡ quarters q k p (going ps (v + 1)) =
       visit-square q k p (going ps v) refl (lt-of-not-le h)
       ∙ ap (λ (b : Bool). either b (quarters q k p) unchanged (going ps (v + 1))) t in
       step ∙ quarters-finished k ih t (sym (ap (λ (x : Standing). x .stop) step) ∙ e)
 
 -- The law, for every square.
-pub finished : (q : Question) (k : ℕ) (p : Place) → Finished q k p
-finished q zero p ps v e = cell-finished q p ps v (matches (q .rule) p) refl (decLe (q .limits .allowance) v) (decLe (q .limits .room) (length ps)) e
-finished q (suc k) p ps v e = square-finished q p ps v k (λ o. finished q k o) (isKept (q .rule) k p) refl (decLe (q .limits .allowance) v) e
+pub finished : (q : Question) (k : ℕ) (p : Place) → Allowed (q .rule) → Finished q k p
+finished q zero p allowed ps v e = cell-finished q p ps v (matches (q .rule) p) refl (decLe (q .limits .allowance) v) (decLe (q .limits .room) (length ps)) e
+finished q (suc k) p allowed ps v e = square-finished q p ps v k allowed (λ o. finished q k o allowed) (isKept (q .rule) k p) refl (decLe (q .limits .allowance) v) e

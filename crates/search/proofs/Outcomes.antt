@@ -19,6 +19,7 @@ use Rattle.search.specs.Walk.{Standing, start, visit}
 use Rattle.search.specs.Answers.{Outcome, refused, gone, ended, Accepted, searchOf, searchFigures}
 use Rattle.search.specs.Cells.{matchingIn, visitsIn, AmpleRoom, AmpleAllowance}
 use Rattle.search.proofs.AnswerLaws.{ended-out, ended-full, ended-gone, search-3, search-5, search-6, search-7, search-walks}
+use Rattle.chart.proofs.ChainLaws.{factor-allowed}
 use Rattle.search.proofs.Whole.{whole}
 use Rattle.search.proofs.Finished.{finished}
 use Rattle.search.proofs.Limits.{bounded}
@@ -37,9 +38,9 @@ from-nought n = omega arith
 
 module _ (q : Question) (w : Window) where
   -- A walk that was not stopped has the complete outcome.
-  unstopped : walk q w .stop ≡ 0 → ended (walk q w) ≡ complete q w
-  unstopped e =
-      let done = finished q (w .k) (w .corner) [] 0 e in
+  unstopped : Accepted (q .rule) w → walk q w .stop ≡ 0 → ended (walk q w) ≡ complete q w
+  unstopped a e =
+      let done = finished q (w .k) (w .corner) (factor-allowed _ (a .chain)) [] 0 e in
       ended-gone (walk q w) (λ x. eqb-false 0 10 refl (sym e ∙ x)) (λ x. eqb-false 0 9 refl (sym e ∙ x))
       ∙ ap₂ gone (ap (λ (s : Standing). s .places) done) (ap (λ (s : Standing). s .visits) done ∙ from-nought _)
 
@@ -48,12 +49,12 @@ module _ (q : Question) (w : Window) where
     pub ample-complete : AmpleRoom q w → searchOf q w ≡ complete q w
     ample-complete room =
         search-walks q w a
-        ∙ unstopped (ap (λ (s : Standing). s .stop) (whole q (w .k) (w .corner) [] 0 (omega arith) (omega arith)))
+        ∙ unstopped a (ap (λ (s : Standing). s .stop) (whole q (w .k) (w .corner) (factor-allowed _ (a .chain)) [] 0 (omega arith) (omega arith)))
 
     -- With ample allowance and too little room, it is refused with 9.
     pub short-full : q .limits .room < length (matchingIn (q .rule) w) → searchOf q w ≡ refused (NoRoom (walk q w .visits))
     short-full room =
-        let nine : walk q w .stop ≡ 9 = too-little-room q (w .k) (w .corner) enough room in
+        let nine : walk q w .stop ≡ 9 = too-little-room q (w .k) (w .corner) (factor-allowed _ (a .chain)) enough room in
         search-walks q w a ∙ ended-full (walk q w) (λ x. eqb-false 9 10 refl (sym nine ∙ x)) nine
 
 -- A test before the walk fails, and with which answer: then every search by the rule in the window is refused with it, whatever
@@ -95,8 +96,8 @@ module _ (q : Question) (w : Window) where
   by-stop : Accepted (q .rule) w → (walk q w .stop ≡ 0) ⊎ ((walk q w .stop ≡ 9) ⊎ (walk q w .stop ≡ 10)) → Ending q w (searchOf q w)
   by-stop a (inl z) =
       let most : visitsIn (q .rule) w ≤ q .limits .allowance =
-      omega (arith, bounded q (w .k) (w .corner) .most, ap (λ (s : Standing). s .visits) (finished q (w .k) (w .corner) [] 0 z)) in
-      subst⁻¹ (Ending q w) (search-walks q w a ∙ unstopped q w z) (done a most)
+      omega (arith, bounded q (w .k) (w .corner) .most, ap (λ (s : Standing). s .visits) (finished q (w .k) (w .corner) (factor-allowed _ (a .chain)) [] 0 z)) in
+      subst⁻¹ (Ending q w) (search-walks q w a ∙ unstopped q w a z) (done a most)
   by-stop a (inr (inl n)) =
       subst⁻¹ (Ending q w) (search-walks q w a ∙ ended-full (walk q w) (λ x. eqb-false 9 10 refl (sym n ∙ x)) n)
       (full (walk q w .visits) (bounded q (w .k) (w .corner) .most))

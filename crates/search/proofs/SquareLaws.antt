@@ -43,8 +43,8 @@ module _ (k side : ℕ) (p : Place) (w : OnChart k side p) where
         (omega (arith, half-is, doubled, some, w .side-is, w .north))
 
     -- The test of the code, at the middle of the square, is the definition's.
-    pub kept-is : (rule : Rule) (middle : Place) → middle ≡ northEast (side / 2) p → within (rule .tolerance + 2 * side + 2) (rule .chain) (rule .wanted) middle ≡ isKept rule (k - 1) p
+    pub kept-is : (rule : Rule) (middle : Place) → middle ≡ northEast (side / 2) p → within (rule .tolerance + 2 * side + 4) (rule .chain) (rule .wanted) middle ≡ isKept rule (k - 1) p
     kept-is rule middle e =
-        ap₂ (λ (d : ℕ) (o : Place). within (rule .tolerance + 2 * d + 2) (rule .chain) (rule .wanted) o)
+        ap₂ (λ (d : ℕ) (o : Place). within (rule .tolerance + 2 * d + 4) (rule .chain) (rule .wanted) o)
         (w .side-is ∙ ap (λ (x : ℕ). 2 ^ x) k-is)
         (e ∙ ap (λ (d : ℕ). northEast d p) half-is)

@@ -12,7 +12,7 @@ use Rattle.search.specs.Walk.{Standing, either, unchanged, visit}
 use Rattle.search.specs.Cells.{cells, ifSo, those, matching, visitsOf}
 use Rattle.search.proofs.WalkLaws.{visit-cell, visit-square, quarters, cell-missed, cell-listed}
 use Rattle.search.proofs.CellLaws.{matching-square, matching-counted}
-use Rattle.search.proofs.Dropping.{dropped-none}
+use Rattle.search.proofs.Dropping.{Allowed, dropped-none}
 
 -- A walk that goes on, with the places listed and the visits made so far.
 abbrev pub going : List Place → ℕ → Standing
@@ -53,10 +53,10 @@ unfolding visitsOf
 after-listed rule p ps v e =
     ap (λ (l : List Place). going (ps ++ l) (v + 1)) (sym (matching-cell rule p true e))
 
-pub after-dropped : (rule : Rule) (k : ℕ) (p : Place) (ps : List Place) (v : ℕ) → isKept rule k p ≡ false → going ps (v + 1) ≡ after rule (suc k) p ps v
-after-dropped rule k p ps v e =
+pub after-dropped : (rule : Rule) (k : ℕ) (p : Place) (ps : List Place) (v : ℕ) → Allowed rule → isKept rule k p ≡ false → going ps (v + 1) ≡ after rule (suc k) p ps v
+after-dropped rule k p ps v f e =
     ap₂ going
-    (sym (append-nil ps) ∙ ap (λ (l : List Place). ps ++ l) (sym (dropped-none rule k p e)))
+    (sym (append-nil ps) ∙ ap (λ (l : List Place). ps ++ l) (sym (dropped-none rule k p f e)))
     (ap (λ (n : ℕ). v + n) (sym (visits-dropped rule k p e)))
 
 -- Lists joined one after the other are the same list however they are grouped.
@@ -86,12 +86,12 @@ cell-whole q p false e ps v a r =
     ∙ cell-missed q p (going ps (v + 1)) e
     ∙ after-missed (q .rule) p ps v e
 
-square-whole : (q : Question) (k : ℕ) (p : Place) → ((o : Place) → IsWhole q k o) → (b : Bool) → isKept (q .rule) k p ≡ b → IsWhole q (suc k) p
-square-whole q k p ih false e ps v a r =
+square-whole : (q : Question) (k : ℕ) (p : Place) → Allowed (q .rule) → ((o : Place) → IsWhole q k o) → (b : Bool) → isKept (q .rule) k p ≡ b → IsWhole q (suc k) p
+square-whole q k p f ih false e ps v a r =
     visit-square q k p (going ps v) refl (omega (arith, one-visit (q .rule) (suc k) p))
     ∙ ap (λ (b : Bool). either b (quarters q k p) unchanged (going ps (v + 1))) e
-    ∙ after-dropped (q .rule) k p ps v e
-square-whole q k p ih true e ps v a r =
+    ∙ after-dropped (q .rule) k p ps v f e
+square-whole q k p f ih true e ps v a r =
     let se : Place = east (2 ^ k) p in
     let nw : Place = north (2 ^ k) p in
     let ne : Place = northEast (2 ^ k) p in
@@ -115,6 +115,6 @@ square-whole q k p ih true e ps v a r =
     ∙ after-quarters (q .rule) k p ps v e
 
 -- With room and allowance a square's matching cells are listed, in as many visits as it takes.
-pub whole : (q : Question) (k : ℕ) (p : Place) → IsWhole q k p
-whole q zero p = cell-whole q p (matches (q .rule) p) refl
-whole q (suc k) p = square-whole q k p (λ o. whole q k o) (isKept (q .rule) k p) refl
+pub whole : (q : Question) (k : ℕ) (p : Place) → Allowed (q .rule) → IsWhole q k p
+whole q zero p f = cell-whole q p (matches (q .rule) p) refl
+whole q (suc k) p f = square-whole q k p f (λ o. whole q k o f) (isKept (q .rule) k p) refl

@@ -6,6 +6,7 @@ use mathlib.Core.List.{List, [], _∷_}
 use lib.IntN.{ℤ, negsuc}
 use Rattle.squares.specs.Root.{root}
 use Rattle.chart.specs.Places.{placeOf, inRange, samePlace, distanceOf}
+use Rattle.chart.specs.Factors.{unitFactor, isFactor, onGround}
 use Rattle.chart.specs.Chains.{isSound}
 use Rattle.chart.specs.Readings.{rangeOf, readingOf, differ, within}
 use Rattle.search.specs.declared.Window.{Window}
@@ -20,7 +21,7 @@ use Rattle.search.specs.Counts.{saidFor, howManyOf}
 
 -- Chain 1 with readings and a tolerance.
 abbrev asked : List ℤ → ℕ → Rule
-asked = ruleOf (record { master = placeOf 0 0; a = placeOf 30000 0; b = placeOf 0 40000 })
+asked = ruleOf (record { master = placeOf 0 0; a = placeOf 30000 0; b = placeOf 0 40000; factor = unitFactor })
 
 abbrev window : ℕ → ℕ → ℕ → Window
 window e n k = record { corner = placeOf e n; k = k }
@@ -41,7 +42,7 @@ chart-number = refl
 
 -- P4's window takes one visit and one for each quarter.
 p4-visits : visitsOf (asked (negsuc 9999 ∷ negsuc 19999 ∷ []) 0) 1 (placeOf 30000 40000) ≡ 5
-unfolding visitsOf within differ readingOf rangeOf distanceOf root
+unfolding visitsOf within differ readingOf rangeOf onGround distanceOf root
 p4-visits = refl
 
 -- How many places P4's readings allow: several, told at the second after 5 visits, and undecided with one visit less; in P8's
@@ -53,5 +54,5 @@ how-many : (places 30000 40000 1 100 ≡ Several 5)
     × (places 30000 40000 1 4 ≡ Refused 10 4)
     × (places 30001 40000 0 100 ≡ None 1)
     × (places 30000 40000 0 100 ≡ One (placeOf 30000 40000) 1)
-unfolding howManyOf saidFor searchOf ended visit visited cell noneTooLarge isWindow within differ readingOf rangeOf distanceOf isSound inRange samePlace root
+unfolding howManyOf saidFor searchOf ended visit visited cell noneTooLarge isWindow within differ readingOf rangeOf onGround distanceOf isSound isFactor inRange samePlace root
 how-many = (refl, refl, refl, refl)

@@ -1,5 +1,5 @@
 -- How the code represents a search: what its private functions promise each other. No public contract uses it.
-use Prim.Native.Nat.{ℕ, suc, _+_, _*_, _≤_, _^_}
+use Prim.Native.Nat.{ℕ, suc, _+_, _-_, _*_, _/_, _≤_, _^_}
 use mathlib.Core.Path.{_≡_}
 use mathlib.Core.Bool.{true}
 use mathlib.Core.List.{List, [], _∷_}
@@ -7,6 +7,7 @@ use lib.IntN.{ℤ, pos, negsuc, subℕ}
 use lib.ListN.{length, take}
 use Rattle.chart.specs.declared.Place.{Place}
 use Rattle.chart.specs.Places.{mostEasting, mostNorthing, inRange}
+use Rattle.chart.specs.Factors.{unitFactor, isFactor}
 use Rattle.chart.specs.Readings.{Wanted}
 use Rattle.search.specs.declared.Wish.{Wish}
 use Rattle.search.specs.declared.Hunt.{Hunt}
@@ -32,7 +33,7 @@ wantedBy w = record { slave = w .slave; reading = subℕ (w .above) (w .below) }
 abbrev pub ruleBy : Hunt → Rule
 ruleBy h =
     record {
-      chain = record { master = h .master; a = h .a .slave; b = h .b .slave };
+      chain = record { master = h .master; a = h .a .slave; b = h .b .slave; factor = h .factor };
       wanted = wantedBy (h .a) ∷ wantedBy (h .b) ∷ [];
       tolerance = h .tolerance;
     }
@@ -49,8 +50,13 @@ pub record Fair (w : Wish) : Type 0 where
   pub above : w .above ≤ mostReading
   pub below : w .below ≤ mostReading
 
+-- The least distance on the grid that is at least r long on the ground, under the factor f: the quotient is rounded up.
+abbrev pub leastFor : ℕ → ℕ → ℕ
+leastFor f r = (r * f + (unitFactor - 1)) / unitFactor
+
 -- A hunt that has passed the tests of a search.
 pub record Ready (h : Hunt) : Type 0 where
+  pub factor : isFactor (h .factor) ≡ true
   pub master : inRange (h .master) ≡ true
   pub a : Fair (h .a)
   pub b : Fair (h .b)

@@ -55,6 +55,6 @@ abbrev pub matches : Rule → Place → Bool
 matches rule p = within (rule .tolerance) (rule .chain) (rule .wanted) p
 
 -- The square of side s = 2^(k + 1) at p is not dropped: at the cell s/2 east and s/2 north of p no reading differs from the
--- wanted one by more than t + 2s + 2 (01, The search and its count).
+-- wanted one by more than t + 2s + 4 (01, The search and its count; 02, A3).
 abbrev pub isKept : Rule → ℕ → Place → Bool
-isKept rule k p = within (rule .tolerance + 2 * 2 ^ suc k + 2) (rule .chain) (rule .wanted) (northEast (2 ^ k) p)
+isKept rule k p = within (rule .tolerance + 2 * 2 ^ suc k + 4) (rule .chain) (rule .wanted) (northEast (2 ^ k) p)

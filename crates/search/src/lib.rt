@@ -7,6 +7,7 @@ ghost use lib.Dec.{leb};
 ghost use lib.IntN.{subℕ};
 ghost use lib.ListN.{length, take, replicate};
 ghost use Rattle.chart.specs.Places.{inRange, squaredDistance, distanceOf};
+ghost use Rattle.chart.specs.Factors.{isFactor, onGround};
 ghost use Rattle.chart.specs.Readings.{differ, wantedOf, within};
 ghost use Rattle.search.specs.Windows.{isWindow};
 ghost use Rattle.search.specs.Windows as windows;
@@ -16,7 +17,7 @@ ghost use Rattle.search.specs.Walk.{Standing, start};
 ghost use Rattle.search.specs.Walk as walk;
 ghost use Rattle.search.specs.Answers.{ended, listOf, searchLeft, searchFigures};
 ghost use Rattle.search.specs.Counts.{saidFor, howManyOf};
-ghost use Rattle.search.specs.Holding.{aboveZero, belowZero, ruleBy, questionBy, Fair, Ready, OnChart, Holds};
+ghost use Rattle.search.specs.Holding.{aboveZero, belowZero, ruleBy, questionBy, leastFor, Fair, Ready, OnChart, Holds};
 use chart::Chain;
 use chart::Place;
 
@@ -62,6 +63,7 @@ struct Wish {
 
 // What a walk uses at every visit. It stays the same during the walk.
 struct Hunt {
+    factor: u64,
     master: Place,
     a: Wish,
     b: Wish,
@@ -80,6 +82,8 @@ struct Tally {
 pub const MOST_EXPONENT: u32 = 24;
 
 const MOST_READING: u64 = 1_000_000_000;
+
+const UNIT_FACTOR: u64 = chart::UNIT_FACTOR as u64;
 
 // How large a tolerance may be, in centimetres.
 pub const MOST_TOLERANCE: u32 = 100_000;
@@ -134,6 +138,7 @@ pub fn search(
         clear_entries(list, 0);
         return Answer::BadTolerance;
     }
+    let factor = c.factor as u64;
     let master = c.master;
     let a = wished(c.a, ra);
     let b = wished(c.b, rb);
@@ -141,6 +146,7 @@ pub fn search(
     walked(
         list,
         Hunt {
+            factor,
             master,
             a,
             b,
@@ -358,7 +364,7 @@ fn visit(list: &mut [u32], h: Hunt, k: u32, side: u32, p: Place, guess: u64, t: 
     let half = side / 2;
     let middle = north_east(p, half);
     let m = distance(middle, h.master, guess);
-    if !near(h, middle, m, h.tolerance + 2 * (side as u64) + 2) {
+    if !near(h, middle, m, h.tolerance + 2 * (side as u64) + 4) {
         return begun;
     }
     let south_east = east(p, half);
@@ -397,37 +403,54 @@ fn cell(list: &mut [u32], h: Hunt, p: Place, guess: u64, t: Tally) -> Tally
     }
 }
 
-// Whether every slave's reading at p differs from the wanted one by at most slack. m is the master's distance from p.
-fn near(h: Hunt, p: Place, m: u64, slack: u64) -> bool
-    requires { ⌜ Ready h × (inRange p ≡ true) × (m ≡ distanceOf p (h .master)) × (m < 2 ^ 30) × (slack < 2 ^ 28) ⌝ }
+// Whether every slave's reading at p differs from the wanted one by at most slack. d is the master's distance from p.
+fn near(h: Hunt, p: Place, d: u64, slack: u64) -> bool
+    requires { ⌜ Ready h × (inRange p ≡ true) × (d ≡ distanceOf p (h .master)) × (d < 2 ^ 30) × (slack < 2 ^ 28) ⌝ }
     ensures { λ r. ⌜ r ≡ within slack (ruleBy h .chain) (ruleBy h .wanted) p ⌝ }
 {
-    if !agrees(h.a, p, m, slack) {
+    let m = on_ground(h.factor, d);
+    if !agrees(h.a, h.factor, p, m, slack) {
         return false;
     }
-    agrees(h.b, p, m, slack)
+    agrees(h.b, h.factor, p, m, slack)
 }
 
-// The same for one slave. Its distance is the root of y, and this root is at least low and at most high exactly if y is at least
-// low² and below (high + 1)²; so no root is computed.
-fn agrees(w: Wish, p: Place, m: u64, slack: u64) -> bool
-    requires { ⌜ Fair w × (inRange p ≡ true) × (m < 2 ^ 30) × (slack < 2 ^ 28) ⌝ }
-    ensures { λ r. ⌜ r ≡ leb (differ (subℕ (distanceOf p (w .slave)) m) (subℕ (w .above) (w .below))) slack ⌝ }
+// The same for one slave; m is the master's range. The slave's distance is the root of y. Its range is at least r exactly if y is at
+// least the square of the least distance for r; so no root is computed, and nothing is divided by the factor.
+fn agrees(w: Wish, factor: u64, p: Place, m: u64, slack: u64) -> bool
+    requires { ⌜ Fair w × (isFactor factor ≡ true) × (inRange p ≡ true) × (m < 2 ^ 31) × (slack < 2 ^ 28) ⌝ }
+    ensures { λ r. ⌜ r ≡ leb (differ (subℕ (onGround factor (distanceOf p (w .slave))) m) (subℕ (w .above) (w .below))) slack ⌝ }
 {
     let y = squared(p, w.slave);
     let far = m + w.above;
     if far + slack < w.below {
         return false;
     }
-    let high = far + slack - w.below;
-    if (high + 1) * (high + 1) <= y {
+    let end = least_for(factor, far + slack - w.below + 1);
+    if end * end <= y {
         return false;
     }
     if far <= w.below + slack {
         return true;
     }
-    let low = far - (w.below + slack);
-    low * low <= y
+    let start = least_for(factor, far - (w.below + slack));
+    start * start <= y
+}
+
+// The least distance of the grid that is at least r long on the ground.
+fn least_for(factor: u64, r: u64) -> u64
+    requires { ⌜ (isFactor factor ≡ true) × (r < 4_000_000_000) ⌝ }
+    ensures { λ d. ⌜ (d ≡ leastFor factor r) × (d < 2 ^ 32) ⌝ }
+{
+    (r * factor + (UNIT_FACTOR - 1)) / UNIT_FACTOR
+}
+
+// How long a distance of the grid is on the ground.
+fn on_ground(factor: u64, d: u64) -> u64
+    requires { ⌜ (isFactor factor ≡ true) × (d < 2 ^ 30) ⌝ }
+    ensures { λ r. ⌜ (r ≡ onGround factor d) × (r < 2 ^ 31) ⌝ }
+{
+    d * UNIT_FACTOR / factor
 }
 
 // The distance of p from a station, computed from a guess of it.

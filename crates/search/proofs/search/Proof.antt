@@ -114,6 +114,9 @@ returns-4 c =
     let o = from (sound .before .before) in
     refusal-told _ _ _ (o .args .list .now) _ refl (search-7 (asked o) (o .args .w) (small (sound .before)) (sound-chain sound) (good-window window) (then .if4 .taken)) (c .before .before .clear-entries4 .ensures)
 
+cast-factor : tie.Need-cast-factor
+cast-factor c = search needs
+
 wished-requires : tie.Need-wished-requires
 wished-requires c κs = search needs
 
@@ -133,19 +136,19 @@ accepted c =
       tolerance = c .if4 .left;
     }
 
-wish-a : (c : tie.After-wished) → let a = begun (c .before .before) .args in c .wished .result ≡ wishOf (a .c .a) (a .ra)
+wish-a : (c : tie.After-wished) → let a = begun (c .before .before .before) .args in c .wished .result ≡ wishOf (a .c .a) (a .ra)
 wish-a c =
-    let o = begun (c .before .before) in
+    let o = begun (c .before .before .before) in
     c .wished .ensures ∙ ap (λ (z : ℤ). wishOf (o .args .c .a) z) (back-a o)
 
-wish-b : (c : tie.After-wished2) → let a = begun (c .before .before .before) .args in c .wished2 .result ≡ wishOf (a .c .b) (a .rb)
+wish-b : (c : tie.After-wished2) → let a = begun (c .before .before .before .before) .args in c .wished2 .result ≡ wishOf (a .c .b) (a .rb)
 wish-b c =
-    let o = begun (c .before .before .before) in
+    let o = begun (c .before .before .before .before) in
     c .wished2 .ensures ∙ ap (λ (z : ℤ). wishOf (o .args .c .b) z) (back-b o)
 
 walked-requires : tie.Need-walked-requires
 walked-requires c κs =
-    let tests = c .before .before .before .before in
+    let tests = c .before .before .before .before .before in
     let a = begun tests .args in
     let ok = accepted tests in (
       ready (a .c) (a .ra) (a .rb) (a .tolerance) (a .allowance) _ _ _ (wish-a (c .before .before)) (wish-b (c .before)) (ok .readings) (ok .chain) (ok .tolerance),
@@ -160,7 +163,7 @@ returns-5 : tie.Need-returns-5
 returns-5 c =
     let walked = c .before .before in
     let b = walked .before .before in
-    let tests = b .before .before .before in
+    let tests = b .before .before .before .before in
     let o = begun tests in
     let a = o .args in
     let n = length (a .list .now) in
@@ -188,6 +191,7 @@ search-spec =
     clear-entries-requires-4
     same-length-4
     returns-4
+    cast-factor
     wished-requires
     wished-requires-2
     walked-requires
