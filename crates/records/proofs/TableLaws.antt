@@ -1,9 +1,10 @@
 -- The tests of a chain table, one after the other, and what follows from each.
-use Prim.Native.Nat.{ℕ, _+_, _-_, _*_, _%_, _≤_}
-use mathlib.Core.Path.{_≡_, refl}
+use Prim.Native.Nat.{ℕ, _+_, _-_, _*_, _/_, _%_, _≤_}
+use mathlib.Core.Path.{_≡_, refl, sym, _∙_}
 use mathlib.Core.Bool.{Bool, true, false}
 use mathlib.Core.List.{List}
 use native.Mathlib.Omega.{arith}
+use native.Mathlib.Decide.{ℕ-discrete}
 use lib.Dec.{leb, eqb}
 use lib.ListN.{length}
 use borrow.Author.Tests.{leb-true, le-leb, lt-leb, eqb-true, eq-eqb, ne-eqb}
@@ -11,7 +12,7 @@ use Rattle.chart.specs.Chains.{isSound}
 use Rattle.chart.proofs.PlaceLaws.{both}
 use Rattle.records.specs.declared.ChainCount.the-variants as count
 use Rattle.records.specs.declared.NamedChain.the-variants as named
-use Rattle.records.specs.ChainTables.{chainBytes, mostChains, oneTo, chainsIn, isTable, chainCountOf, chainAt, chainOf}
+use Rattle.records.specs.ChainTables.{chainBytes, mostChains, factorBytes, oneTo, chainsIn, isTable, chainCountOf, isScale, chainIn, chainOf}
 
 -- 0 is not from 1 to `most`; any other number is if it is at most `most`.
 pub none-of : (most n : ℕ) → n ≡ 0 → oneTo most n ≡ false
@@ -39,31 +40,50 @@ pub table-counted : (s : List ℕ) → isTable s ≡ true → chainCountOf s ≡
 unfolding chainCountOf
 table-counted s h = rw h
 
+-- Whether bytes are a side file: some are left over, or there are whole factors.
+pub factor-over : (chains : ℕ) (s : List ℕ) → (length s % factorBytes ≡ 0 → ⊥) → isScale chains s ≡ false
+factor-over chains s h = ne-eqb (length s) (factorBytes * chains) (λ e. h (omega (arith, e)))
+
+pub whole-factors : (chains : ℕ) (s : List ℕ) → length s % factorBytes ≡ 0 → isScale chains s ≡ eqb (length s / factorBytes) chains
+whole-factors chains s h = go (ℕ-discrete (length s / factorBytes) chains)
+  where
+    go : Dec (length s / factorBytes ≡ chains) → isScale chains s ≡ eqb (length s / factorBytes) chains
+    go (yes e) = eq-eqb (length s) (factorBytes * chains) (omega (arith, e, h)) ∙ sym (eq-eqb _ _ e)
+    go (no f) = ne-eqb (length s) (factorBytes * chains) (λ e. f (omega (arith, e))) ∙ sym (ne-eqb _ _ f)
+
 -- What is answered when a number names a chain.
-pub chain-1 : (s : List ℕ) (number : ℕ) → isTable s ≡ false → chainOf s number ≡ named.Refused 1
-unfolding chainOf
-chain-1 s number h = rw h
+module _ (s scale : List ℕ) (number : ℕ) where
+  pub chain-1 : isTable s ≡ false → chainOf s scale number ≡ named.Refused 1
+  unfolding chainOf
+  chain-1 h = rw h
 
-pub chain-5 : (s : List ℕ) (number : ℕ) → isTable s ≡ true → oneTo (chainsIn s) number ≡ false → chainOf s number ≡ named.Refused 5
-unfolding chainOf
-chain-5 s number h there = rw (h, there)
+  pub chain-unfit : isTable s ≡ true → isScale (chainsIn s) scale ≡ false → chainOf s scale number ≡ named.Refused 1
+  unfolding chainOf
+  chain-unfit h fits = rw (h, fits)
 
-pub chain-unsound : (s : List ℕ) (number : ℕ) → isTable s ≡ true → oneTo (chainsIn s) number ≡ true → isSound (chainAt s (chainBytes * (number - 1))) ≡ false → chainOf s number ≡ named.Refused 5
-unfolding chainOf
-chain-unsound s number h there sound = rw (h, there, sound)
+  pub chain-5 : isTable s ≡ true → isScale (chainsIn s) scale ≡ true → oneTo (chainsIn s) number ≡ false → chainOf s scale number ≡ named.Refused 5
+  unfolding chainOf
+  chain-5 h fits there = rw (h, fits, there)
 
-pub chain-named : (s : List ℕ) (number : ℕ) → isTable s ≡ true → oneTo (chainsIn s) number ≡ true → isSound (chainAt s (chainBytes * (number - 1))) ≡ true → chainOf s number ≡ named.Chain (chainAt s (chainBytes * (number - 1)))
-unfolding chainOf
-chain-named s number h there sound = rw (h, there, sound)
+  pub chain-unsound : isTable s ≡ true → isScale (chainsIn s) scale ≡ true → oneTo (chainsIn s) number ≡ true → isSound (chainIn s scale (number - 1)) ≡ false → chainOf s scale number ≡ named.Refused 5
+  unfolding chainOf
+  chain-unsound h fits there sound = rw (h, fits, there, sound)
 
--- What the test `oneTo` says, and that the chain of a number in the table lies inside the table's bytes.
+  pub chain-named : isTable s ≡ true → isScale (chainsIn s) scale ≡ true → oneTo (chainsIn s) number ≡ true → isSound (chainIn s scale (number - 1)) ≡ true → chainOf s scale number ≡ named.Chain (chainIn s scale (number - 1))
+  unfolding chainOf
+  chain-named h fits there sound = rw (h, fits, there, sound)
+
+-- What the test `oneTo` says, and that the chain of a number in the table lies inside the bytes of table and side file.
 pub one-to-says : (most n : ℕ) → oneTo most n ≡ true → (1 ≤ n) × (n ≤ most)
 one-to-says most n h =
     let e = both (leb 1 n) (leb n most) h in
     (leb-true 1 n (e .0), leb-true n most (e .1))
 
-pub chain-inside : (s : List ℕ) (number : ℕ) → oneTo (chainsIn s) number ≡ true → chainBytes * (number - 1) + chainBytes ≤ length s
-chain-inside s number h = omega (arith, one-to-says (chainsIn s) number h)
+pub chain-inside : (s scale : List ℕ) (number : ℕ) → isScale (chainsIn s) scale ≡ true → oneTo (chainsIn s) number ≡ true →
+    (chainBytes * (number - 1) + chainBytes ≤ length s) × (factorBytes * (number - 1) + factorBytes ≤ length scale)
+chain-inside s scale number fits h =
+    let there = one-to-says (chainsIn s) number h in
+    (omega (arith, there), omega (arith, there, eqb-true (length scale) _ fits))
 
 -- A table whose chains are counted has the bytes of 16 chains at most.
 pub counted-short : (s : List ℕ) {n : ℕ} → chainCountOf s ≡ count.Chains n → length s ≤ mostChains * chainBytes

@@ -22,7 +22,7 @@ use Rattle.records.specs.declared.NamedChain.{NamedChain}
 use Rattle.records.specs.declared.JobAnswer.{JobAnswer}
 use Rattle.records.specs.Bytes.{numberIn}
 use Rattle.records.specs.LogRecords.{logBytes, rawRecordOf, isHyperbolic, isGrid, isHold, logRecordOf, isPlace, placed, inCentimetres, logEntryOf}
-use Rattle.records.specs.ChainTables.{chainBytes, oneTo, chainsIn, isTable, chainCountOf, chainAt, chainOf}
+use Rattle.records.specs.ChainTables.{oneTo, chainsIn, isTable, chainCountOf, isScale, chainIn, chainOf}
 use Rattle.records.specs.Jobs.{jobBytes, jobIn, jobOf}
 use Rattle.records.specs.Refusals.{rawRefusal, logRefusal, entryRefusal, countRefusal, chainRefusal, jobRefusal, isAmong}
 use Rattle.records.proofs.RefusalLaws.{Among, unless-either, either-kind, both-or-three}
@@ -65,12 +65,13 @@ unfolding chainCountOf countRefusal isAmong
 count-refusals s = unless-either (Among countRefusal (0 ∷ 1 ∷ [])) (isTable s) refl refl
 
 -- A chain of a table can be refused with 1 or 5.
-pub chain-refusals : (s : List ℕ) (number : ℕ) → isAmong (chainRefusal (chainOf s number)) (0 ∷ 1 ∷ 5 ∷ []) ≡ true
+pub chain-refusals : (s scale : List ℕ) (number : ℕ) → isAmong (chainRefusal (chainOf s scale number)) (0 ∷ 1 ∷ 5 ∷ []) ≡ true
 unfolding chainOf chainRefusal isAmong
-chain-refusals s number =
+chain-refusals s scale number =
     let among = Among chainRefusal (0 ∷ 1 ∷ 5 ∷ []) in
     unless-either among (isTable s) refl
-    (unless-either among (oneTo (chainsIn s) number) refl (unless-either among (isSound (chainAt s (chainBytes * (number - 1)))) refl refl))
+    (unless-either among (isScale (chainsIn s) scale) refl
+    (unless-either among (oneTo (chainsIn s) number) refl (unless-either among (isSound (chainIn s scale (number - 1))) refl refl)))
 
 -- A job can be refused with 1, 2, 6 or 7.
 pub job-refusals : (s : List ℕ) → isAmong (jobRefusal (jobOf s)) (0 ∷ 1 ∷ 2 ∷ 6 ∷ 7 ∷ []) ≡ true
@@ -81,26 +82,3 @@ job-refusals s =
     (unless-either among (eqb (length s) jobBytes) refl
     (unless-either among (zerosKept s) refl
     (unless-either among (isWindow (jobIn s .window)) refl (unless-either among (leb (jobIn s .tolerance) mostTolerance) refl refl))))
-
--- Any two answers that satisfy a reader's contract for the same bytes are equal: an answer follows from the bytes alone.
-pub bytes-alone : {A : Type 0} (answer : List ℕ → A) (s t : List ℕ) (r q : A) → s ≡ t → r ≡ answer s → q ≡ answer t → r ≡ q
-bytes-alone answer s t r q same is-r is-q = is-r ∙ ap answer same ∙ sym is-q
-
--- The same for each reader.
-pub raw-by-bytes : (s t : List ℕ) (r q : RawAnswer) → s ≡ t → r ≡ rawRecordOf s → q ≡ rawRecordOf t → r ≡ q
-raw-by-bytes = bytes-alone rawRecordOf
-
-pub records-by-bytes : (s t : List ℕ) (r q : LogRecord) → s ≡ t → r ≡ logRecordOf s → q ≡ logRecordOf t → r ≡ q
-records-by-bytes = bytes-alone logRecordOf
-
-pub entries-by-bytes : (s t : List ℕ) (r q : LogEntry) → s ≡ t → r ≡ logEntryOf s → q ≡ logEntryOf t → r ≡ q
-entries-by-bytes = bytes-alone logEntryOf
-
-pub counts-by-bytes : (s t : List ℕ) (r q : ChainCount) → s ≡ t → r ≡ chainCountOf s → q ≡ chainCountOf t → r ≡ q
-counts-by-bytes = bytes-alone chainCountOf
-
-pub chains-by-bytes : (number : ℕ) (s t : List ℕ) (r q : NamedChain) → s ≡ t → r ≡ chainOf s number → q ≡ chainOf t number → r ≡ q
-chains-by-bytes number = bytes-alone (λ (s : List ℕ). chainOf s number)
-
-pub jobs-by-bytes : (s t : List ℕ) (r q : JobAnswer) → s ≡ t → r ≡ jobOf s → q ≡ jobOf t → r ≡ q
-jobs-by-bytes = bytes-alone jobOf

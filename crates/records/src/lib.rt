@@ -2,7 +2,7 @@
 ghost use mathlib.Core.Path.{_≡_};
 ghost use mathlib.Core.Bool.{_&&_};
 ghost use mathlib.Core.List.{List, [], _∷_};
-ghost use Prim.Native.Nat.{ℕ, _+_, _≤_};
+ghost use Prim.Native.Nat.{ℕ, _+_, _*_, _≤_};
 ghost use lib.ListN.{length};
 ghost use Rattle.fields.specs.Fields.{fieldAt};
 ghost use Rattle.records.specs.declared.JobAnswer.the-variants as answer;
@@ -10,7 +10,7 @@ ghost use Rattle.records.specs.declared.LogEntry.the-variants as entry;
 ghost use Rattle.records.specs.declared.LogRecord.the-variants as log;
 ghost use Rattle.records.specs.Bytes.{byteAt, numberIn, areZero, pieceEnd};
 ghost use Rattle.records.specs.LogRecords.{logBytes, rawRecordOf, isHyperbolic, isGrid, isHold, logRecordOf, isPlace, placed, pairOf, withPair, logEntryOf};
-ghost use Rattle.records.specs.ChainTables.{chainBytes, isTable, oneTo, chainCountOf, placeAt, chainAt, rawChainOf, chainOf};
+ghost use Rattle.records.specs.ChainTables.{chainBytes, factorBytes, isTable, oneTo, chainCountOf, isScale, placeAt, chainAt, rawChainOf, chainIn, chainOf};
 ghost use Rattle.records.specs.Jobs.{jobBytes, jobIn, rawJobOf, formedJobOf, acceptedJob, jobOf, manyBy};
 ghost use Rattle.records.specs.Marks.{withMarksOf, markedEntryOf};
 ghost use Rattle.records.specs.Gathered.{IsRaw, markedAs};
@@ -94,17 +94,21 @@ enum Pair {
     Unusable,
 }
 
-// How many bytes a log record, a chain and a job have.
+// How many bytes a log record, a chain, its factor and a job have.
 pub const LOG_BYTES: usize = 32;
 
 pub const CHAIN_BYTES: usize = 24;
 
+pub const FACTOR_BYTES: usize = 4;
+
 pub const JOB_BYTES: usize = 32;
 
-// How many chains a table may have, and how many bytes it then has.
+// How many chains a table may have, and how many bytes it and its side file then have.
 pub const MOST_CHAINS: usize = 16;
 
 pub const TABLE_BYTES: usize = MOST_CHAINS * CHAIN_BYTES;
+
+pub const SCALE_BYTES: usize = MOST_CHAINS * FACTOR_BYTES;
 
 // The allowance of a job that names none: the most visits that a search under it makes.
 pub const USUAL_ALLOWANCE: u64 = 1_000_000;
@@ -194,29 +198,43 @@ pub fn chain_count(s: &[u8]) -> ChainCount
     ChainCount::Chains(s.len() / CHAIN_BYTES)
 }
 
-// The chain with a given number in the bytes of a table, if it is sound.
-pub fn chain_of(s: &[u8], number: u32) -> NamedChain
-    ensures { λ r. ⌜ r ≡ chainOf (now (s .entry)) number ⌝ }
+// Whether these bytes are a side file for this many chains.
+pub fn is_scale(chains: usize, s: &[u8]) -> bool
+    ensures { λ r. ⌜ r ≡ isScale chains (now (s .entry)) ⌝ }
+{
+    if s.len() % FACTOR_BYTES != 0 {
+        return false;
+    }
+    s.len() / FACTOR_BYTES == chains
+}
+
+// The chain with a given number in the bytes of a table and of its side file, if it is sound.
+pub fn chain_of(s: &[u8], scale: &[u8], number: u32) -> NamedChain
+    ensures { λ r. ⌜ r ≡ chainOf (now (s .entry)) (now (scale .entry)) number ⌝ }
 {
     if !is_table(s) {
         return NamedChain::Refused(1);
     }
-    if !one_to(s.len() / CHAIN_BYTES, number) {
+    let chains = s.len() / CHAIN_BYTES;
+    if !is_scale(chains, scale) {
+        return NamedChain::Refused(1);
+    }
+    if !one_to(chains, number) {
         return NamedChain::Refused(5); // not in the table
     }
-    let chain = chain_at(s, CHAIN_BYTES * (number as usize - 1));
+    let chain = chain_in(s, scale, number as usize - 1);
     if !chart::sound(chain) {
         return NamedChain::Refused(5); // not sound
     }
     NamedChain::Chain(chain)
 }
 
-// The chain in 24 bytes, sound or not.
-pub fn raw_chain(s: &[u8]) -> NamedChain
-    ensures { λ r. ⌜ r ≡ rawChainOf (now (s .entry)) ⌝ }
+// The chain in 24 bytes with its factor, sound or not.
+pub fn raw_chain(s: &[u8], factor: u32) -> NamedChain
+    ensures { λ r. ⌜ r ≡ rawChainOf (now (s .entry)) factor ⌝ }
 {
     if s.len() == CHAIN_BYTES {
-        return NamedChain::Chain(chain_at(s, 0));
+        return NamedChain::Chain(chain_at(s, 0, factor));
     }
     NamedChain::Refused(1)
 }
@@ -488,14 +506,24 @@ fn is_table(s: &[u8]) -> bool
     s.len() / CHAIN_BYTES <= MOST_CHAINS
 }
 
-fn chain_at(s: &[u8], at: usize) -> Chain
+// The chain with i others before it.
+fn chain_in(s: &[u8], scale: &[u8], i: usize) -> Chain
+    requires { ⌜ (chainBytes * i + chainBytes ≤ length (now s)) × (factorBytes * i + factorBytes ≤ length (now scale)) ⌝ }
+    ensures { λ r. ⌜ r ≡ chainIn (now (s .entry)) (now (scale .entry)) i ⌝ }
+{
+    let factor = four(scale, FACTOR_BYTES * i);
+    chain_at(s, CHAIN_BYTES * i, factor)
+}
+
+fn chain_at(s: &[u8], at: usize, factor: u32) -> Chain
     requires { ⌜ at + chainBytes ≤ length (now s) ⌝ }
-    ensures { λ r. ⌜ r ≡ chainAt (now (s .entry)) at ⌝ }
+    ensures { λ r. ⌜ r ≡ chainAt (now (s .entry)) at factor ⌝ }
 {
     Chain {
         master: place_at(s, at),
         a: place_at(s, at + 8),
         b: place_at(s, at + 16),
+        factor,
     }
 }
 

@@ -1,4 +1,4 @@
--- `records::chain_at` meets its contract: three places, one after the other.
+-- `records::chain_at` meets its contract: three places, one after the other, and the factor.
 use borrow.Author.Needs.{needs}
 use Rattle.records.proofs.chain_at.Statement.{statement}
 use Rattle.records.proofs.chain_at.Tie as tie
