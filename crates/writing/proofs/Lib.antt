@@ -3,6 +3,7 @@ pub mod Theorems
 pub mod WriteLaws
 mod BufferLaws
 pub mod ChainWriteLaws
+pub mod FactorWriteLaws
 mod JobWriteLaws
 mod ReadBack
 mod TableBack

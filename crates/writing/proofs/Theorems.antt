@@ -1,5 +1,5 @@
 -- Demand 2, the writers: what they accept is read back, and a refused write leaves zeros.
--- `write`, `write_chain` and `write_job` are proved to answer by the definitions; these theorems say what the definitions
+-- `write`, `write_chain`, `write_factor` and `write_job` are proved to answer by the definitions; these theorems say what the definitions
 -- guarantee.
 use Prim.Native.Nat.{ℕ, _-_, _^_, _≤_, _<_}
 use mathlib.Core.Path.{_≡_, refl, sym, ap, _∙_, subst⁻¹}
@@ -15,7 +15,9 @@ use Rattle.fields.specs.Fields.{bytesOf}
 use Rattle.metres.specs.Metres.{metresOf, lengthFigures}
 use Rattle.chart.specs.declared.Chain.{Chain}
 use Rattle.chart.specs.Chains.{isSound}
+use Rattle.chart.specs.Factors.{isFactor}
 use Rattle.chart.proofs.PlaceLaws.{and-both}
+use Rattle.chart.proofs.ChainLaws.{factor-allowed}
 use Rattle.search.specs.Windows.{isWindow}
 use Rattle.search.specs.Questions.{mostTolerance}
 use Rattle.records.specs.declared.ChainCount.the-variants as count
@@ -23,7 +25,7 @@ use Rattle.records.specs.declared.NamedChain.the-variants as named
 use Rattle.records.specs.declared.Job.{Job}
 use Rattle.records.specs.declared.JobAnswer.the-variants as answer
 use Rattle.records.specs.LogRecords.{logBytes}
-use Rattle.records.specs.ChainTables.{chainBytes, mostChains, oneTo, chainCountOf, chainOf}
+use Rattle.records.specs.ChainTables.{chainBytes, mostChains, factorBytes, oneTo, chainCountOf, chainOf}
 use Rattle.records.specs.Jobs.{jobBytes, jobOf}
 use Rattle.records.specs.Refusals.{isAmong}
 use Rattle.records.proofs.TableLaws.{table-counted, chain-named}
@@ -31,13 +33,15 @@ use Rattle.records.proofs.RefusalLaws.{Among, unless-either}
 use Rattle.writing.specs.declared.Draft.{Draft}
 use Rattle.writing.specs.Writing.{isKind, numbersFit, placeFits, chainFits, refusalOf, usedOf, metresBytes, recordBytes, bufferOf, ReadsAs}
 use Rattle.writing.specs.ChainWriting.{chainRefusalOf, chainBufferOf, allSound, tableOf}
+use Rattle.writing.specs.FactorWriting.{factorRefusalOf, factorBufferOf, scaleOf}
 use Rattle.writing.specs.JobWriting.{jobRefusalOf, jobBufferOf}
 use Rattle.writing.proofs.BufferLaws.{left-length}
 use Rattle.writing.proofs.WriteLaws.{buffer-written, buffer-zero, written-bytes, record-length}
 use Rattle.writing.proofs.ChainWriteLaws.{chain-accepted, chain-zero}
+use Rattle.writing.proofs.FactorWriteLaws.{factor-accepted, factor-zero}
 use Rattle.writing.proofs.JobWriteLaws.{job-accepted, job-passed, job-written, job-zero}
 use Rattle.writing.proofs.ReadBack.{raw-back, entry-back}
-use Rattle.writing.proofs.TableBack.{chain-back, sound-there, chains-there, is-table}
+use Rattle.writing.proofs.TableBack.{chain-back, sound-there, chains-there, is-table, is-scale}
 use Rattle.writing.proofs.JobBack.{job-back}
 
 -- What the writer accepts is read back: the same kind, chain number, line number and centimetres.
@@ -78,16 +82,22 @@ pub chains-written : (cs : List Chain) (number : ℕ) (other : Chain) → allSou
 chains-written cs number other sound first last =
     chain-accepted chainBytes (getD cs (number - 1) other) refl (sound-there cs (number - 1) other sound (omega arith))
 
+-- The writer of factors accepts the factor of each of them.
+pub factors-written : (cs : List Chain) (number : ℕ) (other : Chain) → allSound cs ≡ true →
+    1 ≤ number → number ≤ length cs → factorRefusalOf factorBytes (getD cs (number - 1) other .factor) ≡ 0
+factors-written cs number other sound first last =
+    factor-accepted factorBytes (getD cs (number - 1) other .factor) refl (factor-allowed _ (sound-there cs (number - 1) other sound (omega arith)))
+
 -- 1 to 16 chains that are written one after the other are a table of that many chains.
 pub chains-counted : (cs : List Chain) → 1 ≤ length cs → length cs ≤ mostChains → chainCountOf (tableOf cs) ≡ count.Chains (length cs)
 chains-counted cs some few = table-counted (tableOf cs) (is-table cs some few) ∙ ap count.Chains (chains-there cs)
 
 -- Each of them, if all are sound, is read back by its number.
 pub chains-read-back : (cs : List Chain) (number : ℕ) (other : Chain) → allSound cs ≡ true → length cs ≤ mostChains →
-    1 ≤ number → number ≤ length cs → chainOf (tableOf cs) number ≡ named.Chain (getD cs (number - 1) other)
+    1 ≤ number → number ≤ length cs → chainOf (tableOf cs) (scaleOf cs) number ≡ named.Chain (getD cs (number - 1) other)
 chains-read-back cs number other sound few first last =
     let same = chain-back cs (number - 1) other sound (omega arith) in
-    chain-named (tableOf cs) number (is-table cs (omega arith) few)
+    chain-named (tableOf cs) (scaleOf cs) number (is-table cs (omega arith) few) (is-scale cs)
     (subst⁻¹ (λ (n : ℕ). oneTo n number ≡ true) (chains-there cs) (and-both (le-leb 1 number first) (le-leb number (length cs) last)))
     (ap isSound same ∙ sound-there cs (number - 1) other sound (omega arith))
     ∙ ap named.Chain same
@@ -102,19 +112,28 @@ job-reads-back j small e =
     let tests = job-passed jobBytes j e in
     ap jobOf (job-written jobBytes j e) ∙ job-back j (tests .1) (tests .2) small
 
--- A refused chain or job leaves its whole buffer zero.
+-- A refused chain, factor or job leaves its whole buffer zero.
 pub refused-chain-zeros : (bytes : ℕ) (c : Chain) → (chainRefusalOf bytes c ≡ 0 → ⊥) → chainBufferOf bytes c ≡ replicate bytes 0
 refused-chain-zeros bytes c refused = chain-zero bytes c refused
+
+pub refused-factor-zeros : (bytes f : ℕ) → (factorRefusalOf bytes f ≡ 0 → ⊥) → factorBufferOf bytes f ≡ replicate bytes 0
+refused-factor-zeros bytes f refused = factor-zero bytes f refused
 
 pub refused-job-zeros : (bytes : ℕ) (j : Job) → (jobRefusalOf bytes j ≡ 0 → ⊥) → jobBufferOf bytes j ≡ replicate bytes 0
 refused-job-zeros bytes j refused = job-zero bytes j refused
 
--- A chain can be refused with 1 or 5, and a job with 1, 6 or 7, with 0 for none.
+-- A chain or a factor can be refused with 1 or 5, and a job with 1, 6 or 7, with 0 for none.
 pub chain-write-refusals : (bytes : ℕ) (c : Chain) → isAmong (chainRefusalOf bytes c) (0 ∷ 1 ∷ 5 ∷ []) ≡ true
 unfolding chainRefusalOf isAmong
 chain-write-refusals bytes c =
     let among = Among (λ (n : ℕ). n) (0 ∷ 1 ∷ 5 ∷ []) in
     unless-either among (eqb bytes chainBytes) refl (unless-either among (isSound c) refl refl)
+
+pub factor-write-refusals : (bytes f : ℕ) → isAmong (factorRefusalOf bytes f) (0 ∷ 1 ∷ 5 ∷ []) ≡ true
+unfolding factorRefusalOf isAmong
+factor-write-refusals bytes f =
+    let among = Among (λ (n : ℕ). n) (0 ∷ 1 ∷ 5 ∷ []) in
+    unless-either among (eqb bytes factorBytes) refl (unless-either among (isFactor f) refl refl)
 
 pub job-write-refusals : (bytes : ℕ) (j : Job) → isAmong (jobRefusalOf bytes j) (0 ∷ 1 ∷ 6 ∷ 7 ∷ []) ≡ true
 unfolding jobRefusalOf isAmong

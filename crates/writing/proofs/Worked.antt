@@ -23,7 +23,7 @@ unfolding recordBytes bytesOf metresOf lengthFigures toBits
 line-3-written = refl
 
 chain-written :
-    bytesOfChain (record { master = record { easting = 0; northing = 0 }; a = record { easting = 30_000; northing = 0 }; b = record { easting = 0; northing = 40_000 } })
+    bytesOfChain (record { master = record { easting = 0; northing = 0 }; a = record { easting = 30_000; northing = 0 }; b = record { easting = 0; northing = 40_000 }; factor = 1_000_000 })
     ≡ 0 ∷ 0 ∷ 0 ∷ 0 ∷ 0 ∷ 0 ∷ 0 ∷ 0
     ∷ 0x30 ∷ 0x75 ∷ 0 ∷ 0 ∷ 0 ∷ 0 ∷ 0 ∷ 0
     ∷ 0 ∷ 0 ∷ 0 ∷ 0 ∷ 0x40 ∷ 0x9c ∷ 0 ∷ 0 ∷ []

@@ -19,7 +19,7 @@ bytesOfPlace p = bytesOf 4 (p .easting) ++ bytesOf 4 (p .northing)
 abbrev pub putPlaceAt : List ℕ → ℕ → Place → List ℕ
 putPlaceAt s at p = putAt 4 (putAt 4 s at (p .easting)) (at + 4) (p .northing)
 
--- A chain in 24 bytes: master, A, B.
+-- A chain in 24 bytes: master, A, B. Its factor is in the side file (specs/FactorWriting.antt).
 unfoldable pub bytesOfChain : Chain → List ℕ
 bytesOfChain c = bytesOfPlace (c .master) ++ (bytesOfPlace (c .a) ++ bytesOfPlace (c .b))
 

@@ -2,4 +2,5 @@
 pub mod Buffers
 pub mod Writing
 pub mod ChainWriting
+pub mod FactorWriting
 pub mod JobWriting

@@ -1,4 +1,4 @@
-// The writers of log records, chains and jobs: each is tested, then its bytes are put into a buffer.
+// The writers of log records, chains, factors and jobs: each is tested, then its bytes are put into a buffer.
 ghost use mathlib.Core.Path.{_≡_};
 ghost use Prim.Native.Nat.{_+_, _≤_, _<_};
 ghost use lib.ListN.{length, replicate};
@@ -7,10 +7,12 @@ ghost use Rattle.records.specs.ChainTables.{chainBytes};
 ghost use Rattle.records.specs.Jobs.{jobBytes};
 ghost use Rattle.writing.specs.Writing.{numbersFit, placeFits, chainFits, refusalOf, usedOf, inMetres, recordBytes, bufferOf};
 ghost use Rattle.writing.specs.ChainWriting.{putPlaceAt, bytesOfChain, chainRefusalOf, chainBufferOf};
+ghost use Rattle.writing.specs.FactorWriting.{factorRefusalOf, factorBufferOf};
 ghost use Rattle.writing.specs.JobWriting.{bytesOfJob, jobRefusalOf, jobBufferOf};
 use chart::Chain;
 use chart::Place;
 use records::CHAIN_BYTES;
+use records::FACTOR_BYTES;
 use records::JOB_BYTES;
 use records::Job;
 use records::LOG_BYTES;
@@ -51,6 +53,20 @@ pub fn write_chain(buffer: &mut [u8], c: Chain) -> u32
         return refusal;
     }
     put_chain(buffer, c);
+    0
+}
+
+// Writes the factor of a chain into a buffer of 4 bytes, by the same rules.
+pub fn write_factor(buffer: &mut [u8], factor: u32) -> u32
+    ensures answer { λ r. ⌜ r ≡ factorRefusalOf (length (now (buffer .entry))) factor ⌝ }
+    ensures buffer { λ r. ⌜ now (buffer .exit) ≡ factorBufferOf (length (now (buffer .entry))) factor ⌝ }
+{
+    let refusal = factor_refusal(buffer.len(), factor);
+    clear_buffer(buffer);
+    if refusal != 0 {
+        return refusal;
+    }
+    fields::put_four(buffer, 0, factor);
     0
 }
 
@@ -191,6 +207,19 @@ fn chain_refusal(bytes: usize, c: Chain) -> u32
         return 1;
     }
     if !chart::sound(c) {
+        return 5;
+    }
+    0
+}
+
+// The refusal number of a factor for a buffer of `bytes` bytes, 0 for none.
+fn factor_refusal(bytes: usize, factor: u32) -> u32
+    ensures { λ r. ⌜ r ≡ factorRefusalOf bytes factor ⌝ }
+{
+    if bytes != FACTOR_BYTES {
+        return 1;
+    }
+    if !chart::is_factor(factor) {
         return 5;
     }
     0
