@@ -17,33 +17,33 @@ use Rattle.listing.specs.Listings.{lineOf, Part, lineBefore, firstAnswer
 use Rattle.listing.specs.Putting.{Gives}
 use Rattle.listing.proofs.ListingLaws.{put-first}
 
-module _ (j : Job) (table : List ℕ) where
+module _ (j : Job) (table scale : List ℕ) where
   -- The lines of a log that is not empty: its first line, then the lines of the rest.
   lines-step : (place : Carried) (s : List ℕ) → 0 < length s →
-      linesOf j table place s ≡ lineBefore (firstLine j table place s) (linesOf j table (carriedBy (firstAnswer j table place s)) (drop logBytes s))
+      linesOf j table scale place s ≡ lineBefore (firstLine j table scale place s) (linesOf j table scale (carriedBy (firstAnswer j table scale place s)) (drop logBytes s))
   unfolding linesFrom
-  lines-step place s some = ap (λ (n : ℕ). linesFrom n j table place s) (record-width .one-more s some)
+  lines-step place s some = ap (λ (n : ℕ). linesFrom n j table scale place s) (record-width .one-more s some)
 
   -- A log is listed up to `done`: the text so far is in a buffer, the rest goes on from `place`, and there is room for its lines.
   pub record ListedTo (before : Carried) (log : List ℕ) (done : ℕ) (out₀ out : List ℕ) (end : ℕ) (place : Carried) : Type 0 where
-    pub lines : Reached out₀ 0 (linesOf j table before log .text) (linesOf j table place (drop done log) .text) out end
-    pub carries : linesOf j table before log .carried ≡ linesOf j table place (drop done log) .carried
+    pub lines : Reached out₀ 0 (linesOf j table scale before log .text) (linesOf j table scale place (drop done log) .text) out end
+    pub carries : linesOf j table scale before log .carried ≡ linesOf j table scale place (drop done log) .carried
     pub room : end + longestLine * recordsIn (drop done log) ≤ length out₀
 
   pub listed-none : (before : Carried) (log out : List ℕ) → length log / logBytes < length out / longestLine → ListedTo before log 0 out out 0 before
-  listed-none before log out h = record { lines = reached-none (linesOf j table before log .text) (omega arith); carries = refl; room = omega arith }
+  listed-none before log out h = record { lines = reached-none (linesOf j table scale before log .text) (omega arith); carries = refl; room = omega arith }
 
   module _ (before : Carried) (log : List ℕ) (done : ℕ) (out₀ out : List ℕ) (end : ℕ) (place : Carried) (l : ListedTo before log done out₀ out end place) where
     -- One more record is listed.
     pub listed-more : done < length log → (next : ℕ) → next ≡ pieceEnd done logBytes (length log) → let s = take (next - done) (drop done log) in
-        (out′ : List ℕ) (end′ : ℕ) (place′ : Carried) → Put out end (lineOf s (answerOf j table place s)) out′ end′ → end′ ≤ end + longestLine →
-        place′ ≡ carriedBy (answerOf j table place s) → ListedTo before log next out₀ out′ end′ place′
+        (out′ : List ℕ) (end′ : ℕ) (place′ : Carried) → Put out end (lineOf s (answerOf j table scale place s)) out′ end′ → end′ ≤ end + longestLine →
+        place′ ≡ carriedBy (answerOf j table scale place s) → ListedTo before log next out₀ out′ end′ place′
     listed-more some next e out′ end′ place′ put short handed =
         let s = take (next - done) (drop done log) in
-        let line = lineOf s (answerOf j table place s) in
-        let left : linesOf j table place (drop done log) ≡ lineBefore line (linesOf j table place′ (drop next log)) =
-        next-piece logBytes (linesOf j table) (λ c x. lineBefore (lineOf x (answerOf j table c x))) (λ c x. carriedBy (answerOf j table c x)) lines-step log done next some e place
-        ∙ ap (λ (c : Carried). lineBefore line (linesOf j table c (drop next log))) (sym handed) in
+        let line = lineOf s (answerOf j table scale place s) in
+        let left : linesOf j table scale place (drop done log) ≡ lineBefore line (linesOf j table scale place′ (drop next log)) =
+        next-piece logBytes (linesOf j table scale) (λ c x. lineBefore (lineOf x (answerOf j table scale c x))) (λ c x. carriedBy (answerOf j table scale c x)) lines-step log done next some e place
+        ∙ ap (λ (c : Carried). lineBefore line (linesOf j table scale c (drop next log))) (sym handed) in
         record {
           lines = reached-more (l .lines) (ap (λ (p : Part). p .text) left) put;
           carries = l .carries ∙ ap (λ (p : Part). p .carried) left;
@@ -51,7 +51,7 @@ module _ (j : Job) (table : List ℕ) where
         }
 
     -- The whole log is listed.
-    pub listed-all : length log ≤ done → Gives out₀ (linesOf j table before log) out (listed.Text end place)
+    pub listed-all : length log ≤ done → Gives out₀ (linesOf j table scale before log) out (listed.Text end place)
     unfolding linesFrom
     listed-all all =
         let nothing = drop-of-length-le log {i = done} all in

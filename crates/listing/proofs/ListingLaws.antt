@@ -32,15 +32,15 @@ put-first {o} {p} {o′} {end} place e h =
       now-is = h .now-is ∙ ap (λ (n : ℕ). p .text ++ drop n o) none;
     }
 
-module _ (table log : List ℕ) (before : Carried) where
+module _ (table scale log : List ℕ) (before : Carried) where
   -- The listing with an accepted job, when the count of chains is `c`.
-  pub by-count : (j : Job) (c : ChainCount) → chainCountOf table ≡ c → listingBy (job.Job j) c table log before ≡ listingBy (job.Job j) (chainCountOf table) table log before
-  by-count j c e = sym (ap (λ (x : ChainCount). listingBy (job.Job j) x table log before) e)
+  pub by-count : (j : Job) (c : ChainCount) → chainCountOf table ≡ c → listingBy (job.Job j) c table scale log before ≡ listingBy (job.Job j) (chainCountOf table) table scale log before
+  by-count j c e = sym (ap (λ (x : ChainCount). listingBy (job.Job j) x table scale log before) e)
 
   -- The listing when the job's bytes answer `a`.
-  pub by-job : (s : List ℕ) (a : JobAnswer) → jobOf s ≡ a → listingBy a (chainCountOf table) table log before ≡ listingFrom s table log before
+  pub by-job : (s : List ℕ) (a : JobAnswer) → jobOf s ≡ a → listingBy a (chainCountOf table) table scale log before ≡ listingFrom s table scale log before
   unfolding listingFrom
-  by-job s a e = sym (ap (λ (x : JobAnswer). listingBy x (chainCountOf table) table log before) e)
+  by-job s a e = sym (ap (λ (x : JobAnswer). listingBy x (chainCountOf table) table scale log before) e)
 
 module _ (out log : List ℕ) (p : Part) where
   -- With room, the answer and the buffer are those of the listing; without it, the answer is 9 and the buffer is unchanged.

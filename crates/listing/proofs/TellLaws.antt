@@ -145,9 +145,9 @@ pub fix-same : (j : Job) (rounded : Bool) (a b a′ b′ : ℤ) (x y : NamedChai
 fix-same j rounded a b a′ b′ x y first second e = ap₂ (λ (u v : ℤ). fixBy j (u ∷ v ∷ []) rounded x) first second ∙ ap (fixBy j (a ∷ b ∷ []) rounded) e
 
 -- What a record answers, when it was read as `m` and its entry is `e`.
-pub answer-by : (j : Job) (table : List ℕ) (before : Carried) (s : List ℕ) (m : MarkedEntry) (rounded : Bool) (e : LogEntry) →
+pub answer-by : (j : Job) (table scale : List ℕ) (before : Carried) (s : List ℕ) (m : MarkedEntry) (rounded : Bool) (e : LogEntry) →
     m ≡ markedEntryOf s → rounded ≡ anyRounded (m .first ∷ m .second ∷ []) → m .entry ≡ e →
-    answerBy j (chainOf table (byteAt s 1)) before rounded e ≡ answerOf j table before s
+    answerBy j (chainOf table scale (byteAt s 1)) before rounded e ≡ answerOf j table scale before s
 unfolding answerOf
-answer-by j table before s m rounded e read flag is =
-    ap₂ (answerBy j (chainOf table (byteAt s 1)) before) (flag ∙ rounded-read s m read) (sym (entry-read s m read ∙ is))
+answer-by j table scale before s m rounded e read flag is =
+    ap₂ (answerBy j (chainOf table scale (byteAt s 1)) before) (flag ∙ rounded-read s m read) (sym (entry-read s m read ∙ is))

@@ -1,4 +1,4 @@
--- 01's log of three records as its bytes, with its job and its chain table, listed by the definitions.
+-- 01's log of three records as its bytes, with its job, its chain table and a side file, listed by the definitions.
 use Prim.Native.Nat.{ℕ}
 use mathlib.Core.Path.{_≡_, refl}
 use mathlib.Core.List.{List, [], _∷_, _++_}
@@ -8,6 +8,7 @@ use Rattle.metres.specs.Metres.{centimetresOf}
 use Rattle.metres.specs.Marks.{seenFrom, markBy, markOf, isRounded}
 use Rattle.squares.specs.Root.{root}
 use Rattle.chart.specs.Places.{inRange, samePlace, distanceOf}
+use Rattle.chart.specs.Factors.{isFactor, onGround}
 use Rattle.chart.specs.Chains.{isSound}
 use Rattle.chart.specs.Readings.{rangeOf, readingOf, differ, within}
 use Rattle.search.specs.Windows.{isWindow}
@@ -38,6 +39,10 @@ table =
     ∷ 0x30 ∷ 0x75 ∷ 0 ∷ 0 ∷ 0 ∷ 0 ∷ 0 ∷ 0
     ∷ 0 ∷ 0 ∷ 0 ∷ 0 ∷ 0x40 ∷ 0x9c ∷ 0 ∷ 0 ∷ []
 
+-- Its factor, 1,000,000.
+abbrev scale : List ℕ
+scale = 0x40 ∷ 0x42 ∷ 0x0f ∷ 0 ∷ []
+
 -- Line 1: chain 1, readings -100.0 m and -200.0 m.
 abbrev line-1 : List ℕ
 line-1 =
@@ -63,10 +68,10 @@ line-3 =
     ∷ 0 ∷ 0 ∷ 0 ∷ 0 ∷ 0 ∷ 0 ∷ 0 ∷ 0 ∷ []
 
 -- The whole listing.
-whole-listing : listingOf job table (line-1 ++ (line-2 ++ line-3))
+whole-listing : listingOf job table scale (line-1 ++ (line-2 ++ line-3))
     ≡ bytesIn "1 FIX 2 5 30000 40000 30001 40001 0\n2 GRID 1 0 30001 40000 1\n3 HOLD 1 0 30001 40000 1\n"
 unfolding listingOf listingFrom listingBy linesFrom headOf placesText answerText answerOf answerBy fixBy holdOf searched
     placesOf saysRounded only marksOf numbersUsed isAccepted anyRounded markOf markBy seenFrom isRounded bytesIn flagText digitsOf lastDigits jobOf acceptedJob formedJobOf chainCountOf chainOf logEntryOf logRecordOf inCentimetres placed
     isPlace allZero valueOf centimetresOf ofBits searchOf searchFigures ended visit visited cell noneTooLarge isWindow
-    within differ readingOf rangeOf distanceOf isSound inRange samePlace root
+    within differ readingOf rangeOf onGround distanceOf isSound isFactor inRange samePlace root
 whole-listing = refl

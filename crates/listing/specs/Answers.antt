@@ -1,5 +1,5 @@
--- What a record answers, given the job, the chain table and the place carried from the record before it
--- (01, The records; The program).
+-- What a record answers, given the job, the chain table with its side file, and the place carried from the record before it
+-- (01, The records; The program; 02, A3).
 use Prim.Native.Nat.{ℕ, _*_}
 use mathlib.Core.Bool.{Bool, false, cond}
 use mathlib.Core.List.{List, [], _∷_}
@@ -59,9 +59,9 @@ answerBy j chain before rounded (entry.Place p) = Grid p rounded
 answerBy j chain before rounded entry.Hold = holdOf before
 answerBy j chain before rounded (entry.Refused number) = Refused number 0
 
--- What a record answers, from its bytes and the table's.
-unfoldable pub answerOf : Job → List ℕ → Carried → List ℕ → RecordAnswer
-answerOf j table before s = answerBy j (chainOf table (byteAt s 1)) before (isRoundedIn s) (logEntryOf s)
+-- What a record answers, from its bytes, the table's and those of the side file.
+unfoldable pub answerOf : Job → List ℕ → List ℕ → Carried → List ℕ → RecordAnswer
+answerOf j table scale before s = answerBy j (chainOf table scale (byteAt s 1)) before (isRoundedIn s) (logEntryOf s)
 
 -- The places of an answer. One that is refused has none.
 unfoldable pub placesOf : RecordAnswer → List Place

@@ -12,7 +12,7 @@ use Rattle.records.specs.declared.ChainCount.{ChainCount}
 use Rattle.records.specs.declared.ChainCount.the-variants as count
 use Rattle.records.specs.Bytes.{piecesIn}
 use Rattle.records.specs.LogRecords.{logBytes, rawIn}
-use Rattle.records.specs.ChainTables.{chainCountOf}
+use Rattle.records.specs.ChainTables.{chainCountOf, isScale}
 use Rattle.records.specs.Jobs.{jobOf}
 use Rattle.text.specs.Texts.{digitsOf, spaced, flagText, bytesIn}
 use Rattle.listing.specs.declared.Carried.{Carried}
@@ -56,43 +56,44 @@ abbrev pub joined : Part → Part → Part
 joined first second = record { text = first .text ++ second .text; carried = second .carried }
 
 -- What the first record of a log answers, and its line. A short record is refused with 1.
-abbrev pub firstAnswer : Job → List ℕ → Carried → List ℕ → RecordAnswer
-firstAnswer j table before log = answerOf j table before (take logBytes log)
+abbrev pub firstAnswer : Job → List ℕ → List ℕ → Carried → List ℕ → RecordAnswer
+firstAnswer j table scale before log = answerOf j table scale before (take logBytes log)
 
-abbrev pub firstLine : Job → List ℕ → Carried → List ℕ → List ℕ
-firstLine j table before log = lineOf (take logBytes log) (firstAnswer j table before log)
+abbrev pub firstLine : Job → List ℕ → List ℕ → Carried → List ℕ → List ℕ
+firstLine j table scale before log = lineOf (take logBytes log) (firstAnswer j table scale before log)
 
 -- The lines of the first n records, each answered with the place that the one before it carries.
-unfoldable pub linesFrom : ℕ → Job → List ℕ → Carried → List ℕ → Part
-linesFrom zero j table before log = record { text = []; carried = before }
-linesFrom (suc n) j table before log =
-    lineBefore (firstLine j table before log) (linesFrom n j table (carriedBy (firstAnswer j table before log)) (drop logBytes log))
+unfoldable pub linesFrom : ℕ → Job → List ℕ → List ℕ → Carried → List ℕ → Part
+linesFrom zero j table scale before log = record { text = []; carried = before }
+linesFrom (suc n) j table scale before log =
+    lineBefore (firstLine j table scale before log) (linesFrom n j table scale (carriedBy (firstAnswer j table scale before log)) (drop logBytes log))
 
 -- How many records a log has, including a short last one.
 abbrev pub recordsIn : List ℕ → ℕ
 recordsIn log = piecesIn logBytes log
 
 -- The lines of a log.
-abbrev pub linesOf : Job → List ℕ → Carried → List ℕ → Part
-linesOf j table before log = linesFrom (recordsIn log) j table before log
+abbrev pub linesOf : Job → List ℕ → List ℕ → Carried → List ℕ → Part
+linesOf j table scale before log = linesFrom (recordsIn log) j table scale before log
 
--- The only line that is printed if the job or the table is refused.
+-- The only line that is printed if the job, the table or its side file is refused.
 abbrev pub noticeOf : List ℕ → ℕ → Part
 noticeOf word number = record { text = word ++ (bytesIn " REFUSED" ++ (spaced number ++ bytesIn "\n")); carried = carried.Nothing }
 
--- The listing: the job's refusal if the job is refused, else the table's refusal if that is refused, else the lines of the log.
-unfoldable pub listingBy : JobAnswer → ChainCount → List ℕ → List ℕ → Carried → Part
-listingBy (job.Refused number) chains table log before = noticeOf (bytesIn "JOB") number
-listingBy (job.Job j) (count.Refused number) table log before = noticeOf (bytesIn "CHAIN") number
-listingBy (job.Job j) (count.Chains n) table log before = linesOf j table before log
+-- The listing: the job's refusal if the job is refused, else the table's if that is refused, else 1 if the side file does not fit the
+-- table, else the lines of the log.
+unfoldable pub listingBy : JobAnswer → ChainCount → List ℕ → List ℕ → List ℕ → Carried → Part
+listingBy (job.Refused number) chains table scale log before = noticeOf (bytesIn "JOB") number
+listingBy (job.Job j) (count.Refused number) table scale log before = noticeOf (bytesIn "CHAIN") number
+listingBy (job.Job j) (count.Chains n) table scale log before = cond (isScale n scale) (linesOf j table scale before log) (noticeOf (bytesIn "SCALE") 1)
 
--- The listing of a log, or of a further part of one, from the bytes of job, table and log and the place carried to it.
-unfoldable pub listingFrom : List ℕ → List ℕ → List ℕ → Carried → Part
-listingFrom job table log before = listingBy (jobOf job) (chainCountOf table) table log before
+-- The listing of a log, or of a further part of one, from the bytes of job, table, side file and log and the place carried to it.
+unfoldable pub listingFrom : List ℕ → List ℕ → List ℕ → List ℕ → Carried → Part
+listingFrom job table scale log before = listingBy (jobOf job) (chainCountOf table) table scale log before
 
--- The whole output of the program for the bytes of job.dat, chain.dat and lay.dat.
-unfoldable pub listingOf : List ℕ → List ℕ → List ℕ → List ℕ
-listingOf job table log = listingFrom job table log carried.Nothing .text
+-- The whole output of the program for the bytes of job.dat, chain.dat, scale.dat and lay.dat.
+unfoldable pub listingOf : List ℕ → List ℕ → List ℕ → List ℕ → List ℕ
+listingOf job table scale log = listingFrom job table scale log carried.Nothing .text
 
 -- No line has more bytes than this: 256 places take at most 22 each, and all the rest of the line takes less than 128.
 abbrev pub longestLine : ℕ
@@ -116,7 +117,7 @@ pub record ListLeft : Type 0 where
   pub buffer : List ℕ
 
 -- What the listing of a log, or of a further part of one, leaves in a buffer.
-abbrev pub listLeft : List ℕ → List ℕ → List ℕ → List ℕ → Carried → ListLeft
-listLeft out job table log before =
-    let p = listingFrom job table log before in
+abbrev pub listLeft : List ℕ → List ℕ → List ℕ → List ℕ → List ℕ → Carried → ListLeft
+listLeft out job table scale log before =
+    let p = listingFrom job table scale log before in
     record { answer = listedIn (length out) log p; buffer = bufferWith out log p }

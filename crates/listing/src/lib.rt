@@ -5,6 +5,7 @@ ghost use Prim.Native.Nat.{ℕ, _+_, _*_, _/_, _≤_, _<_};
 ghost use lib.ListN.{length, take};
 ghost use Rattle.chart.specs.declared.Place.{Place};
 ghost use Rattle.search.specs.Answers.{Outcome, searchFigures};
+ghost use Rattle.records.specs.declared.ChainCount.the-variants as count;
 ghost use Rattle.records.specs.declared.JobAnswer.the-variants as job;
 ghost use Rattle.records.specs.Bytes.{byteAt};
 ghost use Rattle.records.specs.LogRecords.{logBytes};
@@ -66,30 +67,48 @@ pub const LONGEST_LINE: usize = 5_760;
 
 // Puts the listing of a log, or of a further part of a log, at the start of a buffer; `before` is the place carried to it. The
 // buffer must have room for the longest line, 5,760 bytes, for each whole record of the log and for one more; else the answer is 9.
-pub fn list(out: &mut [u8], job: &[u8], table: &[u8], log: &[u8], before: Carried) -> Listed
-    ensures answer { λ r. ⌜ r ≡ listLeft (now (out .entry)) (now (job .entry)) (now (table .entry)) (now (log .entry)) before .answer ⌝ }
-    ensures out { λ _. ⌜ now (out .exit) ≡ listLeft (now (out .entry)) (now (job .entry)) (now (table .entry)) (now (log .entry)) before .buffer ⌝ }
+pub fn list(out: &mut [u8], job: &[u8], table: &[u8], scale: &[u8], log: &[u8], before: Carried) -> Listed
+    ensures answer { λ r. ⌜ r ≡ listLeft (now (out .entry)) (now (job .entry)) (now (table .entry)) (now (scale .entry)) (now (log .entry)) before .answer ⌝ }
+    ensures out { λ _. ⌜ now (out .exit) ≡ listLeft (now (out .entry)) (now (job .entry)) (now (table .entry)) (now (scale .entry)) (now (log .entry)) before .buffer ⌝ }
 {
     if out.len() / LONGEST_LINE <= log.len() / LOG_BYTES {
         return Listed::Refused(9);
     }
     match records::job_of(job) {
-        JobAnswer::Job(j) => by_job(out, j, table, log, before),
+        JobAnswer::Job(j) => by_job(out, j, table, scale, log, before),
         JobAnswer::Refused(number) => notice(out, b"JOB", number),
     }
 }
 
-fn by_job(out: &mut [u8], j: Job, table: &[u8], log: &[u8], before: Carried) -> Listed
+fn by_job(out: &mut [u8], j: Job, table: &[u8], scale: &[u8], log: &[u8], before: Carried) -> Listed
     requires { ⌜ length (now log) / logBytes < length (now out) / longestLine ⌝ }
-    ensures { λ r. ⌜ Gives (now (out .entry)) (listingBy (job.Job j) (chainCountOf (now (table .entry))) (now (table .entry)) (now (log .entry)) before) (now (out .exit)) r ⌝ }
+    ensures { λ r. ⌜ Gives (now (out .entry)) (listingBy (job.Job j) (chainCountOf (now (table .entry))) (now (table .entry)) (now (scale .entry)) (now (log .entry)) before) (now (out .exit)) r ⌝ }
 {
     match records::chain_count(table) {
-        ChainCount::Chains(_) => lines(out, j, table, log, before),
+        ChainCount::Chains(n) => by_scale(out, j, n, table, scale, log, before),
         ChainCount::Refused(number) => notice(out, b"CHAIN", number),
     }
 }
 
-// Puts the only line that is printed if the job or the table is refused.
+fn by_scale(
+    out: &mut [u8],
+    j: Job,
+    chains: usize,
+    table: &[u8],
+    scale: &[u8],
+    log: &[u8],
+    before: Carried,
+) -> Listed
+    requires { ⌜ length (now log) / logBytes < length (now out) / longestLine ⌝ }
+    ensures { λ r. ⌜ Gives (now (out .entry)) (listingBy (job.Job j) (count.Chains chains) (now (table .entry)) (now (scale .entry)) (now (log .entry)) before) (now (out .exit)) r ⌝ }
+{
+    if !records::is_scale(chains, scale) {
+        return notice(out, b"SCALE", 1);
+    }
+    lines(out, j, table, scale, log, before)
+}
+
+// Puts the only line that is printed if the job, the table or its side file is refused.
 fn notice(out: &mut [u8], word: &[u8], number: u32) -> Listed
     requires { ⌜ (length (now word) ≤ 5) × (longestLine ≤ length (now out)) ⌝ }
     ensures { λ r. ⌜ Gives (now (out .entry)) (noticeOf (now (word .entry)) number) (now (out .exit)) r ⌝ }
@@ -105,12 +124,12 @@ fn notice(out: &mut [u8], word: &[u8], number: u32) -> Listed
 }
 
 // The program's list has room for 256 places, two entries each.
-fn lines(out: &mut [u8], j: Job, table: &[u8], log: &[u8], before: Carried) -> Listed
+fn lines(out: &mut [u8], j: Job, table: &[u8], scale: &[u8], log: &[u8], before: Carried) -> Listed
     requires { ⌜ length (now log) / logBytes < length (now out) / longestLine ⌝ }
-    ensures { λ r. ⌜ Gives (now (out .entry)) (linesOf j (now (table .entry)) before (now (log .entry))) (now (out .exit)) r ⌝ }
+    ensures { λ r. ⌜ Gives (now (out .entry)) (linesOf j (now (table .entry)) (now (scale .entry)) before (now (log .entry))) (now (out .exit)) r ⌝ }
 {
     let mut list = [0u32; 512];
-    each_line(out, &mut list, j, table, log, before)
+    each_line(out, &mut list, j, table, scale, log, before)
 }
 
 fn each_line(
@@ -118,18 +137,19 @@ fn each_line(
     list: &mut [u32],
     j: Job,
     table: &[u8],
+    scale: &[u8],
     log: &[u8],
     before: Carried,
 ) -> Listed
     requires { ⌜ (length (now list) ≡ listEntries) × (length (now log) / logBytes < length (now out) / longestLine) ⌝ }
-    ensures { λ r. ⌜ Gives (now (out .entry)) (linesOf j (now (table .entry)) before (now (log .entry))) (now (out .exit)) r ⌝ }
+    ensures { λ r. ⌜ Gives (now (out .entry)) (linesOf j (now (table .entry)) (now (scale .entry)) before (now (log .entry))) (now (out .exit)) r ⌝ }
 {
     let mut carried = before;
     let mut length = 0;
     let mut done = 0;
     while done < log.len() {
         let next = records::piece_end(done, LOG_BYTES, log.len());
-        let r = one(out, length, list, j, table, &log[done..next], carried);
+        let r = one(out, length, list, j, table, scale, &log[done..next], carried);
         length = r.end;
         carried = r.carried;
         done = next;
@@ -144,24 +164,25 @@ fn one(
     list: &mut [u32],
     j: Job,
     table: &[u8],
+    scale: &[u8],
     s: &[u8],
     before: Carried,
 ) -> LinesSoFar
     requires { ⌜ (length (now list) ≡ listEntries) × (at + longestLine ≤ length (now out)) ⌝ }
-    ensures line { λ r. ⌜ Put (now (out .entry)) at (lineOf (now (s .entry)) (answerOf j (now (table .entry)) before (now (s .entry)))) (now (out .exit)) (r .end) ⌝ }
+    ensures line { λ r. ⌜ Put (now (out .entry)) at (lineOf (now (s .entry)) (answerOf j (now (table .entry)) (now (scale .entry)) before (now (s .entry)))) (now (out .exit)) (r .end) ⌝ }
     ensures end { λ r. ⌜ r .end ≤ at + longestLine ⌝ }
-    ensures carried { λ r. ⌜ r .carried ≡ carriedBy (answerOf j (now (table .entry)) before (now (s .entry))) ⌝ }
+    ensures carried { λ r. ⌜ r .carried ≡ carriedBy (answerOf j (now (table .entry)) (now (scale .entry)) before (now (s .entry))) ⌝ }
 {
-    let t = answer(list, j, table, s, before);
+    let t = answer(list, j, table, scale, s, before);
     let end = put_line(out, at, list, s, t);
     let carried = carry(list, t.count, t.rounded);
     LinesSoFar { end, carried }
 }
 
 // What a record answers. Its places go to the list.
-fn answer(list: &mut [u32], j: Job, table: &[u8], s: &[u8], before: Carried) -> Told
+fn answer(list: &mut [u32], j: Job, table: &[u8], scale: &[u8], s: &[u8], before: Carried) -> Told
     requires { ⌜ length (now list) ≡ listEntries ⌝ }
-    ensures { λ r. ⌜ Tells (answerOf j (now (table .entry)) before (now (s .entry))) r (now (list .exit)) ⌝ }
+    ensures { λ r. ⌜ Tells (answerOf j (now (table .entry)) (now (scale .entry)) before (now (s .entry))) r (now (list .exit)) ⌝ }
 {
     let m = records::marked_entry(s);
     let first = m.first;
@@ -170,7 +191,7 @@ fn answer(list: &mut [u32], j: Job, table: &[u8], s: &[u8], before: Carried) -> 
     let entry = m.entry;
     match entry {
         LogEntry::Readings { a, b } => {
-            let chain = records::chain_of(table, chain_byte(s));
+            let chain = records::chain_of(table, scale, chain_byte(s));
             fix(list, j, chain, a, b, rounded)
         }
         LogEntry::Place(p) => single(list, Word::Grid, p, rounded),

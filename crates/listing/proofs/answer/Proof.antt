@@ -56,11 +56,10 @@ returns c =
     let told = call .before .before .before .before .known-told .given in
     let flag = entry .before .before in
     let read = flag .before in
-    let start = read .before .before .before .before in
+    let start = read .before .before .before .before .before in
     let byte = call .before .before .before .chain-byte .ensures in
-    let table = start .args .table .now in
-    tells-as (fix-same (start .args .j) _ _ _ _ _ _ _ (toZ-ofZ w64 _ (record { sfits = told .0 .1 })) (toZ-ofZ w64 _ (record { sfits = told .1 .0 .1 })) (call .before .before .chain-of .ensures ∙ ap (chainOf table) byte)
-    ∙ answer-by _ _ _ _ _ _ _ (read .marked-entry .ensures) (flag .any-rounded .ensures) (entry .entry .given .1)) (call .fix .ensures)
+    tells-as (fix-same (start .args .j) _ _ _ _ _ _ _ (toZ-ofZ w64 _ (record { sfits = told .0 .1 })) (toZ-ofZ w64 _ (record { sfits = told .1 .0 .1 })) (call .before .before .chain-of .ensures ∙ ap (chainOf (start .args .table .now) (start .args .scale .now)) byte)
+    ∙ answer-by _ _ _ _ _ _ _ _ (read .marked-entry .ensures) (flag .any-rounded .ensures) (entry .entry .given .1)) (call .fix .ensures)
 
 same-length-2 : tie.Need-same-length-2
 same-length-2 c = search needs
@@ -71,7 +70,7 @@ returns-2 c =
     let call = c .before .before in
     let entry = call .before .before .before in
     let flag = entry .before .before in
-    tells-as (answer-by _ _ _ _ _ _ _ (flag .before .marked-entry .ensures) (flag .any-rounded .ensures) (entry .entry2 .given .1))
+    tells-as (answer-by _ _ _ _ _ _ _ _ (flag .before .marked-entry .ensures) (flag .any-rounded .ensures) (entry .entry2 .given .1))
     (told-as (call .single .ensures .0) (grid-tells _ _ _ (call .single .ensures .1)))
 
 same-length-3 : tie.Need-same-length-3
@@ -83,14 +82,14 @@ returns-3 c =
     let call = c .before .before in
     let told = call .before .before in
     let flag = told .before .before in
-    tells-as (answer-by _ _ _ _ _ _ _ (flag .before .marked-entry .ensures) (flag .any-rounded .ensures) (told .enum-told .given .1)) (call .hold .ensures)
+    tells-as (answer-by _ _ _ _ _ _ _ _ (flag .before .marked-entry .ensures) (flag .any-rounded .ensures) (told .enum-told .given .1)) (call .hold .ensures)
 
 returns-4 : tie.Need-returns-4
 unfolding answerBy
 returns-4 c =
     let entry = c .before .before in
     let flag = entry .before .before in
-    tells-as (answer-by _ _ _ _ _ _ _ (flag .before .marked-entry .ensures) (flag .any-rounded .ensures) (entry .entry3 .given .1)) (c .refused .ensures _)
+    tells-as (answer-by _ _ _ _ _ _ _ _ (flag .before .marked-entry .ensures) (flag .any-rounded .ensures) (entry .entry3 .given .1)) (c .refused .ensures _)
 
 pub answer-spec : {M : Type 1} → statement M
 answer-spec =

@@ -1,4 +1,4 @@
--- `listing::by_job` meets its contract: the table's refusal, or the lines.
+-- `listing::by_job` meets its contract: the table's refusal, or the listing with its chains.
 use mathlib.Core.Path.{sym, _∙_}
 use borrow.Author.Needs.{needs}
 use Rattle.text.specs.Texts.{bytesIn}
@@ -10,11 +10,11 @@ use Rattle.listing.proofs.by_job.Tie as tie
 chain-count-requires : tie.Need-chain-count-requires
 chain-count-requires c κs = search needs
 
-enum-told : tie.Need-enum-told
-enum-told c = search needs
+enum-known-n : tie.Need-enum-known-n
+enum-known-n c = search needs
 
-lines-requires : tie.Need-lines-requires
-lines-requires c κs = search needs
+by-scale-requires : tie.Need-by-scale-requires
+by-scale-requires c κs = search needs
 
 enum-known-number : tie.Need-enum-known-number
 enum-known-number c = search needs
@@ -32,10 +32,10 @@ returns : tie.Need-returns
 unfolding listingBy
 returns c =
     let call = c .before .before in
-    let told = call .before .before in
+    let told = call .before .before .before in
     let read = told .before .before in
-    let a = read .before .before .before .before .args in
-    gives-as (by-count (a .table .now) (a .log .now) (a .before) (a .j) _ (sym (read .chain-count .ensures) ∙ told .enum-told .given .1)) (call .lines .ensures)
+    let a = read .before .before .before .before .before .args in
+    gives-as (by-count (a .table .now) (a .scale .now) (a .log .now) (a .before) (a .j) _ (sym (read .chain-count .ensures) ∙ told .n .given .1)) (call .by-scale .ensures)
 
 same-length-2 : tie.Need-same-length-2
 same-length-2 c = search needs
@@ -46,16 +46,16 @@ returns-2 c =
     let call = c .before .before in
     let told = call .before .before .before .before in
     let read = told .before .before in
-    let a = read .before .before .before .before .args in
-    gives-as (by-count (a .table .now) (a .log .now) (a .before) (a .j) _ (sym (read .chain-count .ensures) ∙ told .number .given .1)) (call .notice .ensures)
+    let a = read .before .before .before .before .before .args in
+    gives-as (by-count (a .table .now) (a .scale .now) (a .log .now) (a .before) (a .j) _ (sym (read .chain-count .ensures) ∙ told .number .given .1)) (call .notice .ensures)
 
 pub by-job-spec : {M : Type 1} → statement M
 by-job-spec =
     tie.close
     (tie.spec
     chain-count-requires
-    enum-told
-    lines-requires
+    enum-known-n
+    by-scale-requires
     enum-known-number
     slice-aggregate-notice
     notice-requires

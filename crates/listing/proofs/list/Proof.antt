@@ -37,9 +37,9 @@ returns-2 c =
     let call = c .before .before in
     let told = call .before .before .before in
     let read = told .before .before in
-    let a = read .before .before .before .before .before .before .args in
+    let a = read .before .before .before .before .before .before .before .args in
     with-room _ _ _ (read .before .if1 .left) _ _
-    (gives-as (by-job (a .table .now) (a .log .now) (a .before) (a .job .now) _ (sym (read .job-of .ensures) ∙ told .j .given .1)) (call .by-job .ensures))
+    (gives-as (by-job (a .table .now) (a .scale .now) (a .log .now) (a .before) (a .job .now) _ (sym (read .job-of .ensures) ∙ told .j .given .1)) (call .by-job .ensures))
 
 same-length-2 : tie.Need-same-length-2
 same-length-2 c = search needs
@@ -50,9 +50,9 @@ returns-3 c =
     let call = c .before .before in
     let told = call .before .before .before .before in
     let read = told .before .before in
-    let a = read .before .before .before .before .before .before .args in
+    let a = read .before .before .before .before .before .before .before .args in
     with-room _ _ _ (read .before .if1 .left) _ _
-    (gives-as (by-job (a .table .now) (a .log .now) (a .before) (a .job .now) _ (sym (read .job-of .ensures) ∙ told .number .given .1)) (call .notice .ensures))
+    (gives-as (by-job (a .table .now) (a .scale .now) (a .log .now) (a .before) (a .job .now) _ (sym (read .job-of .ensures) ∙ told .number .given .1)) (call .notice .ensures))
 
 pub list-spec : {M : Type 1} → statement M
 list-spec =

@@ -25,8 +25,8 @@ returns : tie.Need-returns
 returns c =
     let put = c .before .before .before .before in
     let told = put .before .before .before .before .before in
-    let a = told .before .before .before .before .before .before .args in
-    let answer = answerOf (a .j) (a .table .now) (a .before) (a .s .now) in
+    let a = told .before .before .before .before .before .before .before .args in
+    let answer = answerOf (a .j) (a .table .now) (a .scale .now) (a .before) (a .s .now) in
     let tells = told .answer .ensures in
     (put .put-line .ensures .0 answer tells, (put .put-line .ensures .1, c .carry .ensures (placesOf answer) (tells .places) ∙ ap (λ (t : Bool). only t (placesOf answer)) (tells .rounded)))
 
