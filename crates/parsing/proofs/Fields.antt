@@ -32,7 +32,7 @@ use Rattle.parsing.specs.declared.Form.the-variants as form
 use Rattle.parsing.specs.Words.{wordAt, noWord, isPassed}
 use Rattle.parsing.specs.Numbers.{isNumber, isBelow, fits, valueAt, lengthAt, held, sizeAt, readingAt, heldReading}
 use Rattle.parsing.specs.Forms.{wordsOf, takenFor, isTaken, isForm}
-use Rattle.parsing.specs.Parsed.{allowanceIn, parsedJob, parsedChain, parsedDraft, parsedQuestion, parsedReadings}
+use Rattle.parsing.specs.Parsed.{allowanceIn, factorIn, parsedJob, parsedChain, parsedDraft, parsedQuestion, parsedReadings}
 use Rattle.parsing.proofs.Forms.{form-word}
 use Rattle.parsing.proofs.Held.{heldPlace, held-in-range, heldChain, held-signed}
 use Rattle.parsing.proofs.HeldRecords.{heldJob, job-refused, job-kept, chain-refused, chain-kept, heldDraft, draft-refused, used-kept, draft-kept, named-held, expected-held, many-held}
@@ -50,7 +50,7 @@ jobTyped s =
     }
 
 abbrev pub chainTyped : List ℕ → Chain
-chainTyped s = record { master = placeTyped s 0; a = placeTyped s 2; b = placeTyped s 4 }
+chainTyped s = record { master = placeTyped s 0; a = placeTyped s 2; b = placeTyped s 4; factor = factorIn s }
 
 abbrev pub draftTyped : List ℕ → Draft
 draftTyped s =
@@ -142,32 +142,32 @@ draft-taken bytes s d said of typed accepted =
 
 -- A line that is read as a question: its number names the same chain of a table as the typed number, whatever its size; and at
 -- its place a chain has the same readings, or the same refusal, as at the typed place.
-pub question-as-typed : (table s : List ℕ) (number : ℕ) (p : Place) → parsedQuestion s ≡ question.Question number p →
-    (chainOf table number ≡ chainOf table (valueAt s 0))
+pub question-as-typed : (table scale s : List ℕ) (number : ℕ) (p : Place) → parsedQuestion s ≡ question.Question number p →
+    (chainOf table scale number ≡ chainOf table scale (valueAt s 0))
     × (inRange p ≡ inRange (placeTyped s 1))
     × ((c : Chain) → expectedAt c p ≡ expectedAt c (placeTyped s 1))
 unfolding parsedQuestion
-question-as-typed table s number p e =
+question-as-typed table scale s number p e =
     let of = passed (isForm form.Question s) (λ f. false≢true (cc)) e in
     let n : number ≡ held 32 (valueAt s 0) = cc (of .1) in
     let place : p ≡ heldPlace (placeTyped s 1) = cc (of .1) in (
-      ap (chainOf table) n ∙ named-held table (valueAt s 0),
+      ap (chainOf table scale) n ∙ named-held table scale (valueAt s 0),
       ap inRange place ∙ held-in-range 32 (lengthAt s 1) (lengthAt s 2) (omega arith),
       λ c. ap (expectedAt c) place ∙ expected-held c (placeTyped s 1),
     )
 
 -- A line that is read as readings: its number names the same chain of a table as the typed number, and by any job and chain its
 -- readings allow as many places as the typed ones, or are refused as these would be.
-pub readings-as-typed : (table s : List ℕ) (number : ℕ) (a b : ℤ) → parsedReadings s ≡ readings.Readings number a b →
-    (chainOf table number ≡ chainOf table (valueAt s 0))
+pub readings-as-typed : (table scale s : List ℕ) (number : ℕ) (a b : ℤ) → parsedReadings s ≡ readings.Readings number a b →
+    (chainOf table scale number ≡ chainOf table scale (valueAt s 0))
     × ((j : JobAnswer) (c : Chain) → manyBy j c (a ∷ b ∷ []) ≡ manyBy j c (readingAt s 1 ∷ readingAt s 2 ∷ []))
 unfolding parsedReadings
-readings-as-typed table s number a b e =
+readings-as-typed table scale s number a b e =
     let of = passed (isForm form.Readings s) (λ f. false≢true (cc)) e in
     let n : number ≡ held 32 (valueAt s 0) = cc (of .1) in
     let x : a ≡ heldReading s 1 = cc (of .1) in
     let y : b ≡ heldReading s 2 = cc (of .1) in (
-      ap (chainOf table) n ∙ named-held table (valueAt s 0),
+      ap (chainOf table scale) n ∙ named-held table scale (valueAt s 0),
       λ j c.
           ap₂ (λ (u v : ℤ). manyBy j c (u ∷ v ∷ [])) (x ∙ sym (held-signed (isBelow (wordAt 1 s)) (sizeAt s 1))) (y ∙ sym (held-signed (isBelow (wordAt 2 s)) (sizeAt s 2)))
           ∙ many-held c (readingAt s 1) (readingAt s 2) j,

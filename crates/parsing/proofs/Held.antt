@@ -11,8 +11,10 @@ use Rattle.metres.specs.Metres.{signed, mostCentimetres}
 use Rattle.chart.specs.declared.Place.{Place}
 use Rattle.chart.specs.declared.Chain.{Chain}
 use Rattle.chart.specs.Places.{mostEasting, mostNorthing, inRange}
+use Rattle.chart.specs.Factors.{leastFactor, mostFactor, isFactor}
 use Rattle.chart.specs.Chains.{stationsOf, allInRange, noTwoEqual, isSound}
 use Rattle.chart.proofs.PlaceLaws.{both, in-range-says}
+use Rattle.chart.proofs.GroundLaws.{factor-says}
 use Rattle.chart.proofs.ChainLaws.{each-in-range}
 use Rattle.search.specs.declared.Window.{Window}
 use Rattle.search.specs.Windows.{northEast, mostExponent, isWindow}
@@ -32,19 +34,19 @@ leb-agree a b most f g = go (leb b most) refl
 pub number-held : (bits n : ℕ) → n < 2 ^ bits → held bits n ≡ n
 number-held bits n h = omega arith
 
--- The tests: at most `most`, at most `most` after adding `more`, at least 1, equal to m, from 1 to `most`.
+-- The tests: at most `most`, at most `most` after adding `more`, at least `least`, equal to m, from 1 to `most`.
 pub held-most : (bits n most : ℕ) → most + 1 < 2 ^ bits → leb (held bits n) most ≡ leb n most
 held-most bits n most h = leb-agree (held bits n) n most (λ l. omega arith) (λ l. omega arith)
 
 held-farther : (bits n more most : ℕ) → most + 1 < 2 ^ bits → leb (held bits n + more) most ≡ leb (n + more) most
 held-farther bits n more most h = leb-agree (held bits n + more) (n + more) most (λ l. omega arith) (λ l. omega arith)
 
-pub held-some : (bits n : ℕ) → 1 < 2 ^ bits → leb 1 (held bits n) ≡ leb 1 n
-held-some bits n h = go (leb 1 n) refl
+pub held-least : (bits n least : ℕ) → least < 2 ^ bits → leb least (held bits n) ≡ leb least n
+held-least bits n least h = go (leb least n) refl
   where
-    go : (t : Bool) → leb 1 n ≡ t → leb 1 (held bits n) ≡ t
-    go true e = le-leb 1 (held bits n) (omega (arith, leb-true 1 n e))
-    go false e = lt-leb 1 (held bits n) (omega (arith, leb-false 1 n e))
+    go : (t : Bool) → leb least n ≡ t → leb least (held bits n) ≡ t
+    go true e = le-leb least (held bits n) (omega (arith, leb-true least n e))
+    go false e = lt-leb least (held bits n) (omega (arith, leb-false least n e))
 
 pub held-equal : (bits n m : ℕ) → m + 1 < 2 ^ bits → eqb (held bits n) m ≡ eqb n m
 held-equal bits n m h = go (eqb n m) refl
@@ -54,7 +56,7 @@ held-equal bits n m h = go (eqb n m) refl
     go false e = ne-eqb (held bits n) m (λ f. eqb-false n m e (omega arith))
 
 pub held-one-to : (bits most n : ℕ) → most + 1 < 2 ^ bits → oneTo most (held bits n) ≡ oneTo most n
-held-one-to bits most n h = ap₂ _&&_ (held-some bits n (omega arith)) (held-most bits n most h)
+held-one-to bits most n h = ap₂ _&&_ (held-least bits n 1 (omega arith)) (held-most bits n most h)
 
 -- A place.
 abbrev pub heldPlace : Place → Place
@@ -70,33 +72,43 @@ place-held p h =
     let says = in-range-says p h in
     rw (number-held 32 (p .easting) (omega arith), number-held 32 (p .northing) (omega arith))
 
+-- A factor.
+pub held-is-factor : (f : ℕ) → isFactor (held 32 f) ≡ isFactor f
+unfolding isFactor
+held-is-factor f = ap₂ _&&_ (held-least 32 f leastFactor (omega arith)) (held-most 32 f mostFactor (omega arith))
+
 -- A chain. Stations that are equal only as their fields hold them are out of range, and so are the typed ones.
 abbrev pub heldChain : Chain → Chain
-heldChain c = record { master = heldPlace (c .master); a = heldPlace (c .a); b = heldPlace (c .b) }
+heldChain c = record { master = heldPlace (c .master); a = heldPlace (c .a); b = heldPlace (c .b); factor = held 32 (c .factor) }
 
 held-all-in-range : (c : Chain) → allInRange (stationsOf (heldChain c)) ≡ allInRange (stationsOf c)
 held-all-in-range c =
     let one : (p : Place) → inRange (heldPlace p) ≡ inRange p = λ p. held-in-range 32 (p .easting) (p .northing) (omega arith) in
     rw (one (c .master), one (c .a), one (c .b))
 
-all-held : (c : Chain) → allInRange (stationsOf c) ≡ true → heldChain c ≡ c
-all-held c h =
+all-held : (c : Chain) → isFactor (c .factor) ≡ true → allInRange (stationsOf c) ≡ true → heldChain c ≡ c
+all-held c f h =
     let each = each-in-range (stationsOf c) h in
-    rw (place-held (c .master) (each .0), place-held (c .a) (each .1 .0), place-held (c .b) (each .1 .1 .0))
+    rw (place-held (c .master) (each .0), place-held (c .a) (each .1 .0), place-held (c .b) (each .1 .1 .0), number-held 32 (c .factor) (omega (arith, factor-says (c .factor) f .1)))
 
 pub held-sound : (c : Chain) → isSound (heldChain c) ≡ isSound c
 unfolding isSound
-held-sound c = go (allInRange (stationsOf c)) refl
+held-sound c = go (isFactor (c .factor)) refl (allInRange (stationsOf c)) refl
   where
-    go : (t : Bool) → allInRange (stationsOf c) ≡ t → isSound (heldChain c) ≡ isSound c
-    go true e = ap isSound (all-held c e)
-    go false e =
-        ap (λ (t : Bool). t && noTwoEqual (stationsOf (heldChain c))) (held-all-in-range c ∙ e)
-        ∙ sym (ap (λ (t : Bool). t && noTwoEqual (stationsOf c)) e)
+    go : (f : Bool) → isFactor (c .factor) ≡ f → (t : Bool) → allInRange (stationsOf c) ≡ t → isSound (heldChain c) ≡ isSound c
+    go true f true e = ap isSound (all-held c f e)
+    go true f false e =
+        ap₂ (λ (t u : Bool). t && (u && noTwoEqual (stationsOf (heldChain c)))) (held-is-factor (c .factor) ∙ f) (held-all-in-range c ∙ e)
+        ∙ sym (ap₂ (λ (t u : Bool). t && (u && noTwoEqual (stationsOf c))) f e)
+    go false f t e =
+        ap (λ (t : Bool). t && (allInRange (stationsOf (heldChain c)) && noTwoEqual (stationsOf (heldChain c)))) (held-is-factor (c .factor) ∙ f)
+        ∙ sym (ap (λ (t : Bool). t && (allInRange (stationsOf c) && noTwoEqual (stationsOf c))) f)
 
 pub chain-held : (c : Chain) → isSound c ≡ true → heldChain c ≡ c
 unfolding isSound
-chain-held c h = all-held c (both (allInRange (stationsOf c)) (noTwoEqual (stationsOf c)) h .0)
+chain-held c h =
+    let two = both (isFactor (c .factor)) _ h in
+    all-held c (two .0) (both (allInRange (stationsOf c)) (noTwoEqual (stationsOf c)) (two .1) .0)
 
 -- A window.
 abbrev pub heldWindow : Window → Window

@@ -146,13 +146,13 @@ table-few table h =
     one-to-says mostChains (chainsIn table)
     (both (eqb (length table % chainBytes) 0) (oneTo mostChains (chainsIn table)) h .1) .1
 
-pub named-held : (table : List ℕ) (n : ℕ) → chainOf table (held 32 n) ≡ chainOf table n
+pub named-held : (table scale : List ℕ) (n : ℕ) → chainOf table scale (held 32 n) ≡ chainOf table scale n
 unfolding chainOf
-named-held table n = go (isTable table) refl (ltb n (2 ^ 32)) refl
+named-held table scale n = go (isTable table) refl (ltb n (2 ^ 32)) refl
   where
-    go : (t : Bool) → isTable table ≡ t → (u : Bool) → ltb n (2 ^ 32) ≡ u → chainOf table (held 32 n) ≡ chainOf table n
+    go : (t : Bool) → isTable table ≡ t → (u : Bool) → ltb n (2 ^ 32) ≡ u → chainOf table scale (held 32 n) ≡ chainOf table scale n
     go false e u f = rw e
-    go true e true f = ap (chainOf table) (number-held 32 n (ltb-true n (2 ^ 32) f))
+    go true e true f = ap (chainOf table scale) (number-held 32 n (ltb-true n (2 ^ 32) f))
     go true e false f =
         let few = table-few table e in
         let over = lt-leb n (chainsIn table) (omega (arith, ltb-false n (2 ^ 32) f)) in

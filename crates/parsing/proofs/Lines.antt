@@ -76,9 +76,9 @@ pub asked : {w w′ : Window} {t t′ n n′ : ℕ} → w ≡ w′ → t ≡ t�
     Job (record { window = w; tolerance = t; allowance = n }) ≡ Job (record { window = w′; tolerance = t′; allowance = n′ })
 asked w t n = rw (w, t, n)
 
-pub linked : {m m′ a a′ b b′ : Place} → m ≡ m′ → a ≡ a′ → b ≡ b′ →
-    Chain (record { master = m; a = a; b = b }) ≡ Chain (record { master = m′; a = a′; b = b′ })
-linked m a b = rw (m, a, b)
+pub linked : {m m′ a a′ b b′ : Place} {f f′ : ℕ} → m ≡ m′ → a ≡ a′ → b ≡ b′ → f ≡ f′ →
+    Chain (record { master = m; a = a; b = b; factor = f }) ≡ Chain (record { master = m′; a = a′; b = b′; factor = f′ })
+linked m a b f = rw (m, a, b, f)
 
 pub drafted : {k k′ n n′ l l′ : ℕ} {x x′ y y′ : ℤ} → k ≡ k′ → n ≡ n′ → l ≡ l′ → x ≡ x′ → y ≡ y′ →
     Draft (record { kind = k; chain = n; line = l; x = x; y = y }) ≡ Draft (record { kind = k′; chain = n′; line = l′; x = x′; y = y′ })

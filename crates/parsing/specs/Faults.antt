@@ -8,6 +8,8 @@ use Rattle.metres.specs.Metres.{mostCentimetres}
 use Rattle.chart.specs.declared.Place.{Place}
 use Rattle.chart.specs.declared.Chain.{Chain}
 use Rattle.chart.specs.Places.{placeOf, inRange, samePlace}
+use Rattle.chart.specs.Factors.{unitFactor}
+use Rattle.chart.specs.Chains.{isSound}
 use Rattle.search.specs.Windows.{mostExponent, isWindow}
 use Rattle.records.specs.declared.Job.{Job}
 use Rattle.records.specs.LogRecords.{isPlace}
@@ -34,12 +36,16 @@ draftFault number d =
     (cond (eqb number 3) (cond (leb (natAbs (d .x)) mostCentimetres) 4 3)
     (cond (eqb number 4) (cond (isPlace (d .x) (pos 0)) 4 3) 1))
 
+-- The stations of a chain with the factor 1.
+abbrev pub unscaled : Chain → Chain
+unscaled c = record { master = c .master; a = c .a; b = c .b; factor = unitFactor }
+
 -- Of a chain that is not sound: the first easting or northing that is out of range; or, if none is, the first word of a station
--- that stands where one before it does.
+-- that stands where one before it does; or, if the stations are sound by themselves, its factor.
 unfoldable pub chainFault : Chain → ChainFault
 chainFault c =
     cond (inRange (c .master))
     (cond (inRange (c .a))
-    (cond (inRange (c .b)) (fault.Spot (cond (samePlace (c .master) (c .a)) 2 4)) (fault.Range (4 + placeFault (c .b))))
+    (cond (inRange (c .b)) (cond (isSound (unscaled c)) fault.Factor (fault.Spot (cond (samePlace (c .master) (c .a)) 2 4))) (fault.Range (4 + placeFault (c .b))))
     (fault.Range (2 + placeFault (c .a))))
     (fault.Range (placeFault (c .master)))

@@ -14,18 +14,18 @@ use Rattle.parsing.specs.declared.Wrong.the-variants as wrong
 use Rattle.parsing.specs.Words.{run, wordAt, noWord}
 use Rattle.parsing.specs.Numbers.{isNumber, fits, isLength, isBelow, isReading}
 
--- How many words a line has, and what its word i, counted from 0, is taken for. The last word of a job, its allowance, may be
--- missing.
+-- How many words a line has, and what its word i, counted from 0, is taken for. The last word of a job, its allowance, and that of a
+-- chain, its factor, may be missing.
 unfoldable pub wordsOf : Form → ℕ
 wordsOf form.Job = 5
-wordsOf form.Chain = 6
+wordsOf form.Chain = 7
 wordsOf form.Draft = 5
 wordsOf form.Question = 3
 wordsOf form.Readings = 3
 
 unfoldable pub takenFor : Form → ℕ → Taken
 takenFor form.Job i = cond (eqb i 2) taken.Number (cond (eqb i 4) taken.Allowance taken.Length)
-takenFor form.Chain i = taken.Length
+takenFor form.Chain i = cond (eqb i 6) taken.Factor taken.Length
 takenFor form.Draft i = cond (ltb i 2) taken.Number (cond (eqb i 2) taken.Line taken.Reading)
 takenFor form.Question i = cond (eqb i 0) taken.Number taken.Length
 takenFor form.Readings i = cond (eqb i 0) taken.Number taken.Reading
@@ -37,6 +37,7 @@ isTaken taken.Line w = isNumber w && fits 32 (numeral w)
 isTaken taken.Allowance w = eqb (length w) 0 || (isNumber w && fits 64 (numeral w))
 isTaken taken.Length w = isLength w
 isTaken taken.Reading w = isReading w
+isTaken taken.Factor w = eqb (length w) 0 || isNumber w
 
 -- How many of the first n words are what they are taken for, up to the first that is not.
 unfoldable pub goodUpTo : Form → ℕ → List ℕ → ℕ
@@ -65,6 +66,7 @@ wrongIn taken.Line w = cond (isNumber w) wrong.Large wrong.Digits
 wrongIn taken.Allowance w = cond (isNumber w) wrong.Large wrong.Digits
 wrongIn taken.Length w = cond (isBelow w) wrong.Sign (cond (hasPoint w) wrong.Decimals wrong.Figures)
 wrongIn taken.Reading w = cond (hasPoint w) wrong.Decimals wrong.Figures
+wrongIn taken.Factor w = wrong.Digits
 
 -- The same for the word i of a line, which may be missing, or one too many.
 unfoldable pub wrongAt : Form → List ℕ → ℕ → Wrong

@@ -6,6 +6,7 @@ use mathlib.Core.Bool.{cond}
 use mathlib.Core.List.{List}
 use Rattle.chart.specs.declared.Place.{Place}
 use Rattle.chart.specs.declared.Chain.{Chain}
+use Rattle.chart.specs.Factors.{unitFactor}
 use Rattle.search.specs.declared.Window.{Window}
 use Rattle.records.specs.declared.Job.{Job}
 use Rattle.records.specs.Bytes.{unless}
@@ -45,12 +46,17 @@ parsedJob s =
     (job.Job
     (record { window = windowIn s; tolerance = held 32 (lengthAt s 3); allowance = held 64 (allowanceIn s) }))
 
--- A chain: easting and northing of master, A and B. A blank line or one that begins with # stands for nothing.
+-- The factor in the seventh word, or the factor 1 if it is missing (02, A3).
+abbrev pub factorIn : List ℕ → ℕ
+factorIn s = cond (noWord 6 s) unitFactor (valueAt s 6)
+
+-- A chain: easting and northing of master, A and B and, if it is not 1, the factor. A blank line or one that begins with # stands
+-- for nothing.
 unfoldable pub parsedChain : List ℕ → ParsedChain
 parsedChain s =
     cond (isPassed s) chain.Passed
     (unless (isForm form.Chain s) (chain.Refused 12)
-    (chain.Chain (record { master = placeIn s 0; a = placeIn s 2; b = placeIn s 4 })))
+    (chain.Chain (record { master = placeIn s 0; a = placeIn s 2; b = placeIn s 4; factor = held 32 (factorIn s) })))
 
 -- A log record: kind chain line x y. A blank line or one that begins with # stands for nothing.
 unfoldable pub parsedDraft : List ℕ → ParsedDraft

@@ -7,14 +7,16 @@ ghost use lib.IntN.{pos, natAbs};
 ghost use lib.ListN.{length, drop};
 ghost use Rattle.metres.specs.Metres.{mostCentimetres};
 ghost use Rattle.chart.specs.Places.{samePlace};
+ghost use Rattle.chart.specs.Chains.{isSound};
 ghost use Rattle.records.specs.LogRecords.{isPlace};
 ghost use Rattle.text.specs.Texts.{numeral, numeralFrom};
 ghost use Rattle.parsing.specs.Words.{run, areAll, isInLine, isBlank, isOneWord, wordAt, startAt, spanAt, Spans, noWord, isPassed};
 ghost use Rattle.parsing.specs.Numbers.{isDigit, isNumber, isMetres, isLength, centimetresIn, isBelow, sizeIn, isReading, valueAt, lengthAt, held, heldReading};
 ghost use Rattle.parsing.specs.Forms.{wordsOf, takenFor, isTaken, goodWords, isForm, hasPoint, wrongIn, wrongAt};
-ghost use Rattle.parsing.specs.Parsed.{placeIn, windowIn, allowanceIn, parsedJob, parsedChain, parsedDraft, parsedQuestion, parsedReadings};
-ghost use Rattle.parsing.specs.Faults.{placeFault, jobFault, draftFault, chainFault};
+ghost use Rattle.parsing.specs.Parsed.{placeIn, windowIn, allowanceIn, factorIn, parsedJob, parsedChain, parsedDraft, parsedQuestion, parsedReadings};
+ghost use Rattle.parsing.specs.Faults.{placeFault, jobFault, draftFault, unscaled, chainFault};
 ghost use Rattle.parsing.specs.Scanning.{isOf, sizedOf, isValue, heldTo, heldIn, fitsIn};
+ghost use Rattle.parsing.specs.declared.ChainFault.the-variants as fault;
 ghost use Rattle.parsing.specs.declared.Form.the-variants as forms;
 ghost use Rattle.parsing.specs.declared.Taken.the-variants as kinds;
 use chart::Chain;
@@ -67,6 +69,7 @@ pub enum Taken {
     Allowance,
     Length,
     Reading,
+    Factor,
 }
 
 // What is wrong with a word: it is missing, or one too many; a number that is not in digits alone, or too large; metres without two
@@ -82,9 +85,11 @@ pub enum Wrong {
 }
 
 // The word of a chain that is at fault, counted from 0: it is out of range, or begins a station that stands where one before it does.
+// Or it is the factor.
 pub enum ChainFault {
     Range(usize),
     Spot(usize),
+    Factor,
 }
 
 // Some bytes of a line: from `start` on, up to but without `end`.
@@ -150,6 +155,7 @@ pub fn chain(line: &[u8]) -> ParsedChain
         master: place(line, 0),
         a: place(line, 2),
         b: place(line, 4),
+        factor: factor(line),
     })
 }
 
@@ -234,7 +240,7 @@ pub fn taken_for(form: Form, i: usize) -> Taken
 {
     match form {
         Form::Job => in_job(i),
-        Form::Chain => Taken::Length,
+        Form::Chain => in_chain(i),
         Form::Draft => in_draft(i),
         Form::Question => in_question(i),
         Form::Readings => in_readings(i),
@@ -247,7 +253,7 @@ pub fn words_of(form: Form) -> usize
 {
     match form {
         Form::Job => 5,
-        Form::Chain => 6,
+        Form::Chain => 7,
         Form::Draft => 5,
         Form::Question => 3,
         Form::Readings => 3,
@@ -340,6 +346,24 @@ pub fn chain_fault(c: Chain) -> ChainFault
     if !chart::in_range(c.b) {
         return ChainFault::Range(4 + place_fault(c.b));
     }
+    on_grid_fault(c)
+}
+
+// The same if all stations are in range.
+fn on_grid_fault(c: Chain) -> ChainFault
+    ensures { λ r. ⌜ r ≡ cond (isSound (unscaled c)) fault.Factor (fault.Spot (cond (samePlace (c .master) (c .a)) 2 4)) ⌝ }
+{
+    let master = c.master;
+    let a = c.a;
+    let b = c.b;
+    if chart::sound(Chain {
+        master,
+        a,
+        b,
+        factor: chart::UNIT_FACTOR,
+    }) {
+        return ChainFault::Factor;
+    }
     ChainFault::Spot(spot_fault(c))
 }
 
@@ -382,6 +406,15 @@ fn in_job(i: usize) -> Taken
     }
     if i == 4 {
         return Taken::Allowance;
+    }
+    Taken::Length
+}
+
+fn in_chain(i: usize) -> Taken
+    ensures { λ r. ⌜ r ≡ takenFor forms.Chain i ⌝ }
+{
+    if i == 6 {
+        return Taken::Factor;
     }
     Taken::Length
 }
@@ -442,6 +475,7 @@ fn is_taken(w: &[u8], taken: Taken) -> bool
         Taken::Allowance => is_allowance(w),
         Taken::Length => is_length(w),
         Taken::Reading => is_reading(w),
+        Taken::Factor => is_factor(w),
     }
 }
 
@@ -454,6 +488,7 @@ fn wrong_in(w: &[u8], taken: Taken) -> Wrong
         Taken::Allowance => wrong_number(w),
         Taken::Length => wrong_length(w),
         Taken::Reading => wrong_reading(w),
+        Taken::Factor => Wrong::Digits,
     }
 }
 
@@ -509,6 +544,15 @@ fn is_allowance(w: &[u8]) -> bool
         return false;
     }
     fits_64(value(w))
+}
+
+fn is_factor(w: &[u8]) -> bool
+    ensures { λ r. ⌜ r ≡ isTaken kinds.Factor (now (w .entry)) ⌝ }
+{
+    if w.len() == 0 {
+        return true;
+    }
+    is_number(w)
 }
 
 fn is_reading(w: &[u8]) -> bool
@@ -578,6 +622,15 @@ fn allowance(s: &[u8]) -> u64
         return records::USUAL_ALLOWANCE;
     }
     as_64(number(s, 4))
+}
+
+fn factor(s: &[u8]) -> u32
+    ensures { λ r. ⌜ r ≡ held 32 (factorIn (now (s .entry))) ⌝ }
+{
+    if no_word(s, 6) {
+        return chart::UNIT_FACTOR;
+    }
+    as_32(number(s, 6))
 }
 
 // The place in the words i and i + 1, counted from 0.

@@ -35,14 +35,18 @@ place-requires-2 c κs = search needs
 place-requires-3 : tie.Need-place-requires-3
 place-requires-3 c κs = search needs
 
+factor-requires : tie.Need-factor-requires
+factor-requires c κs = search needs
+
 returns-3 : tie.Need-returns-3
 unfolding parsedChain
 returns-3 c =
-    let a = c .before in
+    let b = c .before in
+    let a = b .before in
     let master = a .before in
     let line = master .before in
     rw (said (line .before .before), sym (line .before .is-form .ensures) ∙ not-false _ (line .if2 .left))
-    (linked (master .place .ensures) (a .place2 .ensures) (c .place3 .ensures))
+    (linked (master .place .ensures) (a .place2 .ensures) (b .place3 .ensures) (c .factor .ensures))
 
 pub chain-spec : {M : Type 1} → statement M
 chain-spec =
@@ -55,4 +59,5 @@ chain-spec =
     place-requires
     place-requires-2
     place-requires-3
+    factor-requires
     returns-3)

@@ -57,8 +57,8 @@ returns-3 c =
     )
     (ap (λ (n : ℕ). fault.Range (4 + n)) (c .place-fault3 .ensures))
 
-spot-fault-requires : tie.Need-spot-fault-requires
-spot-fault-requires c κs = search needs
+on-grid-fault-requires : tie.Need-on-grid-fault-requires
+on-grid-fault-requires c κs = search needs
 
 returns-4 : tie.Need-returns-4
 unfolding chainFault
@@ -70,7 +70,7 @@ returns-4 c =
       sym (a .before .in-range2 .ensures) ∙ not-false _ (a .if2 .left),
       sym (test .before .in-range3 .ensures) ∙ not-false _ (test .if3 .left),
     )
-    (ap fault.Spot (c .spot-fault .ensures))
+    (c .on-grid-fault .ensures)
 
 pub chain-fault-spec : {M : Type 1} → statement M
 chain-fault-spec =
@@ -87,5 +87,5 @@ chain-fault-spec =
     place-fault-requires-3
     add-t8
     returns-3
-    spot-fault-requires
+    on-grid-fault-requires
     returns-4)

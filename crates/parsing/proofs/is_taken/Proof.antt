@@ -36,6 +36,12 @@ enum-told-5 c = search needs
 is-reading-requires : tie.Need-is-reading-requires
 is-reading-requires c κs = search needs
 
+enum-told-6 : tie.Need-enum-told-6
+enum-told-6 c = search needs
+
+is-factor-requires : tie.Need-is-factor-requires
+is-factor-requires c κs = search needs
+
 returns : tie.Need-returns
 unfolding isTaken
 returns c = c .is-number .ensures ∙ sym (ap (λ (t : Taken). isTaken t (c .before .before .before .before .args .w .now)) (c .before .enum-told .given .1))
@@ -54,6 +60,9 @@ returns-5 : tie.Need-returns-5
 unfolding isTaken
 returns-5 c = c .is-reading .ensures ∙ sym (ap (λ (t : Taken). isTaken t (c .before .before .before .before .args .w .now)) (c .before .enum-told5 .given .1))
 
+returns-6 : tie.Need-returns-6
+returns-6 c = c .is-factor .ensures ∙ sym (ap (λ (t : Taken). isTaken t (c .before .before .before .before .args .w .now)) (c .before .enum-told6 .given .1))
+
 pub is-taken-spec : {M : Type 1} → statement M
 is-taken-spec =
     tie.close
@@ -68,8 +77,11 @@ is-taken-spec =
     is-length-requires
     enum-told-5
     is-reading-requires
+    enum-told-6
+    is-factor-requires
     returns
     returns-2
     returns-3
     returns-4
-    returns-5)
+    returns-5
+    returns-6)

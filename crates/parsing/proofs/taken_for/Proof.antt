@@ -15,6 +15,9 @@ in-job-requires c κs = search needs
 enum-told-2 : tie.Need-enum-told-2
 enum-told-2 c = search needs
 
+in-chain-requires : tie.Need-in-chain-requires
+in-chain-requires c κs = search needs
+
 enum-told-3 : tie.Need-enum-told-3
 enum-told-3 c = search needs
 
@@ -37,8 +40,7 @@ returns : tie.Need-returns
 returns c = c .in-job .ensures ∙ sym (ap (λ (f : Form). takenFor f (c .before .before .before .args .i)) (c .before .enum-told .given .1))
 
 returns-2 : tie.Need-returns-2
-unfolding takenFor
-returns-2 c = sym (ap (λ (f : Form). takenFor f (c .before .before .args .i)) (c .enum-told2 .given .1))
+returns-2 c = c .in-chain .ensures ∙ sym (ap (λ (f : Form). takenFor f (c .before .before .before .args .i)) (c .before .enum-told2 .given .1))
 
 returns-3 : tie.Need-returns-3
 returns-3 c = c .in-draft .ensures ∙ sym (ap (λ (f : Form). takenFor f (c .before .before .before .args .i)) (c .before .enum-told3 .given .1))
@@ -56,6 +58,7 @@ taken-for-spec =
     enum-told
     in-job-requires
     enum-told-2
+    in-chain-requires
     enum-told-3
     in-draft-requires
     enum-told-4

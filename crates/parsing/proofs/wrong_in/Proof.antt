@@ -33,6 +33,9 @@ enum-told-5 c = search needs
 wrong-reading-requires : tie.Need-wrong-reading-requires
 wrong-reading-requires c κs = search needs
 
+enum-told-6 : tie.Need-enum-told-6
+enum-told-6 c = search needs
+
 returns : tie.Need-returns
 unfolding wrongIn
 returns c = sym (ap (λ (t : Taken). wrongIn t (c .before .before .before .args .w .now)) (c .enum-told .given .1))
@@ -51,6 +54,10 @@ returns-4 c = c .wrong-length .ensures ∙ sym (ap (λ (t : Taken). wrongIn t (c
 returns-5 : tie.Need-returns-5
 returns-5 c = c .wrong-reading .ensures ∙ sym (ap (λ (t : Taken). wrongIn t (c .before .before .before .before .args .w .now)) (c .before .enum-told5 .given .1))
 
+returns-6 : tie.Need-returns-6
+unfolding wrongIn
+returns-6 c = sym (ap (λ (t : Taken). wrongIn t (c .before .before .before .args .w .now)) (c .enum-told6 .given .1))
+
 pub wrong-in-spec : {M : Type 1} → statement M
 wrong-in-spec =
     tie.close
@@ -64,8 +71,10 @@ wrong-in-spec =
     wrong-length-requires
     enum-told-5
     wrong-reading-requires
+    enum-told-6
     returns
     returns-2
     returns-3
     returns-4
-    returns-5)
+    returns-5
+    returns-6)
