@@ -1,7 +1,7 @@
 -- What follows from the definitions of the records.
 pub mod Theorems
 mod ByteLaws
-mod ReadLaws
+pub mod ReadLaws
 mod LogLaws
 pub mod MarkLaws
 pub mod GridLaws

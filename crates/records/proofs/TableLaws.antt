@@ -12,7 +12,7 @@ use Rattle.chart.specs.Chains.{isSound}
 use Rattle.chart.proofs.PlaceLaws.{both}
 use Rattle.records.specs.declared.ChainCount.the-variants as count
 use Rattle.records.specs.declared.NamedChain.the-variants as named
-use Rattle.records.specs.ChainTables.{chainBytes, mostChains, factorBytes, oneTo, chainsIn, isTable, chainCountOf, isScale, chainIn, chainOf}
+use Rattle.records.specs.ChainTables.{chainBytes, mostChains, factorBytes, oneTo, chainsIn, isTable, chainCountOf, isScale, scaledCountOf, chainIn, chainOf}
 
 -- 0 is not from 1 to `most`; any other number is if it is at most `most`.
 pub none-of : (most n : ℕ) → n ≡ 0 → oneTo most n ≡ false
@@ -50,6 +50,19 @@ whole-factors chains s h = go (ℕ-discrete (length s / factorBytes) chains)
     go : Dec (length s / factorBytes ≡ chains) → isScale chains s ≡ eqb (length s / factorBytes) chains
     go (yes e) = eq-eqb (length s) (factorBytes * chains) (omega (arith, e, h)) ∙ sym (eq-eqb _ _ e)
     go (no f) = ne-eqb (length s) (factorBytes * chains) (λ e. f (omega (arith, e))) ∙ sym (ne-eqb _ _ f)
+
+-- What counting the chains answers if the side file is looked at too.
+pub scaled-1 : (s scale : List ℕ) → isTable s ≡ false → scaledCountOf s scale ≡ count.Refused 1
+unfolding scaledCountOf
+scaled-1 s scale h = rw h
+
+pub scaled-unfit : (s scale : List ℕ) → isTable s ≡ true → isScale (chainsIn s) scale ≡ false → scaledCountOf s scale ≡ count.Refused 1
+unfolding scaledCountOf
+scaled-unfit s scale h fits = rw (h, fits)
+
+pub scaled-counted : (s scale : List ℕ) → isTable s ≡ true → isScale (chainsIn s) scale ≡ true → scaledCountOf s scale ≡ count.Chains (chainsIn s)
+unfolding scaledCountOf
+scaled-counted s scale h fits = rw (h, fits)
 
 -- What is answered when a number names a chain.
 module _ (s scale : List ℕ) (number : ℕ) where

@@ -22,7 +22,7 @@ use Rattle.records.specs.declared.NamedChain.{NamedChain}
 use Rattle.records.specs.declared.JobAnswer.{JobAnswer}
 use Rattle.records.specs.Bytes.{numberIn}
 use Rattle.records.specs.LogRecords.{logBytes, rawRecordOf, isHyperbolic, isGrid, isHold, logRecordOf, isPlace, placed, inCentimetres, logEntryOf}
-use Rattle.records.specs.ChainTables.{oneTo, chainsIn, isTable, chainCountOf, isScale, chainIn, chainOf}
+use Rattle.records.specs.ChainTables.{oneTo, chainsIn, isTable, chainCountOf, isScale, scaledCountOf, chainIn, chainOf}
 use Rattle.records.specs.Jobs.{jobBytes, jobIn, jobOf}
 use Rattle.records.specs.Refusals.{rawRefusal, logRefusal, entryRefusal, countRefusal, chainRefusal, jobRefusal, isAmong}
 use Rattle.records.proofs.RefusalLaws.{Among, unless-either, either-kind, both-or-three}
@@ -59,10 +59,16 @@ entry-refusals s =
     (both-or-three among placed (centimetresOf (numberIn s 8)) (centimetresOf (numberIn s 16)) refl (λ e n. unless-either among (isPlace e n) refl refl))
     (either-kind of-record (isHold s) refl refl)))
 
--- The count of a chain table can be refused with 1.
+-- The count of a chain table can be refused with 1, also if its side file is looked at.
 pub count-refusals : (s : List ℕ) → isAmong (countRefusal (chainCountOf s)) (0 ∷ 1 ∷ []) ≡ true
 unfolding chainCountOf countRefusal isAmong
 count-refusals s = unless-either (Among countRefusal (0 ∷ 1 ∷ [])) (isTable s) refl refl
+
+pub scaled-refusals : (s scale : List ℕ) → isAmong (countRefusal (scaledCountOf s scale)) (0 ∷ 1 ∷ []) ≡ true
+unfolding scaledCountOf countRefusal isAmong
+scaled-refusals s scale =
+    let among = Among countRefusal (0 ∷ 1 ∷ []) in
+    unless-either among (isTable s) refl (unless-either among (isScale (chainsIn s) scale) refl refl)
 
 -- A chain of a table can be refused with 1 or 5.
 pub chain-refusals : (s scale : List ℕ) (number : ℕ) → isAmong (chainRefusal (chainOf s scale number)) (0 ∷ 1 ∷ 5 ∷ []) ≡ true

@@ -46,6 +46,12 @@ chainCountOf s = unless (isTable s) (count.Refused 1) (count.Chains (chainsIn s)
 abbrev pub isScale : ℕ → List ℕ → Bool
 isScale chains s = eqb (length s) (factorBytes * chains)
 
+-- How many chains a table has that its side file fits; refusal 1 for the table, then for the side file.
+unfoldable pub scaledCountOf : List ℕ → List ℕ → ChainCount
+scaledCountOf s scale =
+    unless (isTable s) (count.Refused 1)
+    (unless (isScale (chainsIn s) scale) (count.Refused 1) (count.Chains (chainsIn s)))
+
 -- A place in eight bytes: easting, then northing.
 abbrev pub placeAt : List ℕ → ℕ → Place
 placeAt s at = record { easting = fieldAt 4 s at; northing = fieldAt 4 s (at + 4) }

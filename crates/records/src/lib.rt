@@ -10,7 +10,7 @@ ghost use Rattle.records.specs.declared.LogEntry.the-variants as entry;
 ghost use Rattle.records.specs.declared.LogRecord.the-variants as log;
 ghost use Rattle.records.specs.Bytes.{byteAt, numberIn, areZero, pieceEnd};
 ghost use Rattle.records.specs.LogRecords.{logBytes, rawRecordOf, isHyperbolic, isGrid, isHold, logRecordOf, isPlace, placed, pairOf, withPair, logEntryOf};
-ghost use Rattle.records.specs.ChainTables.{chainBytes, factorBytes, isTable, oneTo, chainCountOf, isScale, placeAt, chainAt, rawChainOf, chainIn, chainOf};
+ghost use Rattle.records.specs.ChainTables.{chainBytes, factorBytes, isTable, oneTo, chainCountOf, isScale, scaledCountOf, placeAt, chainAt, rawChainOf, chainIn, chainOf};
 ghost use Rattle.records.specs.Jobs.{jobBytes, jobIn, rawJobOf, formedJobOf, acceptedJob, jobOf, manyBy};
 ghost use Rattle.records.specs.Marks.{withMarksOf, markedEntryOf};
 ghost use Rattle.records.specs.Gathered.{IsRaw, markedAs};
@@ -206,6 +206,20 @@ pub fn is_scale(chains: usize, s: &[u8]) -> bool
         return false;
     }
     s.len() / FACTOR_BYTES == chains
+}
+
+// How many chains there are in the bytes of a table that its side file fits.
+pub fn scaled_count(s: &[u8], scale: &[u8]) -> ChainCount
+    ensures { λ r. ⌜ r ≡ scaledCountOf (now (s .entry)) (now (scale .entry)) ⌝ }
+{
+    if !is_table(s) {
+        return ChainCount::Refused(1);
+    }
+    let chains = s.len() / CHAIN_BYTES;
+    if !is_scale(chains, scale) {
+        return ChainCount::Refused(1);
+    }
+    ChainCount::Chains(chains)
 }
 
 // The chain with a given number in the bytes of a table and of its side file, if it is sound.

@@ -51,13 +51,13 @@ put-filled width s n h =
     ∙ append-nil (bytesOf width n)
 
 -- The readings when the table is accepted: for a place out of range, and for one in range.
-pub far-away : (n : ℕ) (table : List ℕ) (chain : ℕ) (p : Place) → inRange p ≡ false → NoneFor 4 ≡ byTable (Chains n) table chain p
+pub far-away : (n : ℕ) (table scale : List ℕ) (chain : ℕ) (p : Place) → inRange p ≡ false → NoneFor 4 ≡ byTable (Chains n) table scale chain p
 unfolding byTable
-far-away n table chain p e = rw (e)
+far-away n table scale chain p e = rw (e)
 
-pub on-grid : (n : ℕ) (table : List ℕ) (chain : ℕ) (p : Place) → inRange p ≡ true → byChain (chainOf table chain) p ≡ byTable (Chains n) table chain p
+pub on-grid : (n : ℕ) (table scale : List ℕ) (chain : ℕ) (p : Place) → inRange p ≡ true → byChain (chainOf table scale chain) p ≡ byTable (Chains n) table scale chain p
 unfolding byTable
-on-grid n table chain p e = rw (e)
+on-grid n table scale chain p e = rw (e)
 
 -- Centimetres as metres: below 0, and otherwise.
 pub metres-below : (z : ℤ) → ltZ z (pos 0) ≡ true → 45 ∷ decimalText (natAbs z) ≡ metresText z
@@ -80,12 +80,12 @@ unfolding writtenText
 written-told z h = rw (le-leb (natAbs z) mostCentimetres h)
 
 -- The test for room with a half in place of a product, as the code makes it.
-pub half-room : (bytes count : ℕ) → 192 ≤ bytes → leb count ((bytes - 192) / 2) ≡ hasLineRoom bytes count
-half-room bytes count h = go (leb count ((bytes - 192) / 2)) refl
+pub half-room : (bytes count : ℕ) → 208 ≤ bytes → leb count ((bytes - 208) / 2) ≡ hasLineRoom bytes count
+half-room bytes count h = go (leb count ((bytes - 208) / 2)) refl
   where
-    go : (t : Bool) → leb count ((bytes - 192) / 2) ≡ t → t ≡ hasLineRoom bytes count
-    go true e = sym (le-leb (192 + 2 * count) bytes (omega (arith, h, leb-true count ((bytes - 192) / 2) e)))
-    go false e = sym (lt-leb (192 + 2 * count) bytes (omega (arith, h, leb-false count ((bytes - 192) / 2) e)))
+    go : (t : Bool) → leb count ((bytes - 208) / 2) ≡ t → t ≡ hasLineRoom bytes count
+    go true e = sym (le-leb (208 + 2 * count) bytes (omega (arith, h, leb-true count ((bytes - 208) / 2) e)))
+    go false e = sym (lt-leb (208 + 2 * count) bytes (omega (arith, h, leb-false count ((bytes - 208) / 2) e)))
 
 -- What follows the fields of a record that is not refused, and of one that is.
 pub refused-none : (number : ℕ) (s : List ℕ) → number ≡ 0 → [] ≡ refusedText number s
@@ -106,10 +106,10 @@ pub without-room : (o : List ℕ) (count : ℕ) (reply : Reply) → hasLineRoom 
 unfolding lineFor bufferFor
 without-room o count reply none = (rw (none), rw (none))
 
-pub answered : (o : List ℕ) (count : ℕ) (x : List ℕ) {o′ : List ℕ} {end : ℕ} → hasLineRoom (length o) count ≡ true → Puts o 0 x o′ end → length x ≤ 192 + 2 * count →
+pub answered : (o : List ℕ) (count : ℕ) (x : List ℕ) {o′ : List ℕ} {end : ℕ} → hasLineRoom (length o) count ≡ true → Puts o 0 x o′ end → length x ≤ 208 + 2 * count →
     (Text end ≡ lineFor (inRoom (length o) count (Says x))) × (o′ ≡ bufferFor o (inRoom (length o) count (Says x)))
 unfolding lineFor bufferFor
 answered o count x {o′} {end} room p few =
-    let put = p (omega (arith, leb-true (192 + 2 * count) (length o) room, few)) in
+    let put = p (omega (arith, leb-true (208 + 2 * count) (length o) room, few)) in
     let none : 0 + length x ≡ length x = omega arith in
     (rw (room) (ap Text (put .end-is ∙ none)), rw (room) (put .now-is ∙ ap (λ (n : ℕ). x ++ drop n o) none))

@@ -14,7 +14,7 @@ use Rattle.records.specs.declared.ChainCount.the-variants as count
 use Rattle.records.specs.declared.NamedChain.{NamedChain}
 use Rattle.records.specs.declared.NamedChain.the-variants as named
 use Rattle.records.specs.Bytes.{unless}
-use Rattle.records.specs.ChainTables.{chainCountOf, chainOf}
+use Rattle.records.specs.ChainTables.{scaledCountOf, chainOf}
 use Rattle.writing.specs.Writing.{inMetres, metresBytes}
 use Rattle.text.specs.Texts.{wholeText, hexOf, bytesIn, flagText}
 use Rattle.shown.specs.Fields.{metresText}
@@ -24,13 +24,14 @@ unfoldable pub byChain : NamedChain → Place → Expectation
 byChain (named.Chain c) p = expectedAt c p
 byChain (named.Refused number) p = NoneFor number
 
--- The refusals in their order: 1 for the table, then 4 for the place, then 5 for the chain. If none applies, the readings.
-unfoldable pub byTable : ChainCount → List ℕ → ℕ → Place → Expectation
-byTable (count.Refused number) table chain p = NoneFor number
-byTable (count.Chains n) table chain p = unless (inRange p) (NoneFor 4) (byChain (chainOf table chain) p)
+-- The refusals in their order: 1 for the table and its side file, then 4 for the place, then 5 for the chain. If none applies, the
+-- readings.
+unfoldable pub byTable : ChainCount → List ℕ → List ℕ → ℕ → Place → Expectation
+byTable (count.Refused number) table scale chain p = NoneFor number
+byTable (count.Chains n) table scale chain p = unless (inRange p) (NoneFor 4) (byChain (chainOf table scale chain) p)
 
-abbrev pub expectedIn : List ℕ → ℕ → Place → Expectation
-expectedIn table chain p = byTable (chainCountOf table) table chain p
+abbrev pub expectedIn : List ℕ → List ℕ → ℕ → Place → Expectation
+expectedIn table scale chain p = byTable (scaledCountOf table scale) table scale chain p
 
 -- Whether the number that is written for a reading is rounded when it is read back (02, A1).
 abbrev pub isRoundedBack : ℤ → Bool

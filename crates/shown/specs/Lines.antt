@@ -1,9 +1,13 @@
--- The line of a job, of a chain and of a log record (docs/FORMATS.md, Text).
+-- The line of a job, of a chain, of a side file that does not fit and of a log record (docs/FORMATS.md, Text).
 use Prim.Native.Nat.{ℕ}
+use mathlib.Core.Bool.{Bool, cond}
 use mathlib.Core.List.{List, [], _∷_, _++_}
 use lib.Dec.{eqb}
 use lib.ListN.{length}
+use Rattle.fields.specs.Fields.{fieldAt}
 use Rattle.chart.specs.declared.Chain.{Chain}
+use Rattle.chart.specs.Factors.{unitFactor}
+use Rattle.chart.specs.Chains.{isSound}
 use Rattle.records.specs.declared.Job.{Job}
 use Rattle.records.specs.declared.JobAnswer.{JobAnswer}
 use Rattle.records.specs.declared.JobAnswer.the-variants as job
@@ -14,9 +18,9 @@ use Rattle.records.specs.declared.RawAnswer.{RawAnswer}
 use Rattle.records.specs.declared.RawAnswer.the-variants as raw
 use Rattle.records.specs.Bytes.{unless}
 use Rattle.records.specs.LogRecords.{rawRecordOf, logEntryOf}
-use Rattle.records.specs.ChainTables.{chainBytes, rawChainOf, chainOf}
+use Rattle.records.specs.ChainTables.{factorBytes, rawChainOf}
 use Rattle.records.specs.Jobs.{rawJobOf, jobOf}
-use Rattle.records.specs.Refusals.{entryRefusal, chainRefusal, jobRefusal}
+use Rattle.records.specs.Refusals.{entryRefusal, jobRefusal}
 use Rattle.text.specs.Texts.{figuresText, bytesIn}
 use Rattle.shown.specs.Fields.{centimetresText, refusedText}
 
@@ -38,23 +42,42 @@ jobText s = jobFields (rawJobOf s)
 unfoldable pub jobLine : List ℕ → List ℕ
 jobLine s = lineWith (bytesIn "JOB") (jobText s) (jobRefusal (jobOf s)) s
 
--- A chain, with its number in the table. Bytes that are not 24 are refused with 1, even if they are a table of several chains.
+-- A chain, with its number in the table and its factor. `scale` has the four bytes of the factor. If there are not four, the side file
+-- does not fit the table: then no factor is shown, and the stations alone are tested (02, A3). Bytes that are not 24 are refused with
+-- 1, even if they are a table of several chains.
 abbrev pub stationFigures : Chain → List ℕ
 stationFigures c =
     c .master .easting ∷ c .master .northing ∷ c .a .easting ∷ c .a .northing ∷ c .b .easting ∷ c .b .northing ∷ []
 
-unfoldable pub chainFields : ℕ → NamedChain → List ℕ
-chainFields number (named.Chain c) = figuresText (number ∷ stationFigures c)
-chainFields number (named.Refused refusal) = []
+abbrev pub hasFactor : List ℕ → Bool
+hasFactor scale = eqb (length scale) factorBytes
 
-abbrev pub chainText : ℕ → List ℕ → List ℕ
-chainText number s = chainFields number (rawChainOf s)
+abbrev pub factorOr : List ℕ → ℕ
+factorOr scale = cond (hasFactor scale) (fieldAt factorBytes scale 0) unitFactor
 
-abbrev pub refusalIn : List ℕ → ℕ
-refusalIn s = unless (eqb (length s) chainBytes) 1 (chainRefusal (chainOf s 1))
+abbrev pub factorText : List ℕ → List ℕ
+factorText scale = cond (hasFactor scale) (figuresText (factorOr scale ∷ [])) []
 
-unfoldable pub chainLine : ℕ → List ℕ → List ℕ
-chainLine number s = lineWith (bytesIn "CHAIN") (chainText number s) (refusalIn s) s
+unfoldable pub chainFields : ℕ → List ℕ → NamedChain → List ℕ
+chainFields number scale (named.Chain c) = figuresText (number ∷ stationFigures c) ++ factorText scale
+chainFields number scale (named.Refused refusal) = []
+
+abbrev pub chainText : ℕ → List ℕ → List ℕ → List ℕ
+chainText number scale s = chainFields number scale (rawChainOf s (factorOr scale))
+
+unfoldable pub soundness : NamedChain → ℕ
+soundness (named.Chain c) = unless (isSound c) 5 0
+soundness (named.Refused number) = number
+
+abbrev pub refusalIn : List ℕ → List ℕ → ℕ
+refusalIn scale s = soundness (rawChainOf s (factorOr scale))
+
+unfoldable pub chainLine : ℕ → List ℕ → List ℕ → List ℕ
+chainLine number scale s = lineWith (bytesIn "CHAIN") (chainText number scale s) (refusalIn scale s) s
+
+-- A side file that does not fit its table.
+unfoldable pub scaleLine : List ℕ → List ℕ
+scaleLine s = lineWith (bytesIn "SCALE") [] 1 s
 
 -- A log record, its numbers in centimetres.
 abbrev pub rawText : RawRecord → List ℕ

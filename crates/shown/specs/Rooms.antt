@@ -31,7 +31,7 @@ textOf (line.Refused number) = 0
 
 -- Room for the line of any record of `count` bytes, with these bytes in hexadecimal. For a buffer that has less the answer is 9.
 abbrev pub lineRoom : ℕ → ℕ
-lineRoom count = 192 + 2 * count
+lineRoom count = 208 + 2 * count
 
 abbrev pub hasLineRoom : ℕ → ℕ → Bool
 hasLineRoom bytes count = leb (lineRoom count) bytes

@@ -11,13 +11,15 @@ ghost use Rattle.records.specs.Jobs.{jobOf};
 ghost use Rattle.writing.specs.Writing.{metresBytes};
 ghost use Rattle.text.specs.Texts.{figuresText, hexOf, bytesIn};
 ghost use Rattle.shown.specs.Fields.{centimetresText, decimalText, metresText, hexText, refusedText};
-ghost use Rattle.shown.specs.Lines.{jobText, jobLine, chainText, refusalIn, chainLine, rawText, recordText, recordLine};
+ghost use Rattle.shown.specs.Lines.{jobText, jobLine, stationFigures, factorOr, factorText, chainText, refusalIn, chainLine, scaleLine, rawText, recordText, recordLine};
+ghost use Rattle.shown.specs.Lines as lines;
 ghost use Rattle.shown.specs.Expected.{byChain, expectedIn, isRoundedBack, writtenText, slaveLine, expectedText};
 ghost use Rattle.shown.specs.Counted.{chainOrNone, countedIn, manyLine, manyReply};
 ghost use Rattle.shown.specs.Rooms.{Says, hasLineRoom, shownIn, replyOf, Puts};
 use chart::Chain;
 use chart::Expected;
 use chart::Place;
+use fields::Four;
 use metres::Whole;
 use records::ChainCount;
 use records::JobAnswer;
@@ -34,14 +36,14 @@ pub enum Line {
 }
 
 // Room for the longest line, without the record's bytes in hexadecimal.
-pub const LINE_ROOM: usize = 192;
+pub const LINE_ROOM: usize = 208;
 
 const SPOT: Place = Place {
     easting: 0,
     northing: 0,
 };
 
-// Puts the line of a job at the start of a buffer. Here and below, the buffer must have room for 192 bytes, and for two more for
+// Puts the line of a job at the start of a buffer. Here and below, the buffer must have room for 208 bytes, and for two more for
 // each byte of `s`; else the answer is 9.
 pub fn job(out: &mut [u8], s: &[u8]) -> Line
     ensures answer { λ r. ⌜ r ≡ shownIn (now (out .entry)) (length (now (s .entry))) (Says (jobLine (now (s .entry)))) .answer ⌝ }
@@ -56,18 +58,30 @@ pub fn job(out: &mut [u8], s: &[u8]) -> Line
     Line::Text(put_end(out, b, number, s))
 }
 
-// Puts the line of a chain, from its number in the table and its 24 bytes.
-pub fn chain(out: &mut [u8], number: u32, s: &[u8]) -> Line
-    ensures answer { λ r. ⌜ r ≡ shownIn (now (out .entry)) (length (now (s .entry))) (Says (chainLine number (now (s .entry)))) .answer ⌝ }
-    ensures out { λ _. ⌜ now (out .exit) ≡ shownIn (now (out .entry)) (length (now (s .entry))) (Says (chainLine number (now (s .entry)))) .buffer ⌝ }
+// Puts the line of a chain, from its number in the table, the 4 bytes of its factor, or none, and its 24 bytes.
+pub fn chain(out: &mut [u8], number: u32, scale: &[u8], s: &[u8]) -> Line
+    ensures answer { λ r. ⌜ r ≡ shownIn (now (out .entry)) (length (now (s .entry))) (Says (chainLine number (now (scale .entry)) (now (s .entry)))) .answer ⌝ }
+    ensures out { λ _. ⌜ now (out .exit) ≡ shownIn (now (out .entry)) (length (now (s .entry))) (Says (chainLine number (now (scale .entry)) (now (s .entry)))) .buffer ⌝ }
 {
     if !has_line_room(out.len(), s.len()) {
         return Line::Refused(9);
     }
-    let refusal = chain_refusal(s);
+    let refusal = chain_refusal(scale, s);
     let a = text::put(out, 0, b"CHAIN");
-    let b = put_chain(out, a, number, s);
+    let b = put_chain(out, a, number, scale, s);
     Line::Text(put_end(out, b, refusal, s))
+}
+
+// Puts the line of a side file that does not fit its table.
+pub fn scale(out: &mut [u8], s: &[u8]) -> Line
+    ensures answer { λ r. ⌜ r ≡ shownIn (now (out .entry)) (length (now (s .entry))) (Says (scaleLine (now (s .entry)))) .answer ⌝ }
+    ensures out { λ _. ⌜ now (out .exit) ≡ shownIn (now (out .entry)) (length (now (s .entry))) (Says (scaleLine (now (s .entry)))) .buffer ⌝ }
+{
+    if !has_line_room(out.len(), s.len()) {
+        return Line::Refused(9);
+    }
+    let a = text::put(out, 0, b"SCALE");
+    Line::Text(put_end(out, a, 1, s))
 }
 
 // Puts the line of a log record.
@@ -85,28 +99,37 @@ pub fn record(out: &mut [u8], s: &[u8]) -> Line
 }
 
 // Puts the readings expected at a place, for the chain with this number in the table: one line for each slave.
-pub fn expected(out: &mut [u8], table: &[u8], chain: u32, place: Place) -> Line
-    ensures answer { λ r. ⌜ r ≡ shownIn (now (out .entry)) 0 (replyOf (expectedIn (now (table .entry)) chain place)) .answer ⌝ }
-    ensures out { λ _. ⌜ now (out .exit) ≡ shownIn (now (out .entry)) 0 (replyOf (expectedIn (now (table .entry)) chain place)) .buffer ⌝ }
+pub fn expected(out: &mut [u8], table: &[u8], scale: &[u8], chain: u32, place: Place) -> Line
+    ensures answer { λ r. ⌜ r ≡ shownIn (now (out .entry)) 0 (replyOf (expectedIn (now (table .entry)) (now (scale .entry)) chain place)) .answer ⌝ }
+    ensures out { λ _. ⌜ now (out .exit) ≡ shownIn (now (out .entry)) 0 (replyOf (expectedIn (now (table .entry)) (now (scale .entry)) chain place)) .buffer ⌝ }
 {
     if !has_line_room(out.len(), 0) {
         return Line::Refused(9);
     }
-    match readings(table, chain, place) {
+    match readings(table, scale, chain, place) {
         Expected::Readings { a, b } => Line::Text(put_slaves(out, a, b)),
         Expected::Refused(number) => Line::Refused(number),
     }
 }
 
-// Puts whether the readings allow no place, one or several, by a table, the number of a chain in it, and a job: one line.
-pub fn how_many(out: &mut [u8], table: &[u8], job: &[u8], chain: u32, a: i64, b: i64) -> Line
-    ensures answer { λ r. ⌜ r ≡ shownIn (now (out .entry)) 0 (manyReply (countedIn (now (table .entry)) (now (job .entry)) chain (a ∷ b ∷ []))) .answer ⌝ }
-    ensures out { λ _. ⌜ now (out .exit) ≡ shownIn (now (out .entry)) 0 (manyReply (countedIn (now (table .entry)) (now (job .entry)) chain (a ∷ b ∷ []))) .buffer ⌝ }
+// Puts whether the readings allow no place, one or several, by a table with its side file, the number of a chain in it, and a job: one
+// line.
+pub fn how_many(
+    out: &mut [u8],
+    table: &[u8],
+    scale: &[u8],
+    job: &[u8],
+    chain: u32,
+    a: i64,
+    b: i64,
+) -> Line
+    ensures answer { λ r. ⌜ r ≡ shownIn (now (out .entry)) 0 (manyReply (countedIn (now (table .entry)) (now (scale .entry)) (now (job .entry)) chain (a ∷ b ∷ []))) .answer ⌝ }
+    ensures out { λ _. ⌜ now (out .exit) ≡ shownIn (now (out .entry)) 0 (manyReply (countedIn (now (table .entry)) (now (scale .entry)) (now (job .entry)) chain (a ∷ b ∷ []))) .buffer ⌝ }
 {
     if !has_line_room(out.len(), 0) {
         return Line::Refused(9);
     }
-    match counted(table, job, chain, a, b) {
+    match counted(table, scale, job, chain, a, b) {
         HowMany::None { visits } => put_many(out, b"NONE", &[visits]),
         HowMany::One { place, visits } => put_many(
             out,
@@ -136,15 +159,36 @@ fn job_refusal(s: &[u8]) -> u32
     }
 }
 
-fn chain_refusal(s: &[u8]) -> u32
-    ensures { λ r. ⌜ r ≡ refusalIn (now (s .entry)) ⌝ }
+fn chain_refusal(scale: &[u8], s: &[u8]) -> u32
+    ensures { λ r. ⌜ r ≡ refusalIn (now (scale .entry)) (now (s .entry)) ⌝ }
 {
-    if s.len() != records::CHAIN_BYTES {
-        return 1;
-    }
-    match records::chain_of(s, 1) {
-        NamedChain::Chain(_) => 0,
+    soundness(records::raw_chain(s, factor_or(scale)))
+}
+
+fn soundness(chain: NamedChain) -> u32
+    ensures { λ r. ⌜ r ≡ lines.soundness chain ⌝ }
+{
+    match chain {
+        NamedChain::Chain(c) => {
+            if !chart::sound(c) {
+                return 5;
+            }
+            0
+        }
         NamedChain::Refused(number) => number,
+    }
+}
+
+// The factor in four bytes, or the factor 1 if there are not four.
+fn factor_or(scale: &[u8]) -> u32
+    ensures { λ r. ⌜ r ≡ factorOr (now (scale .entry)) ⌝ }
+{
+    if scale.len() != records::FACTOR_BYTES {
+        return chart::UNIT_FACTOR;
+    }
+    match fields::four_at(scale, 0) {
+        Four::Value(n) => n,
+        Four::Outside => 0,
     }
 }
 
@@ -159,18 +203,18 @@ fn entry_refusal(s: &[u8]) -> u32
     }
 }
 
-// The readings, or why there are none. The table is tested first, then the place, then the chain.
-fn readings(table: &[u8], chain: u32, place: Place) -> Expected
-    ensures { λ r. ⌜ saidBy r ≡ expectedIn (now (table .entry)) chain place ⌝ }
+// The readings, or why there are none. Table and side file are tested first, then the place, then the chain.
+fn readings(table: &[u8], scale: &[u8], chain: u32, place: Place) -> Expected
+    ensures { λ r. ⌜ saidBy r ≡ expectedIn (now (table .entry)) (now (scale .entry)) chain place ⌝ }
 {
     let inside = chart::in_range(place);
-    if let ChainCount::Refused(number) = records::chain_count(table) {
+    if let ChainCount::Refused(number) = records::scaled_count(table, scale) {
         return Expected::Refused(number);
     }
     if !inside {
         return Expected::Refused(4);
     }
-    by_chain(records::chain_of(table, chain), place)
+    by_chain(records::chain_of(table, scale, chain), place)
 }
 
 fn by_chain(chain: NamedChain, place: Place) -> Expected
@@ -182,15 +226,15 @@ fn by_chain(chain: NamedChain, place: Place) -> Expected
     }
 }
 
-// How many places the readings allow, or why that is not answered. The table is tested first, then the job's form.
-fn counted(table: &[u8], job: &[u8], chain: u32, a: i64, b: i64) -> HowMany
-    ensures { λ r. ⌜ r ≡ countedIn (now (table .entry)) (now (job .entry)) chain (a ∷ b ∷ []) ⌝ }
+// How many places the readings allow, or why that is not answered. Table and side file are tested first, then the job's form.
+fn counted(table: &[u8], scale: &[u8], job: &[u8], chain: u32, a: i64, b: i64) -> HowMany
+    ensures { λ r. ⌜ r ≡ countedIn (now (table .entry)) (now (scale .entry)) (now (job .entry)) chain (a ∷ b ∷ []) ⌝ }
 {
-    if let ChainCount::Refused(number) = records::chain_count(table) {
+    if let ChainCount::Refused(number) = records::scaled_count(table, scale) {
         return HowMany::Refused { number, visits: 0 };
     }
     let formed = records::formed_job(job);
-    let c = chain_or_none(records::chain_of(table, chain));
+    let c = chain_or_none(records::chain_of(table, scale, chain));
     records::many_by(formed, c, a, b)
 }
 
@@ -204,13 +248,14 @@ fn chain_or_none(chain: NamedChain) -> Chain
             master: SPOT,
             a: SPOT,
             b: SPOT,
+            factor: chart::UNIT_FACTOR,
         },
     }
 }
 
 // Puts the word, the figures and the newline.
 fn put_many(out: &mut [u8], word: &[u8], figures: &[u64]) -> Line
-    requires { ⌜ (192 ≤ length (now out)) × (length (now word) ≤ 7) × (length (now figures) ≤ 3) ⌝ }
+    requires { ⌜ (208 ≤ length (now out)) × (length (now word) ≤ 7) × (length (now figures) ≤ 3) ⌝ }
     ensures answer { λ r. ⌜ r ≡ shownIn (now (out .entry)) 0 (Says (manyLine (now (word .entry)) (now (figures .entry)))) .answer ⌝ }
     ensures out { λ _. ⌜ now (out .exit) ≡ shownIn (now (out .entry)) 0 (Says (manyLine (now (word .entry)) (now (figures .entry)))) .buffer ⌝ }
 {
@@ -239,26 +284,46 @@ fn put_job(out: &mut [u8], at: usize, s: &[u8]) -> usize
     }
 }
 
-fn put_chain(out: &mut [u8], at: usize, number: u32, s: &[u8]) -> usize
-    ensures text { λ r. ⌜ Puts (now (out .entry)) at (chainText number (now (s .entry))) (now (out .exit)) r ⌝ }
-    ensures few { λ _. ⌜ length (chainText number (now (s .entry))) ≤ 147 ⌝ }
+fn put_chain(out: &mut [u8], at: usize, number: u32, scale: &[u8], s: &[u8]) -> usize
+    ensures text { λ r. ⌜ Puts (now (out .entry)) at (chainText number (now (scale .entry)) (now (s .entry))) (now (out .exit)) r ⌝ }
+    ensures few { λ _. ⌜ length (chainText number (now (scale .entry)) (now (s .entry))) ≤ 168 ⌝ }
 {
-    match records::raw_chain(s) {
-        NamedChain::Chain(c) => put_figures(
-            out,
-            at,
-            &[
-                number as u64,
-                c.master.easting as u64,
-                c.master.northing as u64,
-                c.a.easting as u64,
-                c.a.northing as u64,
-                c.b.easting as u64,
-                c.b.northing as u64,
-            ],
-        ),
+    match records::raw_chain(s, factor_or(scale)) {
+        NamedChain::Chain(c) => {
+            let end = put_stations(out, at, number, c);
+            put_factor(out, end, scale)
+        }
         NamedChain::Refused(_) => at,
     }
+}
+
+fn put_stations(out: &mut [u8], at: usize, number: u32, c: Chain) -> usize
+    ensures text { λ r. ⌜ Puts (now (out .entry)) at (figuresText (number ∷ stationFigures c)) (now (out .exit)) r ⌝ }
+    ensures few { λ _. ⌜ length (figuresText (number ∷ stationFigures c)) ≤ 147 ⌝ }
+{
+    put_figures(
+        out,
+        at,
+        &[
+            number as u64,
+            c.master.easting as u64,
+            c.master.northing as u64,
+            c.a.easting as u64,
+            c.a.northing as u64,
+            c.b.easting as u64,
+            c.b.northing as u64,
+        ],
+    )
+}
+
+fn put_factor(out: &mut [u8], at: usize, scale: &[u8]) -> usize
+    ensures text { λ r. ⌜ Puts (now (out .entry)) at (factorText (now (scale .entry))) (now (out .exit)) r ⌝ }
+    ensures few { λ _. ⌜ length (factorText (now (scale .entry))) ≤ 21 ⌝ }
+{
+    if scale.len() != records::FACTOR_BYTES {
+        return at;
+    }
+    put_figures(out, at, &[factor_or(scale) as u64])
 }
 
 fn put_record(out: &mut [u8], at: usize, s: &[u8]) -> usize

@@ -1,35 +1,28 @@
--- `shown::chain_refusal` meets its contract.
-use mathlib.Core.Path.{sym, ap, _∙_}
-use borrow.Author.Tests.{eq-eqb, ne-eqb}
-use Rattle.records.specs.Refusals.{chainRefusal}
+-- `shown::chain_refusal` meets its contract: the chain with its factor, or with the factor 1, is sound or not.
+use Prim.Native.Nat.{ℕ}
+use mathlib.Core.Path.{ap, _∙_}
 use borrow.Author.Needs.{needs}
+use Rattle.records.specs.ChainTables.{rawChainOf}
+use Rattle.shown.specs.Lines.{soundness}
 use Rattle.shown.proofs.chain_refusal.Statement.{statement}
 use Rattle.shown.proofs.chain_refusal.Tie as tie
 
+factor-or-requires : tie.Need-factor-or-requires
+factor-or-requires c κs = search needs
+
+raw-chain-requires : tie.Need-raw-chain-requires
+raw-chain-requires c κs = search needs
+
+soundness-requires : tie.Need-soundness-requires
+soundness-requires c κs = search needs
+
 returns : tie.Need-returns
-returns c = rw (ne-eqb _ _ (c .if1 .taken))
-
-chain-of-requires : tie.Need-chain-of-requires
-chain-of-requires c κs = search needs
-
-enum-told : tie.Need-enum-told
-enum-told c = search needs
-
-enum-known-number : tie.Need-enum-known-number
-enum-known-number c = search needs
-
-returns-2 : tie.Need-returns-2
-unfolding chainRefusal
-returns-2 c =
-    let call = c .before .before in
-    rw (eq-eqb _ _ (call .before .if1 .left)) (ap chainRefusal (sym (c .enum-told .given .1) ∙ call .chain-of .ensures))
-
-returns-3 : tie.Need-returns-3
-unfolding chainRefusal
-returns-3 c =
-    let call = c .before .before .before in
-    rw (eq-eqb _ _ (call .before .if1 .left)) (ap chainRefusal (sym (c .before .number .given .1) ∙ call .chain-of .ensures))
+returns c =
+    let chain = c .before in
+    let s = chain .before .before .before .before .args .s .now in
+    c .soundness .ensures
+    ∙ ap soundness (chain .raw-chain .ensures)
+    ∙ ap (λ (f : ℕ). soundness (rawChainOf s f)) (chain .before .factor-or .ensures)
 
 pub chain-refusal-spec : {M : Type 1} → statement M
-chain-refusal-spec =
-    tie.close (tie.spec returns chain-of-requires enum-told enum-known-number returns-2 returns-3)
+chain-refusal-spec = tie.close (tie.spec factor-or-requires raw-chain-requires soundness-requires returns)

@@ -2,6 +2,7 @@
 use mathlib.Core.Path.{_≡_, sym, ap, ap₂, _∙_}
 use mathlib.Core.Bool.{true}
 use mathlib.Core.List.{[], _∷_}
+use native.Mathlib.Omega.{arith}
 use borrow.Author.Needs.{needs}
 use borrow.Author.Tests.{not-true, not-false}
 use lib.IntN.{ℤ}
@@ -21,13 +22,13 @@ has-line-room-requires c κs = search needs
 
 returns : tie.Need-returns
 returns c =
-    let a = c .before .before .before .before .args in
+    let a = c .before .before .before .before .before .args in
     without-room (a .out .now) 0 _ (sym (c .before .has-line-room .ensures) ∙ not-true _ (c .if1 .taken))
 
 readings-requires : tie.Need-readings-requires
 readings-requires c κs = search needs
 
-room : (c : tie.Else1) → hasLineRoom (length (c .before .before .before .before .args .out .now)) 0 ≡ true
+room : (c : tie.Else1) → hasLineRoom (length (c .before .before .before .before .before .args .out .now)) 0 ≡ true
 room c = sym (c .before .has-line-room .ensures) ∙ not-false _ (c .if1 .left)
 
 enum-known-a : tie.Need-enum-known-a
@@ -49,10 +50,10 @@ returns-2 c =
     let told = put .before .before in
     let known = told .before in
     let read = known .before .before in
-    let out = read .before .before .before .before .before .args .out .now in
+    let out = read .before .before .before .before .before .before .args .out .now in
     let back = ap₂ (λ (x y : ℤ). Says (expectedText (x ∷ y ∷ []))) (toZ-ofZ w64 _ (record { sfits = told .known-told .given .0 .1 })) (toZ-ofZ w64 _ (record { sfits = told .known-told .given .1 .0 .1 })) in
     let reply = back ∙ ap (λ (e : Expected). replyOf (saidBy e)) (sym (known .a .given .1)) ∙ ap replyOf (read .readings .ensures) in
-    let text = answered out 0 _ (room (read .before)) (put .put-slaves .ensures .0) (put .put-slaves .ensures .1) in
+    let text = answered out 0 _ (room (read .before)) (put .put-slaves .ensures .0) (omega (arith, put .put-slaves .ensures .1)) in
     (text .0 ∙ ap (λ (r : Reply). lineFor (inRoom (length out) 0 r)) reply, text .1 ∙ ap (λ (r : Reply). bufferFor out (inRoom (length out) 0 r)) reply)
 
 returns-3 : tie.Need-returns-3
@@ -60,7 +61,7 @@ unfolding saidBy replyOf lineFor bufferFor
 returns-3 c =
     let number = c .before in
     let read = number .before .before in
-    let out = read .before .before .before .before .before .args .out .now in
+    let out = read .before .before .before .before .before .before .args .out .now in
     let reply = ap (λ (e : Expected). replyOf (saidBy e)) (sym (number .number .given .1)) ∙ ap replyOf (read .readings .ensures) ∙ with-room (length out) 0 _ (room (read .before)) in
     (ap lineFor reply, ap (bufferFor out) reply)
 

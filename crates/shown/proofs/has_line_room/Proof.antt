@@ -7,7 +7,7 @@ use Rattle.shown.proofs.has_line_room.Statement.{statement}
 use Rattle.shown.proofs.has_line_room.Tie as tie
 
 returns : tie.Need-returns
-returns c = rw (lt-leb (192 + 2 * c .before .args .count) (c .before .args .bytes) (omega (arith, c .if1 .taken)))
+returns c = rw (lt-leb (208 + 2 * c .before .args .count) (c .before .args .bytes) (omega (arith, c .if1 .taken)))
 
 returns-2 : tie.Need-returns-2
 returns-2 c = half-room (c .before .args .bytes) (c .before .args .count) (omega (arith, c .if1 .left))

@@ -22,19 +22,19 @@ has-line-room-requires : tie.Need-has-line-room-requires
 has-line-room-requires c κs = search needs
 
 -- There is room for the line.
-room : (c : tie.Else1) → hasLineRoom (length (c .before .before .before .before .before .args .out .now)) 0 ≡ true
+room : (c : tie.Else1) → hasLineRoom (length (c .before .before .before .before .before .before .args .out .now)) 0 ≡ true
 room c = sym (c .before .has-line-room .ensures) ∙ not-false _ (c .if1 .left)
 
-enough : (c : tie.Else1) → 192 ≤ length (c .before .before .before .before .before .args .out .now)
-enough c = leb-true 192 _ (room c)
+enough : (c : tie.Else1) → 208 ≤ length (c .before .before .before .before .before .before .args .out .now)
+enough c = leb-true 208 _ (room c)
 
 -- What was counted is the answer for the readings as they were given.
-asked : (c : tie.After-counted) → let a = c .before .before .before .before .before .before .args in manyReply (c .counted .result) ≡ manyReply (countedIn (a .table .now) (a .job .now) (a .chain) (a .a ∷ a .b ∷ []))
+asked : (c : tie.After-counted) → let a = c .before .before .before .before .before .before .before .args in manyReply (c .counted .result) ≡ manyReply (countedIn (a .table .now) (a .scale .now) (a .job .now) (a .chain) (a .a ∷ a .b ∷ []))
 asked c =
-    let o = c .before .before .before .before .before .before in
+    let o = c .before .before .before .before .before .before .before in
     let a = o .args in
     ap manyReply (c .counted .ensures)
-    ∙ ap₂ (λ (x y : ℤ). manyReply (countedIn (a .table .now) (a .job .now) (a .chain) (x ∷ y ∷ []))) (toZ-ofZ w64 (a .a) (o .fits .a)) (toZ-ofZ w64 (a .b) (o .fits .b))
+    ∙ ap₂ (λ (x y : ℤ). manyReply (countedIn (a .table .now) (a .scale .now) (a .job .now) (a .chain) (x ∷ y ∷ []))) (toZ-ofZ w64 (a .a) (o .fits .a)) (toZ-ofZ w64 (a .b) (o .fits .b))
 
 -- A line that was put, with its answer.
 abbrev IsLine : List ℕ → List ℕ → Line → List ℕ → Type 0
@@ -53,25 +53,25 @@ with-reply out text reply e p = (
 -- The lines that are put.
 none-put : (c : tie.After-put-many) →
     let known = c .before .before .before .before .before in
-    IsLine (known .before .before .before .before .before .before .before .before .args .out .now) (manyLine (bytesIn "NONE") (known .visits .given .0 .0 ∷ [])) (c .put-many .result) (c .put-many .last .0)
+    IsLine (known .before .before .before .before .before .before .before .before .before .args .out .now) (manyLine (bytesIn "NONE") (known .visits .given .0 .0 ∷ [])) (c .put-many .result) (c .put-many .last .0)
 unfolding bytesIn
 none-put c = c .put-many .ensures
 
 one-put : (c : tie.After-put-many2) →
     let known = c .before .before .before .before .before .before .before in
-    IsLine (known .before .before .before .before .before .before .before .before .args .out .now) (manyLine (bytesIn "ONE") (known .place .given .0 .1 .0 ∷ known .place .given .0 .0 .easting ∷ known .place .given .0 .0 .northing ∷ [])) (c .put-many2 .result) (c .put-many2 .last .0)
+    IsLine (known .before .before .before .before .before .before .before .before .before .args .out .now) (manyLine (bytesIn "ONE") (known .place .given .0 .1 .0 ∷ known .place .given .0 .0 .easting ∷ known .place .given .0 .0 .northing ∷ [])) (c .put-many2 .result) (c .put-many2 .last .0)
 unfolding bytesIn
 one-put c = c .put-many2 .ensures
 
 several-put : (c : tie.After-put-many3) →
     let known = c .before .before .before .before .before in
-    IsLine (known .before .before .before .before .before .before .before .before .args .out .now) (manyLine (bytesIn "SEVERAL") (known .visits2 .given .0 .0 ∷ [])) (c .put-many3 .result) (c .put-many3 .last .0)
+    IsLine (known .before .before .before .before .before .before .before .before .before .args .out .now) (manyLine (bytesIn "SEVERAL") (known .visits2 .given .0 .0 ∷ [])) (c .put-many3 .result) (c .put-many3 .last .0)
 unfolding bytesIn
 several-put c = c .put-many3 .ensures
 
 returns : tie.Need-returns
 returns c =
-    let a = c .before .before .before .before .before .args in
+    let a = c .before .before .before .before .before .before .args in
     without-room (a .out .now) 0 _ (sym (c .before .has-line-room .ensures) ∙ not-true _ (c .if1 .taken))
 
 counted-requires : tie.Need-counted-requires
@@ -95,11 +95,11 @@ enum-known-place c = search needs
 slice-aggregate-put-many-3 : tie.Need-slice-aggregate-put-many-3
 slice-aggregate-put-many-3 c = search needs
 
-cast-t32 : tie.Need-cast-t32
-cast-t32 c = search needs
-
 cast-t33 : tie.Need-cast-t33
 cast-t33 c = search needs
+
+cast-t34 : tie.Need-cast-t34
+cast-t34 c = search needs
 
 slice-aggregate-put-many-4 : tie.Need-slice-aggregate-put-many-4
 slice-aggregate-put-many-4 c = search needs
@@ -160,7 +160,7 @@ unfolding manyReply lineFor bufferFor
 returns-5 c =
     let number = c .before in
     let read = number .before .before in
-    let out = read .before .before .before .before .before .before .args .out .now in
+    let out = read .before .before .before .before .before .before .before .args .out .now in
     let reply = ap manyReply (sym (number .number .given .1)) ∙ asked read ∙ with-room (length out) 0 _ (room (read .before)) in
     (ap lineFor reply, ap (bufferFor out) reply)
 
@@ -177,8 +177,8 @@ how-many-spec =
     put-many-requires
     enum-known-place
     slice-aggregate-put-many-3
-    cast-t32
     cast-t33
+    cast-t34
     slice-aggregate-put-many-4
     put-many-requires-2
     enum-known-visits-2

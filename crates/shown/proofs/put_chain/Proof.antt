@@ -1,44 +1,38 @@
--- `shown::put_chain` meets its contract: the number and the stations, or nothing.
+-- `shown::put_chain` meets its contract: the number, the stations and the factor, or nothing.
 use Prim.Native.Nat.{ℕ, _≤_}
-use mathlib.Core.Path.{sym, ap, _∙_, subst}
-use mathlib.Core.List.{List}
+use mathlib.Core.Path.{_≡_, sym, ap, _∙_, subst}
+use mathlib.Core.List.{List, [], _∷_}
 use native.Mathlib.Omega.{arith}
-use lib.ListN.{length}
-use Rattle.shown.specs.Lines.{chainFields}
-use Rattle.shown.proofs.ShownLaws.{puts-none, puts-as}
+use lib.ListN.{length, length-append}
 use borrow.Author.Needs.{needs}
+use Rattle.records.specs.ChainTables.{rawChainOf}
+use Rattle.text.specs.Texts.{figuresText}
+use Rattle.text.proofs.PutLaws.{put-both}
+use Rattle.shown.specs.Lines.{stationFigures, factorText, chainFields, chainText}
+use Rattle.shown.proofs.ShownLaws.{puts-none, puts-as}
 use Rattle.shown.proofs.put_chain.Statement.{statement}
 use Rattle.shown.proofs.put_chain.Tie as tie
+
+factor-or-requires : tie.Need-factor-or-requires
+factor-or-requires c κs = search needs
 
 raw-chain-requires : tie.Need-raw-chain-requires
 raw-chain-requires c κs = search needs
 
+-- The fields of the chain that was read are the chain's text.
+read : (c : tie.After-raw-chain) → let a = c .before .before .before .before .before .args in chainFields (a .number) (a .scale .now) (c .raw-chain .result) ≡ chainText (a .number) (a .scale .now) (a .s .now)
+read c =
+    let a = c .before .before .before .before .before .args in
+    ap (chainFields (a .number) (a .scale .now)) (c .raw-chain .ensures ∙ ap (rawChainOf (a .s .now)) (c .before .factor-or .ensures))
+
 enum-known-c : tie.Need-enum-known-c
 enum-known-c c = search needs
 
-cast-t12 : tie.Need-cast-t12
-cast-t12 c = search needs
+put-stations-requires : tie.Need-put-stations-requires
+put-stations-requires c κs = search needs
 
-cast-t13 : tie.Need-cast-t13
-cast-t13 c = search needs
-
-cast-t14 : tie.Need-cast-t14
-cast-t14 c = search needs
-
-cast-t15 : tie.Need-cast-t15
-cast-t15 c = search needs
-
-cast-t16 : tie.Need-cast-t16
-cast-t16 c = search needs
-
-cast-t17 : tie.Need-cast-t17
-cast-t17 c = search needs
-
-slice-aggregate-put-figures : tie.Need-slice-aggregate-put-figures
-slice-aggregate-put-figures c = search needs
-
-put-figures-requires : tie.Need-put-figures-requires
-put-figures-requires c κs = search needs
+put-factor-requires : tie.Need-put-factor-requires
+put-factor-requires c κs = search needs
 
 enum-told : tie.Need-enum-told
 enum-told c = search needs
@@ -49,34 +43,33 @@ same-length c = search needs
 returns : tie.Need-returns
 unfolding chainFields
 returns c =
-    let call = c .before .before in
-    let told = call .before .before .before .before .before .before .before .before .before .before in
-    let read = told .before .before in
-    let text = ap (chainFields (read .before .before .before .args .number)) (sym (told .c .given .1) ∙ read .raw-chain .ensures) in
-    (puts-as text (call .put-figures .ensures .0), subst (λ (x : List ℕ). length x ≤ 147) text (omega (arith, call .put-figures .ensures .1)))
+    let factor = c .before .before in
+    let stations = factor .before .before .before .before in
+    let told = stations .before .before .before in
+    let chain = told .before .before in
+    let a = chain .before .before .before .before .before .args in
+    let text = ap (chainFields (a .number) (a .scale .now)) (sym (told .c .given .1)) ∙ read chain in (
+      puts-as text (put-both (stations .put-stations .ensures .0) (factor .put-factor .ensures .0)),
+      subst (λ (x : List ℕ). length x ≤ 168) text (omega (arith, length-append (figuresText (a .number ∷ stationFigures (told .c .given .0 .0))) (factorText (a .scale .now)), stations .put-stations .ensures .1, factor .put-factor .ensures .1)),
+    )
 
 returns-2 : tie.Need-returns-2
 unfolding chainFields
 returns-2 c =
-    let read = c .before .before in
-    let start = read .before .before .before in
-    let text = ap (chainFields (start .args .number)) (sym (c .enum-told .given .1) ∙ read .raw-chain .ensures) in
-    (puts-as text (puts-none (start .args .out .now) (start .args .at)), subst (λ (x : List ℕ). length x ≤ 147) text (omega arith))
+    let chain = c .before .before in
+    let a = chain .before .before .before .before .before .args in
+    let text = ap (chainFields (a .number) (a .scale .now)) (sym (c .enum-told .given .1)) ∙ read chain in
+    (puts-as text (puts-none (a .out .now) (a .at)), subst (λ (x : List ℕ). length x ≤ 168) text (omega arith))
 
 pub put-chain-spec : {M : Type 1} → statement M
 put-chain-spec =
     tie.close
     (tie.spec
+    factor-or-requires
     raw-chain-requires
     enum-known-c
-    cast-t12
-    cast-t13
-    cast-t14
-    cast-t15
-    cast-t16
-    cast-t17
-    slice-aggregate-put-figures
-    put-figures-requires
+    put-stations-requires
+    put-factor-requires
     enum-told
     same-length
     returns

@@ -35,7 +35,7 @@ returns c =
     let start = word .before .before .before .before .before in
     let a = start .args in
     let behind = figuresText (a .figures .now) ++ bytesIn "\n" in
-    answered (a .out .now) 0 (manyLine (a .word .now) (a .figures .now)) (le-leb 192 (length (a .out .now)) (start .pre .0))
+    answered (a .out .now) 0 (manyLine (a .word .now) (a .figures .now)) (le-leb 208 (length (a .out .now)) (start .pre .0))
     (put-both (put-from (word .put .ensures)) (put-both (figures .put-figures .ensures .0) (put-from (newline .put2 .ensures))))
     (omega (arith, start .pre, length-append (a .word .now) behind, length-append (figuresText (a .figures .now)) (bytesIn "\n"), figures .put-figures .ensures .1))
 
