@@ -54,7 +54,7 @@ use Rattle.lay.specs.declared.ListedFigures.{ListedFigures}
 
 -- The version of what lay.h declares. It changes whenever callers must be compiled anew.
 abbrev pub version : ℕ
-version = 2
+version = 3
 
 -- The number of a mark. 0 says that nothing was lost.
 unfoldable pub markFigure : Mark → ℕ
@@ -72,20 +72,22 @@ jobBy e n k tolerance allowance = record { window = windowBy e n k; tolerance = 
 abbrev pub draftBy : ℕ → ℕ → ℕ → ℤ → ℤ → Draft
 draftBy kind chain line x y = record { kind = kind; chain = chain; line = line; x = x; y = y }
 
--- A chain, made from the numbers of its stations, easting and northing in turn; 1 if there are not `chainNumbers` of them.
+-- A chain, made from the numbers of its stations, easting and northing in turn, and its factor; 1 if there are not `chainNumbers` of
+-- them.
 abbrev pub chainNumbers : ℕ
 chainNumbers = 6
 
-abbrev pub chainWith : List ℕ → Chain
-chainWith s =
+abbrev pub chainWith : List ℕ → ℕ → Chain
+chainWith s factor =
     record {
       master = placeOf (getD s 0 0) (getD s 1 0);
       a = placeOf (getD s 2 0) (getD s 3 0);
       b = placeOf (getD s 4 0) (getD s 5 0);
+      factor = factor;
     }
 
-unfoldable pub chainBy : List ℕ → NamedChain
-chainBy s = unless (eqb (length s) chainNumbers) (named.Refused 1) (named.Chain (chainWith s))
+unfoldable pub chainBy : List ℕ → ℕ → NamedChain
+chainBy s factor = unless (eqb (length s) chainNumbers) (named.Refused 1) (named.Chain (chainWith s factor))
 
 -- The number of the refusal, 0 for none, and all that a lent list or buffer then holds.
 pub record Lent (A : Type 0) : Type 0 where
@@ -101,12 +103,20 @@ unfoldable pub chainLent : ℕ → NamedChain → Lent ℕ
 chainLent bytes (named.Chain c) = record { refusal = chainRefusalOf bytes c; holds = chainBufferOf bytes c }
 chainLent bytes (named.Refused number) = refusedWith number bytes
 
--- The same for the chain with a given number in a table, and for the chain with given stations.
-abbrev pub chainTold : ℕ → List ℕ → ℕ → Lent ℕ
-chainTold bytes table number = chainLent bytes (chainOf table number)
+-- The same for the chain with a given number in a table and its side file, and for the chain with given stations and factor.
+abbrev pub chainTold : ℕ → List ℕ → List ℕ → ℕ → Lent ℕ
+chainTold bytes table scale number = chainLent bytes (chainOf table scale number)
 
-abbrev pub chainWritten : ℕ → List ℕ → Lent ℕ
-chainWritten bytes stations = chainLent bytes (chainBy stations)
+abbrev pub chainWritten : ℕ → List ℕ → ℕ → Lent ℕ
+chainWritten bytes stations factor = chainLent bytes (chainBy stations factor)
+
+-- The factor that goes with the bytes of a chain; 0 after a refusal.
+unfoldable pub factorAfter : ℕ → NamedChain → ℕ
+factorAfter refusal (named.Chain c) = cond (eqb refusal 0) (c .factor) 0
+factorAfter refusal (named.Refused number) = 0
+
+abbrev pub factorTold : ℕ → List ℕ → List ℕ → ℕ → ℕ
+factorTold bytes table scale number = factorAfter (chainTold bytes table scale number .refusal) (chainOf table scale number)
 
 -- The numbers of a chain's stations in a list of `entries` entries: 1 if that is not six, then 5 if the chain is not sound.
 unfoldable pub stationsLent : ℕ → NamedChain → Lent ℕ
@@ -115,8 +125,8 @@ stationsLent entries (named.Chain c) =
     (unless (isSound c) (refusedWith 5 entries) (record { refusal = 0; holds = entriesOf (stationsOf c) }))
 stationsLent entries (named.Refused number) = refusedWith number entries
 
-abbrev pub stationsTold : ℕ → List ℕ → Lent ℕ
-stationsTold entries chain = stationsLent entries (rawChainOf chain)
+abbrev pub stationsTold : ℕ → List ℕ → ℕ → Lent ℕ
+stationsTold entries chain factor = stationsLent entries (rawChainOf chain factor)
 
 -- How many readings a chain has: one for each slave.
 abbrev pub chainReadings : ℕ
@@ -133,8 +143,8 @@ expectedLent entries (named.Chain c) p =
     (readingsLent (figuresOf (expectedAt c p)))
 expectedLent entries (named.Refused number) p = record { refusal = number; holds = replicate entries (pos 0) }
 
-abbrev pub expectedTold : ℕ → List ℕ → ℕ → ℕ → Lent ℤ
-expectedTold entries chain e n = expectedLent entries (rawChainOf chain) (placeOf e n)
+abbrev pub expectedTold : ℕ → List ℕ → ℕ → ℕ → ℕ → Lent ℤ
+expectedTold entries chain factor e n = expectedLent entries (rawChainOf chain factor) (placeOf e n)
 
 -- All that a search returns: its figures, and every entry of its list.
 pub record SearchTold : Type 0 where
@@ -159,10 +169,10 @@ searchedIn (named.Chain c) readings j entries =
     unless (eqb (length readings) chainReadings) (unsearched 1 entries) (searchedBy c readings j entries)
 searchedIn (named.Refused number) readings j entries = unsearched number entries
 
--- The same from the bytes of a chain and of a job, and the readings: 1 for another length of any of them, 2 if a byte of the job
+-- The same from the bytes of a chain, its factor, the readings and the bytes of a job: 1 for another length of any of them, 2 if a byte of the job
 -- that must be zero is not, then the search.
-abbrev pub searchTold : List ℕ → List ℤ → List ℕ → ℕ → SearchTold
-searchTold chain readings job entries = searchedIn (rawChainOf chain) readings (formedJobOf job) entries
+abbrev pub searchTold : List ℕ → ℕ → List ℤ → List ℕ → ℕ → SearchTold
+searchTold chain factor readings job entries = searchedIn (rawChainOf chain factor) readings (formedJobOf job) entries
 
 -- How many places were found, and the visits.
 abbrev pub foundIn : SearchFigures → List ℕ
@@ -186,8 +196,8 @@ unfoldable pub askedIn : NamedChain → List ℤ → JobAnswer → HowMany
 askedIn (named.Chain c) readings j = unless (eqb (length readings) chainReadings) (many.Refused 1 0) (manyBy j c readings)
 askedIn (named.Refused number) readings j = many.Refused number 0
 
-abbrev pub manyTold : List ℕ → List ℤ → List ℕ → ManyFigures
-manyTold chain readings job = manyFigures (askedIn (rawChainOf chain) readings (formedJobOf job))
+abbrev pub manyTold : List ℕ → ℕ → List ℤ → List ℕ → ManyFigures
+manyTold chain factor readings job = manyFigures (askedIn (rawChainOf chain factor) readings (formedJobOf job))
 
 -- A log record in centimetres, with its line number. Only a hyperbolic record has a chain number.
 unfoldable pub entryFigures : ℕ → ℕ → LogEntry → EntryFigures
@@ -259,7 +269,7 @@ pub record ListTold : Type 0 where
   pub figures : ListedFigures
   pub text : List ℕ
 
-abbrev pub listTold : List ℕ → List ℕ → List ℕ → List ℕ → List ℕ → ListTold
-listTold text job table log part =
-    let left = listLeft text job table log (carriedTo part) in
+abbrev pub listTold : List ℕ → List ℕ → List ℕ → List ℕ → List ℕ → List ℕ → ListTold
+listTold text job table scale log part =
+    let left = listLeft text job table scale log (carriedTo part) in
     record { figures = listedFigures (left .answer); text = left .buffer }

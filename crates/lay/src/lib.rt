@@ -13,8 +13,9 @@ ghost use Rattle.metres.specs.Marks.{markOf};
 ghost use Rattle.search.specs.declared.HowMany.the-variants as many;
 ghost use Rattle.records.specs.declared.NamedChain.the-variants as named;
 ghost use Rattle.writing.specs.Writing.{refusalOf, bufferOf};
+ghost use Rattle.writing.specs.FactorWriting.{factorRefusalOf, factorBufferOf};
 ghost use Rattle.writing.specs.JobWriting.{jobRefusalOf, jobBufferOf};
-ghost use Rattle.lay.specs.Figures.{version, markFigure, jobBy, draftBy, chainBy, chainLent, chainTold, chainWritten, stationsLent, stationsTold, expectedLent, expectedTold, unsearched, searchedBy, searchedIn, searchTold, foundIn, manyFigures, askedIn, manyTold, numbersOf, entryFigures, markedFigures, recordFigures, countFigures, countTold, jobAnswered, jobTold, carriedIn, heldFigures, listedFigures, partOf, listTold};
+ghost use Rattle.lay.specs.Figures.{version, markFigure, jobBy, draftBy, chainBy, chainLent, chainTold, chainWritten, factorAfter, factorTold, stationsLent, stationsTold, expectedLent, expectedTold, unsearched, searchedBy, searchedIn, searchTold, foundIn, manyFigures, askedIn, manyTold, numbersOf, entryFigures, markedFigures, recordFigures, countFigures, countTold, jobAnswered, jobTold, carriedIn, heldFigures, listedFigures, partOf, listTold};
 use chart::Chain;
 use chart::Place;
 use listing::Carried;
@@ -81,7 +82,7 @@ struct ListedFigures {
 }
 
 // The version of what lay.h declares.
-const VERSION: u32 = 2;
+const VERSION: u32 = 3;
 
 // How many numbers the stations of a chain have, and how many readings a chain has.
 const CHAIN_NUMBERS: usize = 6;
@@ -127,35 +128,42 @@ pub extern "C" fn lay_metres(centimetres: i64, metres: &mut f64) -> u32
     f.refusal
 }
 
-// The readings expected at a place, for the chain in the bytes.
+// The readings expected at a place, for the chain in the bytes with its factor.
 #[no_mangle]
-pub extern "C" fn lay_expected(readings: &mut [i64], chain: &[u8], e: u32, n: u32) -> u32
-    ensures answer { λ r. ⌜ r ≡ expectedTold (length (now (readings .entry))) (now (chain .entry)) e n .refusal ⌝ }
-    ensures readings { λ _. ⌜ now (readings .exit) ≡ expectedTold (length (now (readings .entry))) (now (chain .entry)) e n .holds ⌝ }
+pub extern "C" fn lay_expected(
+    readings: &mut [i64],
+    chain: &[u8],
+    factor: u32,
+    e: u32,
+    n: u32,
+) -> u32
+    ensures answer { λ r. ⌜ r ≡ expectedTold (length (now (readings .entry))) (now (chain .entry)) factor e n .refusal ⌝ }
+    ensures readings { λ _. ⌜ now (readings .exit) ≡ expectedTold (length (now (readings .entry))) (now (chain .entry)) factor e n .holds ⌝ }
 {
     let place = Place {
         easting: e,
         northing: n,
     };
-    expected(readings, records::raw_chain(chain), place)
+    expected(readings, records::raw_chain(chain, factor), place)
 }
 
-// Every cell of a job's window that matches the readings, in chart order. Chain and job are given as bytes.
+// Every cell of a job's window that matches the readings, in chart order. Chain and job are given as bytes, the chain with its factor.
 #[no_mangle]
 pub extern "C" fn lay_search(
     list: &mut [u32],
     chain: &[u8],
+    factor: u32,
     readings: &[i64],
     job: &[u8],
     found: &mut [u64; 2],
 ) -> u32
-    ensures answer { λ r. ⌜ r ≡ searchTold (now (chain .entry)) (now (readings .entry)) (now (job .entry)) (length (now (list .entry))) .figures .refusal ⌝ }
-    ensures list { λ _. ⌜ now (list .exit) ≡ searchTold (now (chain .entry)) (now (readings .entry)) (now (job .entry)) (length (now (list .entry))) .list ⌝ }
-    ensures found { λ _. ⌜ now (found .exit) ≡ foundIn (searchTold (now (chain .entry)) (now (readings .entry)) (now (job .entry)) (length (now (list .entry))) .figures) ⌝ }
+    ensures answer { λ r. ⌜ r ≡ searchTold (now (chain .entry)) factor (now (readings .entry)) (now (job .entry)) (length (now (list .entry))) .figures .refusal ⌝ }
+    ensures list { λ _. ⌜ now (list .exit) ≡ searchTold (now (chain .entry)) factor (now (readings .entry)) (now (job .entry)) (length (now (list .entry))) .list ⌝ }
+    ensures found { λ _. ⌜ now (found .exit) ≡ foundIn (searchTold (now (chain .entry)) factor (now (readings .entry)) (now (job .entry)) (length (now (list .entry))) .figures) ⌝ }
 {
     let f = searched(
         list,
-        records::raw_chain(chain),
+        records::raw_chain(chain, factor),
         readings,
         records::formed_job(job),
     );
@@ -163,23 +171,24 @@ pub extern "C" fn lay_search(
     f.refusal
 }
 
-// Whether no cell of a job's window matches the readings, one, or several. Chain and job are given as bytes.
+// Whether no cell of a job's window matches the readings, one, or several. Chain and job are given as bytes, the chain with its factor.
 #[no_mangle]
 pub extern "C" fn lay_how_many(
     chain: &[u8],
+    factor: u32,
     readings: &[i64],
     job: &[u8],
     answer: &mut u32,
     place: &mut [u32; 2],
     visits: &mut u64,
 ) -> u32
-    ensures refusal { λ r. ⌜ r ≡ manyTold (now (chain .entry)) (now (readings .entry)) (now (job .entry)) .refusal ⌝ }
-    ensures answer { λ _. ⌜ now (answer .exit) ≡ manyTold (now (chain .entry)) (now (readings .entry)) (now (job .entry)) .many ⌝ }
-    ensures place { λ _. ⌜ now (place .exit) ≡ numbersOf (manyTold (now (chain .entry)) (now (readings .entry)) (now (job .entry)) .place) ⌝ }
-    ensures visits { λ _. ⌜ now (visits .exit) ≡ manyTold (now (chain .entry)) (now (readings .entry)) (now (job .entry)) .visits ⌝ }
+    ensures refusal { λ r. ⌜ r ≡ manyTold (now (chain .entry)) factor (now (readings .entry)) (now (job .entry)) .refusal ⌝ }
+    ensures answer { λ _. ⌜ now (answer .exit) ≡ manyTold (now (chain .entry)) factor (now (readings .entry)) (now (job .entry)) .many ⌝ }
+    ensures place { λ _. ⌜ now (place .exit) ≡ numbersOf (manyTold (now (chain .entry)) factor (now (readings .entry)) (now (job .entry)) .place) ⌝ }
+    ensures visits { λ _. ⌜ now (visits .exit) ≡ manyTold (now (chain .entry)) factor (now (readings .entry)) (now (job .entry)) .visits ⌝ }
 {
     let f = many_figures(asked(
-        records::raw_chain(chain),
+        records::raw_chain(chain, factor),
         readings,
         records::formed_job(job),
     ));
@@ -315,31 +324,50 @@ pub extern "C" fn lay_count_chains(table: &[u8], count: &mut usize) -> u32
     f.refusal
 }
 
-// The bytes of the chain with a given number in a table.
+// The bytes and the factor of the chain with a given number in a table and its side file.
 #[no_mangle]
-pub extern "C" fn lay_chain(buffer: &mut [u8], table: &[u8], number: u32) -> u32
-    ensures answer { λ r. ⌜ r ≡ chainTold (length (now (buffer .entry))) (now (table .entry)) number .refusal ⌝ }
-    ensures buffer { λ _. ⌜ now (buffer .exit) ≡ chainTold (length (now (buffer .entry))) (now (table .entry)) number .holds ⌝ }
+pub extern "C" fn lay_chain(
+    buffer: &mut [u8],
+    table: &[u8],
+    scale: &[u8],
+    number: u32,
+    factor: &mut u32,
+) -> u32
+    ensures answer { λ r. ⌜ r ≡ chainTold (length (now (buffer .entry))) (now (table .entry)) (now (scale .entry)) number .refusal ⌝ }
+    ensures buffer { λ _. ⌜ now (buffer .exit) ≡ chainTold (length (now (buffer .entry))) (now (table .entry)) (now (scale .entry)) number .holds ⌝ }
+    ensures factor { λ _. ⌜ now (factor .exit) ≡ factorTold (length (now (buffer .entry))) (now (table .entry)) (now (scale .entry)) number ⌝ }
 {
-    put_chain(buffer, records::chain_of(table, number))
+    let chain = records::chain_of(table, scale, number);
+    let refusal = put_chain(buffer, chain);
+    *factor = factor_after(refusal, chain);
+    refusal
 }
 
-// The stations of a chain from its bytes, easting and northing in turn.
+// The stations of a chain from its bytes and its factor, easting and northing in turn.
 #[no_mangle]
-pub extern "C" fn lay_read_chain(chain: &[u8], stations: &mut [u32]) -> u32
-    ensures answer { λ r. ⌜ r ≡ stationsTold (length (now (stations .entry))) (now (chain .entry)) .refusal ⌝ }
-    ensures stations { λ _. ⌜ now (stations .exit) ≡ stationsTold (length (now (stations .entry))) (now (chain .entry)) .holds ⌝ }
+pub extern "C" fn lay_read_chain(chain: &[u8], factor: u32, stations: &mut [u32]) -> u32
+    ensures answer { λ r. ⌜ r ≡ stationsTold (length (now (stations .entry))) (now (chain .entry)) factor .refusal ⌝ }
+    ensures stations { λ _. ⌜ now (stations .exit) ≡ stationsTold (length (now (stations .entry))) (now (chain .entry)) factor .holds ⌝ }
 {
-    read_chain(stations, records::raw_chain(chain))
+    read_chain(stations, records::raw_chain(chain, factor))
 }
 
-// Writes a chain into a buffer, from the numbers of its stations.
+// Writes a chain into a buffer, from the numbers of its stations and its factor.
 #[no_mangle]
-pub extern "C" fn lay_write_chain(buffer: &mut [u8], stations: &[u32]) -> u32
-    ensures answer { λ r. ⌜ r ≡ chainWritten (length (now (buffer .entry))) (now (stations .entry)) .refusal ⌝ }
-    ensures buffer { λ _. ⌜ now (buffer .exit) ≡ chainWritten (length (now (buffer .entry))) (now (stations .entry)) .holds ⌝ }
+pub extern "C" fn lay_write_chain(buffer: &mut [u8], stations: &[u32], factor: u32) -> u32
+    ensures answer { λ r. ⌜ r ≡ chainWritten (length (now (buffer .entry))) (now (stations .entry)) factor .refusal ⌝ }
+    ensures buffer { λ _. ⌜ now (buffer .exit) ≡ chainWritten (length (now (buffer .entry))) (now (stations .entry)) factor .holds ⌝ }
 {
-    put_chain(buffer, chain_by(stations))
+    put_chain(buffer, chain_by(stations, factor))
+}
+
+// Writes a factor into a buffer.
+#[no_mangle]
+pub extern "C" fn lay_write_factor(buffer: &mut [u8], factor: u32) -> u32
+    ensures answer { λ r. ⌜ r ≡ factorRefusalOf (length (now (buffer .entry))) factor ⌝ }
+    ensures buffer { λ _. ⌜ now (buffer .exit) ≡ factorBufferOf (length (now (buffer .entry))) factor ⌝ }
+{
+    writing::write_factor(buffer, factor)
 }
 
 // Puts the listing of a log, or of a further part of one, into a buffer as text. On entry `part` has the place carried to it; on
@@ -349,19 +377,20 @@ pub extern "C" fn lay_list(
     text: &mut [u8],
     job: &[u8],
     table: &[u8],
+    scale: &[u8],
     log: &[u8],
     part: &mut [u32; 6],
 ) -> u32
-    ensures answer { λ r. ⌜ r ≡ listTold (now (text .entry)) (now (job .entry)) (now (table .entry)) (now (log .entry)) (now (part .entry)) .figures .refusal ⌝ }
-    ensures text { λ _. ⌜ now (text .exit) ≡ listTold (now (text .entry)) (now (job .entry)) (now (table .entry)) (now (log .entry)) (now (part .entry)) .text ⌝ }
-    ensures part { λ _. ⌜ now (part .exit) ≡ partOf (listTold (now (text .entry)) (now (job .entry)) (now (table .entry)) (now (log .entry)) (now (part .entry)) .figures) ⌝ }
+    ensures answer { λ r. ⌜ r ≡ listTold (now (text .entry)) (now (job .entry)) (now (table .entry)) (now (scale .entry)) (now (log .entry)) (now (part .entry)) .figures .refusal ⌝ }
+    ensures text { λ _. ⌜ now (text .exit) ≡ listTold (now (text .entry)) (now (job .entry)) (now (table .entry)) (now (scale .entry)) (now (log .entry)) (now (part .entry)) .text ⌝ }
+    ensures part { λ _. ⌜ now (part .exit) ≡ partOf (listTold (now (text .entry)) (now (job .entry)) (now (table .entry)) (now (scale .entry)) (now (log .entry)) (now (part .entry)) .figures) ⌝ }
 {
     let place = Place {
         easting: part[3],
         northing: part[4],
     };
     let before = carried_in(part[2], place, part[5]);
-    let f = listed_figures(listing::list(text, job, table, log, before));
+    let f = listed_figures(listing::list(text, job, table, scale, log, before));
     let low = (f.length % HALF) as u32;
     let high = (f.length / HALF) as u32;
     let to = f.carried;
@@ -528,6 +557,21 @@ fn put_chain(buffer: &mut [u8], a: NamedChain) -> u32
     }
 }
 
+// The factor of a chain whose bytes were put, 0 after a refusal.
+fn factor_after(refusal: u32, a: NamedChain) -> u32
+    ensures { λ r. ⌜ r ≡ factorAfter refusal a ⌝ }
+{
+    match a {
+        NamedChain::Chain(c) => {
+            if refusal != 0 {
+                return 0;
+            }
+            c.factor
+        }
+        NamedChain::Refused(_) => 0,
+    }
+}
+
 fn no_chain(buffer: &mut [u8], number: u32) -> u32
     ensures answer { λ r. ⌜ r ≡ number ⌝ }
     ensures buffer { λ _. ⌜ now (buffer .exit) ≡ replicate (length (now (buffer .entry))) 0 ⌝ }
@@ -536,9 +580,9 @@ fn no_chain(buffer: &mut [u8], number: u32) -> u32
     number
 }
 
-// The chain with these numbers of its stations; 1 if there are not six.
-fn chain_by(stations: &[u32]) -> NamedChain
-    ensures { λ r. ⌜ r ≡ chainBy (now (stations .entry)) ⌝ }
+// The chain with these numbers of its stations and this factor; 1 if there are not six numbers.
+fn chain_by(stations: &[u32], factor: u32) -> NamedChain
+    ensures { λ r. ⌜ r ≡ chainBy (now (stations .entry)) factor ⌝ }
 {
     if stations.len() != CHAIN_NUMBERS {
         return NamedChain::Refused(1);
@@ -547,6 +591,7 @@ fn chain_by(stations: &[u32]) -> NamedChain
         master: place_by(stations, 0),
         a: place_by(stations, 2),
         b: place_by(stations, 4),
+        factor,
     })
 }
 

@@ -45,8 +45,8 @@ returns c =
     let figures = c .before .before .before .before in
     let call = figures .before .before .before in
     let carry = call .before .before in
-    let d = carry .before .before .before .before .before .before .before .before .before .args in
-    let part : Carried → Part = λ x. listingFrom (now (d .job)) (now (d .table)) (now (d .log)) x in
+    let d = carry .before .before .before .before .before .before .before .before .before .before .args in
+    let part : Carried → Part = λ x. listingFrom (now (d .job)) (now (d .table)) (now (d .scale)) (now (d .log)) x in
     let told =
     figures .listed-figures .ensures
     ∙ ap listedFigures (call .list .ensures .0 ∙ ap (λ (x : Carried). listedIn (length (now (d .text))) (now (d .log)) (part x)) (carry .carried-in .ensures)) in (
