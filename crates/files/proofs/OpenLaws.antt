@@ -1,7 +1,7 @@
 -- The result of opening a file, from the tests that the code makes.
 use Prim.Native.Nat.{ℕ, _≤_}
-use mathlib.Core.Bool.{Bool, true, false, cond}
-use mathlib.Core.Path.{_≡_, refl, sym, ap, subst, subst⁻¹}
+use mathlib.Core.Bool.{Bool, true, false, cond, false≢true}
+use mathlib.Core.Path.{_≡_, refl, sym, ap, _∙_, subst, subst⁻¹}
 use native.Mathlib.Omega.{arith}
 use borrow.Author.Tests.{leb-false, ne-eqb}
 use lib.Dec.{T, eqb}
@@ -59,3 +59,17 @@ pub started-room : (file : Opened) {room : ℕ} (r : Filled) → IsStarted file 
 started-room (opened.File descriptor) r h = h
 started-room opened.Missing r h = omega (arith, ap filledBytes h)
 started-room opened.Failed r h = omega (arith, ap filledBytes h)
+
+-- A file that was opened, or is missing, is not one that could not be opened.
+isFailed : Opened → Bool
+isFailed (opened.File descriptor) = false
+isFailed opened.Missing = false
+isFailed opened.Failed = true
+
+pub not-failed : {o : Opened} {descriptor : ℤ} → o ≡ opened.File descriptor → o ≡ opened.Failed → ⊥
+unfolding isFailed
+not-failed e f = false≢true (sym (ap isFailed e) ∙ ap isFailed f)
+
+pub not-failed-either : {o : Opened} → o ≡ opened.Missing → o ≡ opened.Failed → ⊥
+unfolding isFailed
+not-failed-either e f = false≢true (sym (ap isFailed e) ∙ ap isFailed f)

@@ -61,7 +61,7 @@ fn put_words(out: &mut [u8], form: Form) -> usize
 {
     match form {
         Form::Job => put(out, 0, b"a job has four words, or five with its allowance"),
-        Form::Chain => put(out, 0, b"a chain has six words"),
+        Form::Chain => put(out, 0, b"a chain has six words, or seven with its factor"),
         Form::Draft => put(out, 0, b"a record has five words"),
         Form::Question => put(out, 0, b"a question has three words"),
         Form::Readings => put(out, 0, b"a question has three words"),
@@ -103,6 +103,9 @@ fn put_job_name(out: &mut [u8], i: usize) -> usize
 fn put_chain_name(out: &mut [u8], i: usize) -> usize
     ensures { λ r. ⌜ r ≤ length (now (out .exit)) ⌝ }
 {
+    if i == 6 {
+        return put(out, 0, b"the factor");
+    }
     if i % 2 == 0 {
         return put(out, 0, b"an easting");
     }

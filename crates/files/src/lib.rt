@@ -17,6 +17,7 @@ ghost use Prim.Native.Nat.{ℕ, _≤_};
 ghost use lib.Dec.{T};
 ghost use lib.ListN.{length};
 ghost use lib.Signed.{nonNeg};
+ghost use Rattle.files.specs.declared.Opened.the-variants as opened;
 ghost use Rattle.files.specs.Answers.{openedBy, IsOpen, IsBegun, filledBytes, noBytes, IsStarted, IsArguments, IsSpare, noneGiven};
 ghost use Rattle.files.specs.Input.{IsNext};
 use libc::STDERR_FILENO;
@@ -145,7 +146,8 @@ pub fn start(tool: &[u8], name: &[u8], buffer: &mut [u8]) -> Filled
     start_of(open(tool, name), tool, name, buffer)
 }
 
-fn start_of(file: Opened, tool: &[u8], name: &[u8], buffer: &mut [u8]) -> Filled
+// The same for a file that was opened, or is missing, or could not be opened.
+pub fn start_of(file: Opened, tool: &[u8], name: &[u8], buffer: &mut [u8]) -> Filled
     ensures { λ r. ⌜ IsStarted file (length (now (buffer .exit))) r ⌝ }
 {
     match file {
@@ -156,6 +158,29 @@ fn start_of(file: Opened, tool: &[u8], name: &[u8], buffer: &mut [u8]) -> Filled
         }
         Opened::Failed => Filled::Failed,
     }
+}
+
+// Whether a name still belongs to the file that was opened by it, or still to none: so another file, read in between, belongs to it
+// too. If not, that is printed.
+pub fn is_still(tool: &[u8], name: &[u8], file: Opened) -> bool
+    ensures { λ r. ⌜ (file ≡ opened.Failed → r ≡ false) ⌝ }
+{
+    let there = system::of_name(name);
+    match file {
+        Opened::File(file) => system::is_same(there, system::of_file(file)) || changed(tool, name),
+        Opened::Missing => !there.found || changed(tool, name),
+        Opened::Failed => false,
+    }
+}
+
+fn changed(tool: &[u8], name: &[u8]) -> bool
+    ensures { λ r. ⌜ r ≡ false ⌝ }
+{
+    trouble(
+        tool,
+        name,
+        b"this file was changed while it was read; try again",
+    )
 }
 
 // Writes bytes to a file. Returns whether all were written.
@@ -358,6 +383,89 @@ pub fn replace(tool: &[u8], name: &[u8], fresh: &[u8], bytes: &[u8], tries: u32)
         return give_up(fresh, file);
     }
     finish(tool, name, fresh, file)
+}
+
+// Replaces two files that belong together by some bytes each. Both fresh files are stored before anything is changed, and the second
+// old file is removed before the first new one takes its name: so there is never an old file beside a new one, but the second one is
+// missing for a moment, and stays so if the tool is killed then. With no bytes for the first nothing is done, and the answer is false.
+pub fn replace_pair(
+    tool: &[u8],
+    name: &[u8],
+    fresh: &[u8],
+    first: &[u8],
+    side: &[u8],
+    side_fresh: &[u8],
+    second: &[u8],
+    tries: u32,
+) -> bool
+    ensures { λ r. ⌜ (length (now (first .entry)) ≡ 0 → r ≡ false) ⌝ }
+{
+    if first.len() == 0 {
+        return false;
+    }
+    let Begun::File(file) = begin(tool, name, fresh, tries) else {
+        return false;
+    };
+    let Begun::File(other) = begin(tool, side, side_fresh, tries) else {
+        return give_up(fresh, file);
+    };
+    if !is_stored(tool, name, file, first)
+        || !is_stored(tool, side, other, second)
+        || !is_removed(tool, side)
+    {
+        give_up(side_fresh, other);
+        return give_up(fresh, file);
+    }
+    finish_pair(tool, name, fresh, file, side, side_fresh, other)
+}
+
+// Both take their names. What fails leaves the second file missing, which is printed.
+fn finish_pair(
+    tool: &[u8],
+    name: &[u8],
+    fresh: &[u8],
+    file: i32,
+    side: &[u8],
+    side_fresh: &[u8],
+    other: i32,
+) -> bool {
+    if !finish(tool, name, fresh, file) {
+        give_up(side_fresh, other);
+        return unpaired(tool, side);
+    }
+    if finish(tool, side, side_fresh, other) {
+        return true;
+    }
+    unpaired(tool, side)
+}
+
+fn unpaired(tool: &[u8], side: &[u8]) -> bool
+    ensures { λ r. ⌜ r ≡ false ⌝ }
+{
+    trouble(
+        tool,
+        side,
+        b"this file is missing now; give the same lines again",
+    )
+}
+
+fn is_stored(tool: &[u8], name: &[u8], file: i32, bytes: &[u8]) -> bool {
+    if !write(tool, name, file, bytes) {
+        return false;
+    }
+    if libc::fsync(file) != 0 {
+        return failed(tool, name);
+    }
+    true
+}
+
+// Removes a file, and asks that this is stored before anything else is done. One that is missing counts as removed.
+fn is_removed(tool: &[u8], name: &[u8]) -> bool {
+    if os::unlink(name) != 0 && os::errno() != libc::ENOENT {
+        return failed(tool, name);
+    }
+    replacing::stored_folder();
+    true
 }
 
 // Prints a note, which does not mean that something failed. Returns true.

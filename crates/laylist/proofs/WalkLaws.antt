@@ -17,15 +17,16 @@ use Rattle.records.specs.declared.ChainCount.{ChainCount}
 use Rattle.records.specs.declared.ChainCount.the-variants as count
 use Rattle.records.specs.Bytes.{pieceEnd}
 use Rattle.records.specs.LogRecords.{logBytes}
-use Rattle.records.specs.ChainTables.{chainCountOf}
+use Rattle.records.specs.ChainTables.{scaledCountOf}
 use Rattle.records.specs.Jobs.{usualAllowance, jobOf}
+use Rattle.records.proofs.TableLaws.{scaled-says}
 use Rattle.records.proofs.Pieces.{next-piece}
 use Rattle.listing.specs.declared.Carried.{Carried}
 use Rattle.listing.specs.Listings.{Part, linesFrom, listingBy, listingFrom, hasListingRoom}
 use Rattle.listing.proofs.Theorems.{in-parts}
 use Rattle.laylist.specs.declared.Next.{Next}
 use Rattle.laylist.specs.declared.Next.the-variants as follows
-use Rattle.laylist.specs.Walks.{acceptsJob, acceptsTable, BothGood, partBytes, partRoom, mayTakeLong, bytesAtOnce, AtOnce, GoesOn}
+use Rattle.laylist.specs.Walks.{acceptsJob, acceptsTable, AllGood, partBytes, partRoom, mayTakeLong, bytesAtOnce, AtOnce, GoesOn}
 
 -- The buffer has room for the listing of a part.
 pub roomy : (out part : List ℕ) → length out ≡ partRoom → length part ≤ partBytes → hasListingRoom (length out) part ≡ true
@@ -76,43 +77,45 @@ count-of (count.Chains n) h = (n, refl)
 count-of (count.Refused number) h = absurd (true≢false (sym h))
 
 -- If nothing is left of a log, the place carried so far is the one that is carried on.
-pub nothing-left : (job table : List ℕ) → BothGood job table → (log : List ℕ) (done : ℕ) (place : Carried) → length log ≤ done →
-    listingFrom job table (drop done log) place .carried ≡ place
+pub nothing-left : (job table scale : List ℕ) → AllGood job table scale → (log : List ℕ) (done : ℕ) (place : Carried) → length log ≤ done →
+    listingFrom job table scale (drop done log) place .carried ≡ place
 unfolding linesFrom listingBy listingFrom
-nothing-left job table ok log done place all =
-    rw (drop-of-length-le log {i = done} all, job-of (jobOf job) (ok .by-job) .1, count-of (chainCountOf table) (ok .by-table) .1)
+nothing-left job table scale ok log done place all =
+    let chains = scaled-says table scale (count-of (scaledCountOf table scale) (ok .by-table) .1) in
+    rw (drop-of-length-le log {i = done} all, job-of (jobOf job) (ok .by-job) .1, chains .0, chains .1)
 
-module _ (job table : List ℕ) (ok : BothGood job table) (bytes : ℕ) (whole : bytes % logBytes ≡ 0) where
+module _ (job table scale : List ℕ) (ok : AllGood job table scale) (bytes : ℕ) (whole : bytes % logBytes ≡ 0) where
   -- A log carries on the same place as the rest of it after its first part, when the rest starts from the place of that part.
   rest-carries : (log : List ℕ) (place : Carried) →
-      listingFrom job table log place .carried
-      ≡ listingFrom job table (drop bytes log) (listingFrom job table (take bytes log) place .carried) .carried
+      listingFrom job table scale log place .carried
+      ≡ listingFrom job table scale (drop bytes log) (listingFrom job table scale (take bytes log) place .carried) .carried
   rest-carries log place = go (decLe bytes (length log))
     where
       part : List ℕ
       part = take bytes log
 
       after : Carried
-      after = listingFrom job table part place .carried
+      after = listingFrom job table scale part place .carried
 
-      go : Dec (bytes ≤ length log) → listingFrom job table log place .carried ≡ listingFrom job table (drop bytes log) after .carried
+      go : Dec (bytes ≤ length log) → listingFrom job table scale log place .carried ≡ listingFrom job table scale (drop bytes log) after .carried
       go (yes h) =
           let j = job-of (jobOf job) (ok .by-job) in
-          let n = count-of (chainCountOf table) (ok .by-table) in
-          ap (λ (l : List ℕ). listingFrom job table l place .carried) (sym (take-append-drop bytes log))
+          let n = count-of (scaledCountOf table scale) (ok .by-table) in
+          let chains = scaled-says table scale (n .1) in
+          ap (λ (l : List ℕ). listingFrom job table scale l place .carried) (sym (take-append-drop bytes log))
           ∙ ap (λ (p : Part). p .carried)
-          (in-parts job table (j .0) (n .0) (j .1) (n .1) place part (drop bytes log) (omega (arith, whole, length-take-le bytes log h)))
+          (in-parts job table scale (j .0) (n .0) (j .1) (chains .0) (chains .1) place part (drop bytes log) (omega (arith, whole, length-take-le bytes log h)))
       go (no h) =
           let all = lt-of-not-le h in
-          ap (λ (l : List ℕ). listingFrom job table l place .carried) (sym (take-all bytes log (omega arith)))
-          ∙ sym (nothing-left job table ok log bytes after (omega arith))
+          ap (λ (l : List ℕ). listingFrom job table scale l place .carried) (sym (take-all bytes log (omega arith)))
+          ∙ sym (nothing-left job table scale ok log bytes after (omega arith))
 
   -- So the place that is carried on at the end stays the same when a part is listed and its place is handed to the rest.
   pub goes-on : (log : List ℕ) (done next : ℕ) → done < length log → next ≡ pieceEnd done bytes (length log) → (place : Carried) {n : Next} {after : Carried} →
-      GoesOn (listingFrom job table (take (next - done) (drop done log)) place) n → n ≡ follows.From after →
-      listingFrom job table (drop done log) place .carried ≡ listingFrom job table (drop next log) after .carried
+      GoesOn (listingFrom job table scale (take (next - done) (drop done log)) place) n → n ≡ follows.From after →
+      listingFrom job table scale (drop done log) place .carried ≡ listingFrom job table scale (drop next log) after .carried
   goes-on log done next some e place {n} {after} told is =
-      let handed : after ≡ listingFrom job table (take (next - done) (drop done log)) place .carried =
-      subst (GoesOn (listingFrom job table (take (next - done) (drop done log)) place)) is told in
-      next-piece bytes (λ c s. listingFrom job table s c .carried) (λ c x rest. rest) (λ c x. listingFrom job table x c .carried) (λ c s any. rest-carries s c) log done next some e place
-      ∙ ap (λ (c : Carried). listingFrom job table (drop next log) c .carried) (sym handed)
+      let handed : after ≡ listingFrom job table scale (take (next - done) (drop done log)) place .carried =
+      subst (GoesOn (listingFrom job table scale (take (next - done) (drop done log)) place)) is told in
+      next-piece bytes (λ c s. listingFrom job table scale s c .carried) (λ c x rest. rest) (λ c x. listingFrom job table scale x c .carried) (λ c s any. rest-carries s c) log done next some e place
+      ∙ ap (λ (c : Carried). listingFrom job table scale (drop next log) c .carried) (sym handed)

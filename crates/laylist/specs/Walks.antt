@@ -10,14 +10,14 @@ use Rattle.records.specs.declared.JobAnswer.the-variants as job
 use Rattle.records.specs.declared.ChainCount.{ChainCount}
 use Rattle.records.specs.declared.ChainCount.the-variants as count
 use Rattle.records.specs.LogRecords.{logBytes}
-use Rattle.records.specs.ChainTables.{chainCountOf}
+use Rattle.records.specs.ChainTables.{scaledCountOf}
 use Rattle.records.specs.Jobs.{usualAllowance, jobOf}
 use Rattle.listing.specs.Listings.{Part, recordsIn, longestLine}
 use Rattle.laylist.specs.declared.Listing.{Listing}
 use Rattle.laylist.specs.declared.Next.{Next}
 use Rattle.laylist.specs.declared.Next.the-variants as next
 
--- Whether a job is accepted, and whether a table is.
+-- Whether a job is accepted, and whether a table is, with its side file or without.
 unfoldable pub acceptsJob : JobAnswer → Bool
 acceptsJob (job.Job j) = true
 acceptsJob (job.Refused number) = false
@@ -26,10 +26,10 @@ unfoldable pub acceptsTable : ChainCount → Bool
 acceptsTable (count.Chains n) = true
 acceptsTable (count.Refused number) = false
 
--- Job and table are accepted: so the log is listed.
-pub record BothGood (job table : List ℕ) : Type 0 where
+-- Job, table and side file are accepted: so the log is listed.
+pub record AllGood (job table scale : List ℕ) : Type 0 where
   pub by-job : acceptsJob (jobOf job) ≡ true
-  pub by-table : acceptsTable (chainCountOf table) ≡ true
+  pub by-table : acceptsTable (scaledCountOf table scale) ≡ true
 
 -- The most bytes of a log that are listed at once, 128 records; and the length of the buffer, room for 129 longest lines.
 abbrev pub partBytes : ℕ

@@ -1,12 +1,12 @@
-// Lists a lay log: reads job.dat, chain.dat and lay.dat in the folder that it is run in, and prints the listing of the log.
+// Lists a lay log: reads job.dat, chain.dat, scale.dat and lay.dat in the folder that it is run in, and prints the listing of the log.
 // A file that is missing counts as empty, and a note says so. A failure is reported on standard error, and nothing is listed after it.
 ghost use mathlib.Core.Path.{_≡_};
 ghost use mathlib.Core.Bool.{true};
 ghost use lib.ListN.{length};
-ghost use Rattle.records.specs.ChainTables.{chainCountOf};
+ghost use Rattle.records.specs.ChainTables.{chainCountOf, scaledCountOf};
 ghost use Rattle.records.specs.Jobs.{jobOf};
 ghost use Rattle.listing.specs.Listings.{listingFrom};
-ghost use Rattle.laylist.specs.Walks.{acceptsJob, acceptsTable, BothGood, partRoom, bytesAtOnce, AtOnce, BeginsWith, GoesOn};
+ghost use Rattle.laylist.specs.Walks.{acceptsJob, acceptsTable, AllGood, partRoom, bytesAtOnce, AtOnce, BeginsWith, GoesOn};
 use files::Filled;
 use files::Opened;
 use listing::Carried;
@@ -35,8 +35,8 @@ const PART_ROOM: usize = 129 * listing::LONGEST_LINE;
 fn main() {
     let words = files::no_arguments(
         b"laylist",
-        b"laylist lists a lay log: it reads job.dat, chain.dat and lay.dat in this folder, and prints
-one line for each record.
+        b"laylist lists a lay log: it reads job.dat, chain.dat, scale.dat and lay.dat in this folder, and
+prints one line for each record.
 
   LINE FIX COUNT VISITS E N E N .. ROUNDED    the places that two readings allow, in chart order
   LINE GRID 1 0 E N ROUNDED                   the place that a grid record names
@@ -45,8 +45,8 @@ one line for each record.
 
 LINE is the record's line number; eastings and northings are in centimetres. ROUNDED is 0 if both
 numbers of the record are exactly whole centimetres, 1 if one was rounded; a hold repeats it. A job
-or table that is refused prints JOB REFUSED or CHAIN REFUSED alone. A missing file counts as empty,
-and a note says so.
+that is refused prints JOB REFUSED alone, a table CHAIN REFUSED, and a side file of factors that does
+not fit the table SCALE REFUSED. A missing file counts as empty, and a note says so.
 
   laylist           lists this folder
   laylist FOLDER    lists that folder
@@ -81,10 +81,11 @@ fn by_job(out: &mut [u8], job: &[u8])
     }
     // One byte more than the longest table has, for the same reason.
     let mut table = [0u8; records::TABLE_BYTES + 1];
-    let Filled::Bytes(n) = files::start(b"laylist", b"chain.dat", &mut table) else {
+    let file = files::open(b"laylist", b"chain.dat");
+    let Filled::Bytes(n) = files::start_of(file, b"laylist", b"chain.dat", &mut table) else {
         return;
     };
-    by_table(out, job, &table[0..n]);
+    by_table(out, job, &table[0..n], file);
 }
 
 // Whether the job is accepted. If not, its refusal is all that is printed, whatever the table and the log.
@@ -95,21 +96,30 @@ fn job_accepted(out: &mut [u8], job: &[u8]) -> bool
     match records::job_of(job) {
         JobAnswer::Job(_) => true,
         JobAnswer::Refused(_) => {
-            print_part(out, job, b"", b"", Carried::Nothing);
+            print_part(out, job, b"", b"", b"", Carried::Nothing);
             false
         }
     }
 }
 
-fn by_table(out: &mut [u8], job: &[u8], table: &[u8])
+// A refused table is printed before the side file is read. `file` is the table's: it must still be there when the side file has been
+// read, since the two belong together.
+fn by_table(out: &mut [u8], job: &[u8], table: &[u8], file: Opened)
     requires { ⌜ (length (now out) ≡ partRoom) × (acceptsJob (jobOf (now job)) ≡ true) ⌝ }
 {
-    if table_accepted(out, job, table) {
-        list_log(out, job, table);
+    if !table_accepted(out, job, table) {
+        return;
+    }
+    let mut scale = [0u8; records::SCALE_BYTES + 1];
+    let Filled::Bytes(n) = files::start(b"laylist", b"scale.dat", &mut scale) else {
+        return;
+    };
+    if files::is_still(b"laylist", b"chain.dat", file) {
+        by_scale(out, job, table, &scale[0..n]);
     }
 }
 
-// Whether the table is accepted. If not, its refusal is all that is printed, whatever the log.
+// Whether the table is accepted. If not, its refusal is all that is printed, whatever the side file and the log.
 fn table_accepted(out: &mut [u8], job: &[u8], table: &[u8]) -> bool
     requires { ⌜ length (now out) ≡ partRoom ⌝ }
     ensures { λ r. ⌜ r ≡ acceptsTable (chainCountOf (now (table .entry))) ⌝ }
@@ -117,18 +127,40 @@ fn table_accepted(out: &mut [u8], job: &[u8], table: &[u8]) -> bool
     match records::chain_count(table) {
         ChainCount::Chains(_) => true,
         ChainCount::Refused(_) => {
-            print_part(out, job, table, b"", Carried::Nothing);
+            print_part(out, job, table, b"", b"", Carried::Nothing);
+            false
+        }
+    }
+}
+
+fn by_scale(out: &mut [u8], job: &[u8], table: &[u8], scale: &[u8])
+    requires { ⌜ (length (now out) ≡ partRoom) × (acceptsJob (jobOf (now job)) ≡ true) ⌝ }
+{
+    if scale_accepted(out, job, table, scale) {
+        list_log(out, job, table, scale);
+    }
+}
+
+// Whether the side file fits the table. If not, its refusal is all that is printed, whatever the log.
+fn scale_accepted(out: &mut [u8], job: &[u8], table: &[u8], scale: &[u8]) -> bool
+    requires { ⌜ length (now out) ≡ partRoom ⌝ }
+    ensures { λ r. ⌜ r ≡ acceptsTable (scaledCountOf (now (table .entry)) (now (scale .entry))) ⌝ }
+{
+    match records::scaled_count(table, scale) {
+        ChainCount::Chains(_) => true,
+        ChainCount::Refused(_) => {
+            print_part(out, job, table, scale, b"", Carried::Nothing);
             false
         }
     }
 }
 
 // Opens the log and prints its lines.
-fn list_log(out: &mut [u8], job: &[u8], table: &[u8])
-    requires { ⌜ (length (now out) ≡ partRoom) × BothGood (now job) (now table) ⌝ }
+fn list_log(out: &mut [u8], job: &[u8], table: &[u8], scale: &[u8])
+    requires { ⌜ (length (now out) ≡ partRoom) × AllGood (now job) (now table) (now scale) ⌝ }
 {
     match files::open(b"laylist", b"lay.dat") {
-        Opened::File(log) => list_stretches(out, job, table, log),
+        Opened::File(log) => list_stretches(out, job, table, scale, log),
         Opened::Missing => {
             files::missing(b"laylist", b"lay.dat");
         }
@@ -137,13 +169,13 @@ fn list_log(out: &mut [u8], job: &[u8], table: &[u8])
 }
 
 // Prints the lines of the log, stretch by stretch.
-fn list_stretches(out: &mut [u8], job: &[u8], table: &[u8], log: i32)
-    requires { ⌜ (length (now out) ≡ partRoom) × BothGood (now job) (now table) ⌝ }
+fn list_stretches(out: &mut [u8], job: &[u8], table: &[u8], scale: &[u8], log: i32)
+    requires { ⌜ (length (now out) ≡ partRoom) × AllGood (now job) (now table) (now scale) ⌝ }
 {
     let mut carried = Carried::Nothing;
     let mut turns = files::MOST_STRETCHES;
     while turns > 0 {
-        let Next::From(last) = list_stretch(out, job, table, log, carried) else {
+        let Next::From(last) = list_stretch(out, job, table, scale, log, carried) else {
             return;
         };
         carried = last;
@@ -152,14 +184,14 @@ fn list_stretches(out: &mut [u8], job: &[u8], table: &[u8], log: i32)
 }
 
 // Reads a stretch of the log and prints its lines before the next stretch is read, because reading may fail.
-fn list_stretch(out: &mut [u8], job: &[u8], table: &[u8], log: i32, before: Carried) -> Next
-    requires { ⌜ (length (now out) ≡ partRoom) × BothGood (now job) (now table) ⌝ }
+fn list_stretch(out: &mut [u8], job: &[u8], table: &[u8], scale: &[u8], log: i32, before: Carried) -> Next
+    requires { ⌜ (length (now out) ≡ partRoom) × AllGood (now job) (now table) (now scale) ⌝ }
 {
     let mut stretch = io::large_buffer();
     let Filled::Bytes(n) = files::fill(b"laylist", b"lay.dat", log, &mut stretch) else {
         return Next::End;
     };
-    let next = list_parts(out, job, table, &stretch[0..n], before);
+    let next = list_parts(out, job, table, scale, &stretch[0..n], before);
     if n < stretch.len() {
         return Next::End;
     }
@@ -167,16 +199,16 @@ fn list_stretch(out: &mut [u8], job: &[u8], table: &[u8], log: i32, before: Carr
 }
 
 // Lists a stretch of the log, part by part, each with the place carried from the one before.
-fn list_parts(out: &mut [u8], job: &[u8], table: &[u8], log: &[u8], before: Carried) -> Next
-    requires { ⌜ (length (now out) ≡ partRoom) × BothGood (now job) (now table) ⌝ }
-    ensures { λ r. ⌜ GoesOn (listingFrom (now (job .entry)) (now (table .entry)) (now (log .entry)) before) r ⌝ }
+fn list_parts(out: &mut [u8], job: &[u8], table: &[u8], scale: &[u8], log: &[u8], before: Carried) -> Next
+    requires { ⌜ (length (now out) ≡ partRoom) × AllGood (now job) (now table) (now scale) ⌝ }
+    ensures { λ r. ⌜ GoesOn (listingFrom (now (job .entry)) (now (table .entry)) (now (scale .entry)) (now (log .entry)) before) r ⌝ }
 {
     let bytes = bytes_at_once(job);
     let mut carried = before;
     let mut done = 0;
     while done < log.len() {
         let next = records::piece_end(done, bytes, log.len());
-        let Next::From(place) = print_part(out, job, table, &log[done..next], carried) else {
+        let Next::From(place) = print_part(out, job, table, scale, &log[done..next], carried) else {
             return Next::End;
         };
         carried = place;
@@ -200,13 +232,13 @@ fn bytes_at_once(job: &[u8]) -> usize
 }
 
 // Lists a part of the log and prints its text.
-fn print_part(out: &mut [u8], job: &[u8], table: &[u8], part: &[u8], before: Carried) -> Next
+fn print_part(out: &mut [u8], job: &[u8], table: &[u8], scale: &[u8], part: &[u8], before: Carried) -> Next
     requires { ⌜ (length (now out) ≡ partRoom) × AtOnce (now job) (now part) ⌝ }
-    ensures { λ r. ⌜ GoesOn (listingFrom (now (job .entry)) (now (table .entry)) (now (part .entry)) before) r ⌝ }
+    ensures { λ r. ⌜ GoesOn (listingFrom (now (job .entry)) (now (table .entry)) (now (scale .entry)) (now (part .entry)) before) r ⌝ }
 {
-    let listing = list_part(out, job, table, part, before);
+    let listing = list_part(out, job, table, scale, part, before);
     let n = listing.length;
-    if !printed(&out[..n], job, table, part, before) {
+    if !printed(&out[..n], job, table, scale, part, before) {
         return Next::End;
     }
     let carried = listing.carried;
@@ -214,11 +246,11 @@ fn print_part(out: &mut [u8], job: &[u8], table: &[u8], part: &[u8], before: Car
 }
 
 // Puts the listing of a part of the log at the start of a buffer.
-fn list_part(out: &mut [u8], job: &[u8], table: &[u8], part: &[u8], before: Carried) -> Listing
+fn list_part(out: &mut [u8], job: &[u8], table: &[u8], scale: &[u8], part: &[u8], before: Carried) -> Listing
     requires { ⌜ (length (now out) ≡ partRoom) × AtOnce (now job) (now part) ⌝ }
-    ensures { λ r. ⌜ BeginsWith (now (out .exit)) (listingFrom (now (job .entry)) (now (table .entry)) (now (part .entry)) before) r ⌝ }
+    ensures { λ r. ⌜ BeginsWith (now (out .exit)) (listingFrom (now (job .entry)) (now (table .entry)) (now (scale .entry)) (now (part .entry)) before) r ⌝ }
 {
-    match listing::list(out, job, table, part, before) {
+    match listing::list(out, job, table, scale, part, before) {
         Listed::Text { length, carried } => Listing { length, carried },
         // This never happens: there is room for every part.
         Listed::Refused(_) => Listing {
@@ -230,8 +262,8 @@ fn list_part(out: &mut [u8], job: &[u8], table: &[u8], part: &[u8], before: Carr
 
 // Prints a text and returns whether that succeeded. Everything that is printed except the help goes through here, and must be the
 // listing of a part. The other parameters are there only to state this.
-fn printed(text: &[u8], job: &[u8], table: &[u8], part: &[u8], before: Carried) -> bool
-    requires { ⌜ now text ≡ listingFrom (now job) (now table) (now part) before .text ⌝ }
+fn printed(text: &[u8], job: &[u8], table: &[u8], scale: &[u8], part: &[u8], before: Carried) -> bool
+    requires { ⌜ now text ≡ listingFrom (now job) (now table) (now scale) (now part) before .text ⌝ }
 {
     files::print(b"laylist", text)
 }

@@ -1,7 +1,7 @@
 -- The tests of a chain table, one after the other, and what follows from each.
 use Prim.Native.Nat.{ℕ, _+_, _-_, _*_, _/_, _%_, _≤_}
-use mathlib.Core.Path.{_≡_, refl, sym, _∙_}
-use mathlib.Core.Bool.{Bool, true, false}
+use mathlib.Core.Path.{_≡_, refl, sym, ap, _∙_}
+use mathlib.Core.Bool.{Bool, true, false, false≢true}
 use mathlib.Core.List.{List}
 use native.Mathlib.Omega.{arith}
 use native.Mathlib.Decide.{ℕ-discrete}
@@ -10,6 +10,7 @@ use lib.ListN.{length}
 use borrow.Author.Tests.{leb-true, le-leb, lt-leb, eqb-true, eq-eqb, ne-eqb}
 use Rattle.chart.specs.Chains.{isSound}
 use Rattle.chart.proofs.PlaceLaws.{both}
+use Rattle.records.specs.declared.ChainCount.{ChainCount}
 use Rattle.records.specs.declared.ChainCount.the-variants as count
 use Rattle.records.specs.declared.NamedChain.the-variants as named
 use Rattle.records.specs.ChainTables.{chainBytes, mostChains, factorBytes, oneTo, chainsIn, isTable, chainCountOf, isScale, scaledCountOf, chainIn, chainOf}
@@ -63,6 +64,25 @@ scaled-unfit s scale h fits = rw (h, fits)
 pub scaled-counted : (s scale : List ℕ) → isTable s ≡ true → isScale (chainsIn s) scale ≡ true → scaledCountOf s scale ≡ count.Chains (chainsIn s)
 unfolding scaledCountOf
 scaled-counted s scale h fits = rw (h, fits)
+
+-- If they are counted, the table has so many, and the side file fits.
+pub scaled-says : (s scale : List ℕ) {n : ℕ} → scaledCountOf s scale ≡ count.Chains n → (chainCountOf s ≡ count.Chains n) × (isScale n scale ≡ true)
+unfolding scaledCountOf chainCountOf
+scaled-says s scale {n} e = go (isTable s) refl (isScale (chainsIn s) scale) refl
+  where
+    counted : ChainCount → ℕ
+    counted (count.Chains m) = m
+    counted (count.Refused number) = 0
+
+    never : {A : Type 0} → count.Refused 1 ≡ count.Chains n → A
+    never h = let z : _≡_ {A = Bool} false true = cc in absurd (false≢true z)
+
+    go : (t : Bool) → isTable s ≡ t → (u : Bool) → isScale (chainsIn s) scale ≡ u → (chainCountOf s ≡ count.Chains n) × (isScale n scale ≡ true)
+    go true h true fits =
+        let same : count.Chains (chainsIn s) ≡ count.Chains n = sym (scaled-counted s scale h fits) ∙ e in
+        (table-counted s h ∙ same, ap (λ (c : ChainCount). isScale (counted c) scale) (sym same) ∙ fits)
+    go true h false fits = never (sym (scaled-unfit s scale h fits) ∙ e)
+    go false h u fits = never (sym (scaled-1 s scale h) ∙ e)
 
 -- What is answered when a number names a chain.
 module _ (s scale : List ℕ) (number : ℕ) where

@@ -26,7 +26,7 @@ returns c =
     let start = call .before .before .before .before .before .before in
     let a = start .args in
     let room = roomy (a .out .now) (a .part .now) (start .pre .0) (start .pre .1 .few) in
-    let p = listingFrom (a .job .now) (a .table .now) (a .part .now) (a .before) in
+    let p = listingFrom (a .job .now) (a .table .now) (a .scale .now) (a .part .now) (a .before) in
     let fits = listing-fits (a .out .now) (a .part .now) room p (sym (told .length .given .1) ∙ call .list .ensures .0) (call .list .ensures .1) in
     record { fits = fits .0; text-is = fits .1 .0; carried-is = fits .1 .1 }
 
@@ -39,7 +39,7 @@ returns-2 c =
     let start = call .before .before .before .before .before .before in
     let a = start .args in
     let room = roomy (a .out .now) (a .part .now) (start .pre .0) (start .pre .1 .few) in
-    let p = listingFrom (a .job .now) (a .table .now) (a .part .now) (a .before) in
+    let p = listingFrom (a .job .now) (a .table .now) (a .scale .now) (a .part .now) (a .before) in
     absurd (not-refused (a .out .now) (a .part .now) room p (sym (c .enum-told .given .1) ∙ call .list .ensures .0))
 
 pub list-part-spec : {M : Type 1} → statement M

@@ -12,12 +12,12 @@ use Rattle.laylist.proofs.list_parts.Statement.{statement}
 use Rattle.laylist.proofs.list_parts.Tie as tie
 
 abbrev Inv-loop : tie.InvT-loop
-Inv-loop out₀ job table log bytes carried₀ done₀ out carried done =
+Inv-loop out₀ job table scale log bytes carried₀ done₀ out carried done =
     (done ≤ length log) × ((length out ≡ length out₀)
-    × (listingFrom job table log carried₀ .carried ≡ listingFrom job table (drop done log) carried .carried))
+    × (listingFrom job table scale log carried₀ .carried ≡ listingFrom job table scale (drop done log) carried .carried))
 
 abbrev μ-loop : tie.MeasureT-loop
-μ-loop out₀ job table log bytes carried₀ done₀ out carried done = length log - done
+μ-loop out₀ job table scale log bytes carried₀ done₀ out carried done = length log - done
 
 bytes-at-once-requires : tie.Need-bytes-at-once-requires Inv-loop μ-loop
 bytes-at-once-requires c κs = search needs
@@ -80,7 +80,7 @@ loop-again c =
       (
         search needs,
         (loop .loop .inv .1 .1
-            ∙ goes-on (a .job .now) (a .table .now) (start .pre .1) (bytes .result) whole (a .log .now) (loop .loop .done) (end .piece-end .result) (search needs) (end .piece-end .ensures) (loop .loop .carried) (call .print-part .ensures) (told .place .given .1)),
+            ∙ goes-on (a .job .now) (a .table .now) (a .scale .now) (start .pre .1) (bytes .result) whole (a .log .now) (loop .loop .done) (end .piece-end .result) (search needs) (end .piece-end .ensures) (loop .loop .carried) (call .print-part .ensures) (told .place .given .1)),
       ),
     )
 
@@ -92,7 +92,7 @@ returns-2 c =
     let loop = c .before in
     let start = loop .before .before .before .before .before .before in
     let a = start .args in
-    sym (loop .loop .inv .1 .1 ∙ nothing-left (a .job .now) (a .table .now) (start .pre .1) (a .log .now) (loop .loop .done) (loop .loop .carried) (search needs))
+    sym (loop .loop .inv .1 .1 ∙ nothing-left (a .job .now) (a .table .now) (a .scale .now) (start .pre .1) (a .log .now) (loop .loop .done) (loop .loop .carried) (search needs))
 
 pub list-parts-spec : {M : Type 1} → statement M
 list-parts-spec =

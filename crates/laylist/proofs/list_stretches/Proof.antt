@@ -6,10 +6,10 @@ use Rattle.laylist.proofs.list_stretches.Statement.{statement}
 use Rattle.laylist.proofs.list_stretches.Tie as tie
 
 abbrev Inv-loop : tie.InvT-loop
-Inv-loop out₀ job table log carried₀ turns₀ out carried turns = length out ≡ length out₀
+Inv-loop out₀ job table scale log carried₀ turns₀ out carried turns = length out ≡ length out₀
 
 abbrev μ-loop : tie.MeasureT-loop
-μ-loop out₀ job table log carried₀ turns₀ out carried turns = turns
+μ-loop out₀ job table scale log carried₀ turns₀ out carried turns = turns
 
 loop-holds : tie.Need-loop-holds Inv-loop μ-loop
 loop-holds c = search needs
