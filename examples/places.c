@@ -13,14 +13,14 @@ int main(void)
     struct lay_found found;
     if (lay_version() != LAY_VERSION)
         return 1;
-    if (lay_write_chain(chain, sizeof chain, stations, LAY_CHAIN_NUMBERS) != LAY_OK ||
+    if (lay_write_chain(chain, sizeof chain, stations, LAY_CHAIN_NUMBERS, LAY_UNIT_FACTOR) != LAY_OK ||
         lay_write_job(job, sizeof job, 30000, 40000, 1, 0, 100) != LAY_OK ||
         lay_centimetres(-100.0, &readings[0], &marks[0]) != LAY_OK ||
         lay_centimetres(-200.0, &readings[1], &marks[1]) != LAY_OK)
         return 1;
     int rounded = marks[0] != LAY_EQUAL || marks[1] != LAY_EQUAL;
-    uint32_t refusal =
-        lay_search(list, 8, chain, sizeof chain, readings, LAY_CHAIN_READINGS, job, sizeof job, &found);
+    uint32_t refusal = lay_search(list, 8, chain, sizeof chain, LAY_UNIT_FACTOR, readings, LAY_CHAIN_READINGS, job, sizeof job,
+                                  &found);
     printf("refusal %" PRIu32 ", %" PRIu64 " places, %" PRIu64 " visits, rounded %d\n", refusal, found.count, found.visits,
            rounded);
     for (size_t i = 0; i < found.count; i++)

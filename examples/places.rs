@@ -9,17 +9,20 @@ struct Found {
 #[link(name = "lay", kind = "static")]
 extern "C" {
     fn lay_centimetres(metres: f64, centimetres: &mut i64, mark: &mut u32) -> u32;
-    fn lay_write_chain(buffer: *mut u8, length: usize, stations: *const u32, stations_length: usize) -> u32;
+    fn lay_write_chain(buffer: *mut u8, length: usize, stations: *const u32, stations_length: usize, factor: u32) -> u32;
     #[rustfmt::skip]
     fn lay_write_job(
         buffer: *mut u8, length: usize, easting: u32, northing: u32, k: u32, tolerance: u32, allowance: u64,
     ) -> u32;
     #[rustfmt::skip]
     fn lay_search(
-        list: *mut u32, entries: usize, chain: *const u8, chain_length: usize, readings: *const i64, readings_length: usize,
-        job: *const u8, job_length: usize, found: &mut Found,
+        list: *mut u32, entries: usize, chain: *const u8, chain_length: usize, factor: u32,
+        readings: *const i64, readings_length: usize, job: *const u8, job_length: usize, found: &mut Found,
     ) -> u32;
 }
+
+// The scale of the chain, grid to ground, in millionths: this one leaves distances as they are.
+const FACTOR: u32 = 1_000_000;
 
 // The centimetres, and whether they are rounded: a mark of 0 says that they are not.
 fn centimetres(metres: f64) -> Option<(i64, bool)> {
@@ -30,7 +33,7 @@ fn centimetres(metres: f64) -> Option<(i64, bool)> {
 
 fn chain(stations: [u32; 6]) -> Option<[u8; 24]> {
     let mut chain = [0; 24];
-    let refusal = unsafe { lay_write_chain(chain.as_mut_ptr(), chain.len(), stations.as_ptr(), stations.len()) };
+    let refusal = unsafe { lay_write_chain(chain.as_mut_ptr(), chain.len(), stations.as_ptr(), stations.len(), FACTOR) };
     (refusal == 0).then_some(chain)
 }
 
@@ -55,7 +58,7 @@ fn print_places() -> Option<()> {
     #[rustfmt::skip]
     let refusal = unsafe {
         lay_search(
-            list.as_mut_ptr(), list.len(), chain.as_ptr(), chain.len(), readings.as_ptr(), readings.len(),
+            list.as_mut_ptr(), list.len(), chain.as_ptr(), chain.len(), FACTOR, readings.as_ptr(), readings.len(),
             job.as_ptr(), job.len(), &mut found,
         )
     };
