@@ -1,28 +1,30 @@
 /* The harness by which the tests call the library: it reads requests from standard input, one to a line, calls a function of lay.h
  * for each, and prints each answer on a line of standard output. A verb is the name of its function without `lay_`.
  *
- * Words are separated by single spaces. Numbers are decimal. BYTES, CHAIN, JOB, TABLE, LOG and TEXT are lower-case hexadecimal, `-`
- * for no bytes. A CHAIN, and the JOB of search and how_many, may also be its numbers with commas between, as in 0,0,30000,0,0,40000
- * and 30000,40000,1,0,100; for log records CHAIN is the chain's number. A PATTERN is the bits of a binary64 number in 16 hexadecimal
- * digits, the highest first. READING.. and N.. are any number of numbers. R is the number of the refusal, 0 for none. A MARK is 0, 1
- * or 2 as in lay.h; an ANSWER is 1, 2 or 3 as there, and 0 after a refusal. LENGTH is how many elements a lent buffer or list has,
- * and DIRT is what each of them holds before the call.
+ * Words are separated by single spaces. Numbers are decimal. BYTES, CHAIN, JOB, TABLE, SCALE, LOG and TEXT are lower-case
+ * hexadecimal, `-` for no bytes. A CHAIN, and the JOB of search and how_many, may also be its numbers with commas between, as in
+ * 0,0,30000,0,0,40000 and 30000,40000,1,0,100; for log records CHAIN is the chain's number. A PATTERN is the bits of a binary64
+ * number in 16 hexadecimal digits, the highest first. READING.. and N.. are any number of numbers. R is the number of the refusal,
+ * 0 for none. A MARK is 0, 1 or 2 as in lay.h; an ANSWER is 1, 2 or 3 as there, and 0 after a refusal. LENGTH is how many elements
+ * a lent buffer or list has, and DIRT is what each of them holds before the call.
  *
  *   version                                      ->  VERSION
  *   centimetres PATTERN                          ->  R C MARK
  *   metres C                                     ->  R PATTERN
- *   expected LENGTH DIRT CHAIN E N               ->  R and every entry of the list
- *   search LENGTH DIRT CHAIN JOB READING..       ->  R COUNT VISITS and every entry of the list
- *   how_many CHAIN JOB READING..                 ->  R ANSWER E N VISITS
+ *   expected LENGTH DIRT CHAIN FACTOR E N        ->  R and every entry of the list
+ *   search LENGTH DIRT CHAIN FACTOR JOB READING..
+ *                                                ->  R COUNT VISITS and every entry of the list
+ *   how_many CHAIN FACTOR JOB READING..          ->  R ANSWER E N VISITS
  *   read_record BYTES                            ->  R KIND CHAIN LINE X Y XMARK YMARK
  *   write_record LENGTH DIRT KIND CHAIN LINE X Y ->  R BYTES, the whole buffer
  *   read_job BYTES                               ->  R E N K T ALLOWANCE
  *   write_job LENGTH DIRT E N K T ALLOWANCE      ->  R BYTES
  *   count_chains BYTES                           ->  R COUNT
- *   chain LENGTH DIRT NUMBER TABLE               ->  R BYTES
- *   read_chain LENGTH DIRT CHAIN                 ->  R and every entry of the list
- *   write_chain LENGTH DIRT N..                  ->  R BYTES
- *   list LENGTH DIRT HELD E N ROUNDED JOB TABLE LOG
+ *   chain LENGTH DIRT NUMBER TABLE SCALE         ->  R BYTES FACTOR
+ *   read_chain LENGTH DIRT CHAIN FACTOR          ->  R and every entry of the list
+ *   write_chain LENGTH DIRT FACTOR N..           ->  R BYTES
+ *   write_factor LENGTH DIRT FACTOR              ->  R BYTES
+ *   list LENGTH DIRT HELD E N ROUNDED JOB TABLE SCALE LOG
  *                                                ->  R TEXTLENGTH HELD E N ROUNDED TEXT, and `kept` if every byte after the
  *                                                    text still holds DIRT, else `touched`
  *
@@ -322,8 +324,9 @@ static void ask_expected(void)
     for (size_t i = 0; i < length; i++)
         readings[i] = dirt;
     struct bytes chain = chain_bytes();
+    uint32_t factor = number32();
     struct place p = place();
-    printf("%" PRIu32, lay_expected(readings, length, chain.at, chain.length, p.easting, p.northing));
+    printf("%" PRIu32, lay_expected(readings, length, chain.at, chain.length, factor, p.easting, p.northing));
     for (size_t i = 0; i < length; i++)
         printf(" %" PRId64, readings[i]);
 }
@@ -356,11 +359,13 @@ static void ask_search(void)
 {
     size_t length = size(), count;
     uint32_t *list = dirty_list(length, number32());
-    struct bytes chain = chain_bytes(), job = job_bytes();
+    struct bytes chain = chain_bytes();
+    uint32_t factor = number32();
+    struct bytes job = job_bytes();
     const int64_t *readings = readings_left(&count);
     struct lay_found *found = result(sizeof *found);
     uint32_t refusal =
-        lay_search(list, length, chain.at, chain.length, readings, count, job.at, job.length, found);
+        lay_search(list, length, chain.at, chain.length, factor, readings, count, job.at, job.length, found);
     printf("%" PRIu32 " %" PRIu64 " %" PRIu64, refusal, found->count, found->visits);
     print_list(list, length);
 }
@@ -368,13 +373,15 @@ static void ask_search(void)
 static void ask_how_many(void)
 {
     size_t count;
-    struct bytes chain = chain_bytes(), job = job_bytes();
+    struct bytes chain = chain_bytes();
+    uint32_t factor = number32();
+    struct bytes job = job_bytes();
     const int64_t *readings = readings_left(&count);
     uint32_t *answer = result32();
     struct lay_place *found = result(sizeof *found);
     uint64_t *visits = result64();
     uint32_t refusal =
-        lay_how_many(chain.at, chain.length, readings, count, job.at, job.length, answer, found, visits);
+        lay_how_many(chain.at, chain.length, factor, readings, count, job.at, job.length, answer, found, visits);
     printf("%" PRIu32 " %" PRIu32 " %" PRIu32 " %" PRIu32 " %" PRIu64, refusal, *answer, found->easting, found->northing,
            *visits);
 }
@@ -438,9 +445,11 @@ static void ask_chain(void)
     size_t length = size();
     uint8_t *buffer = lend(length, byte());
     uint32_t number = number32();
-    struct bytes table = bytes();
-    printf("%" PRIu32, lay_chain(buffer, length, table.at, table.length, number));
+    struct bytes table = bytes(), scale = bytes();
+    uint32_t *factor = result32();
+    printf("%" PRIu32, lay_chain(buffer, length, table.at, table.length, scale.at, scale.length, number, factor));
     print_bytes(buffer, length);
+    printf(" %" PRIu32, *factor);
 }
 
 static void ask_read_chain(void)
@@ -448,7 +457,8 @@ static void ask_read_chain(void)
     size_t length = size();
     uint32_t *stations = dirty_list(length, number32());
     struct bytes chain = chain_bytes();
-    printf("%" PRIu32, lay_read_chain(chain.at, chain.length, stations, length));
+    uint32_t factor = number32();
+    printf("%" PRIu32, lay_read_chain(chain.at, chain.length, factor, stations, length));
     print_list(stations, length);
 }
 
@@ -456,11 +466,21 @@ static void ask_write_chain(void)
 {
     size_t length = size();
     uint8_t *buffer = lend(length, byte());
+    uint32_t factor = number32();
     size_t count = words_left;
     uint32_t *stations = dirty_list(count, 0);
     for (size_t i = 0; i < count; i++)
         stations[i] = number32();
-    printf("%" PRIu32, lay_write_chain(buffer, length, stations, count));
+    printf("%" PRIu32, lay_write_chain(buffer, length, stations, count, factor));
+    print_bytes(buffer, length);
+}
+
+static void ask_write_factor(void)
+{
+    size_t length = size();
+    uint8_t *buffer = lend(length, byte());
+    uint32_t factor = number32();
+    printf("%" PRIu32, lay_write_factor(buffer, length, factor));
     print_bytes(buffer, length);
 }
 
@@ -474,9 +494,9 @@ static void ask_list(void)
     part->easting = number32();
     part->northing = number32();
     part->rounded = number32();
-    struct bytes job = bytes(), table = bytes(), log = bytes();
-    uint32_t refusal =
-        lay_list(text, length, job.at, job.length, table.at, table.length, log.at, log.length, part);
+    struct bytes job = bytes(), table = bytes(), scale = bytes(), log = bytes();
+    uint32_t refusal = lay_list(text, length, job.at, job.length, table.at, table.length, scale.at, scale.length, log.at,
+                                log.length, part);
     printf("%" PRIu32 " %" PRIu64 " %" PRIu32 " %" PRIu32 " %" PRIu32 " %" PRIu32, refusal, part->length, part->held,
            part->easting, part->northing, part->rounded);
     if (part->length > length) {
@@ -497,18 +517,19 @@ static const struct verb {
     {"version", 0, false, ask_version},
     {"centimetres", 1, false, ask_centimetres},
     {"metres", 1, false, ask_metres},
-    {"expected", 5, false, ask_expected},
-    {"search", 4, true, ask_search},
-    {"how_many", 2, true, ask_how_many},
+    {"expected", 6, false, ask_expected},
+    {"search", 5, true, ask_search},
+    {"how_many", 3, true, ask_how_many},
     {"read_record", 1, false, ask_read_record},
     {"write_record", 7, false, ask_write_record},
     {"read_job", 1, false, ask_read_job},
     {"write_job", 7, false, ask_write_job},
     {"count_chains", 1, false, ask_count_chains},
-    {"chain", 4, false, ask_chain},
-    {"read_chain", 3, false, ask_read_chain},
-    {"write_chain", 2, true, ask_write_chain},
-    {"list", 9, false, ask_list},
+    {"chain", 5, false, ask_chain},
+    {"read_chain", 4, false, ask_read_chain},
+    {"write_chain", 3, true, ask_write_chain},
+    {"write_factor", 3, false, ask_write_factor},
+    {"list", 10, false, ask_list},
 };
 
 static const struct verb *verb(void)
