@@ -1,6 +1,6 @@
 #!/usr/bin/env bash
 # Tests that the examples of the library, in C and in Rust, are linked as docs/LIBRARY.md says, and print P4 of document 01; that the
-# header has the numbers of the crates, and no function with ten arguments; and that the library keeps nothing between calls.
+# header has the numbers of the crates, and no function with twelve arguments; and that the library keeps nothing between calls.
 cd "$(dirname "$0")/.." && . tests/common.bash && . tests/library.bash
 listing=$'refusal 0, 2 places, 5 visits, rounded 0\n30000 40000\n30001 40001'
 header=crates/lay/lay.h
@@ -29,6 +29,7 @@ while read -r name crate constant; do
 done <<'END'
 LAY_RECORD_BYTES records LOG_BYTES
 LAY_CHAIN_BYTES records CHAIN_BYTES
+LAY_FACTOR_BYTES records FACTOR_BYTES
 LAY_JOB_BYTES records JOB_BYTES
 LAY_MOST_CHAINS records MOST_CHAINS
 LAY_LINE_BYTES listing LONGEST_LINE
@@ -36,12 +37,17 @@ LAY_CHAIN_NUMBERS lay CHAIN_NUMBERS
 LAY_CHAIN_READINGS lay CHAIN_READINGS
 LAY_MOST_EASTING chart MOST_EASTING
 LAY_MOST_NORTHING chart MOST_NORTHING
+LAY_LEAST_FACTOR chart LEAST_FACTOR
+LAY_MOST_FACTOR chart MOST_FACTOR
+LAY_UNIT_FACTOR chart UNIT_FACTOR
 LAY_MOST_READING search MOST_READING
 LAY_MOST_EXPONENT search MOST_EXPONENT
 LAY_MOST_TOLERANCE search MOST_TOLERANCE
 END
-table=$(($(in_header LAY_CHAIN_BYTES) * $(in_header LAY_MOST_CHAINS)))
-pass_if 'LAY_TABLE_BYTES is that of the most chains' same "$(in_header LAY_TABLE_BYTES)" "$table"
+# longest NAME PART: that NAME is the bytes of the most chains, if each has PART
+longest() { same "$(in_header "$1")" $(($(in_header "$2") * $(in_header LAY_MOST_CHAINS))); }
+pass_if 'LAY_TABLE_BYTES is that of the most chains' longest LAY_TABLE_BYTES LAY_CHAIN_BYTES
+pass_if 'LAY_SCALE_BYTES is that of the most chains' longest LAY_SCALE_BYTES LAY_FACTOR_BYTES
 pass_if 'the library has the version of the header' \
     same "$(echo version | harness)" "$(sed -n 's/^#define LAY_VERSION \([0-9]*\)$/\1/p' $header)"
 
@@ -54,10 +60,24 @@ LAY_BELOW 3fd8000000000000 38
 LAY_ABOVE 3fc0000000000000 12
 END
 
+# The factors by their names: the least and the most are accepted, and those beside them are not; one leaves distances as they are.
+least=$(in_header LAY_LEAST_FACTOR) most=$(in_header LAY_MOST_FACTOR)
+while read -r factor refusal; do
+    pass_if "the factor $factor gives $refusal" same "$(harness <<<"write_factor 4 0 $factor" | cut -d ' ' -f 1)" "$refusal"
+done <<END
+$((least - 1)) 5
+$least 0
+$most 0
+$((most + 1)) 5
+END
+pass_if 'LAY_UNIT_FACTOR gives the readings of P1' \
+    same "$(harness <<<"expected 2 0 0,0,30000,0,0,40000 $(in_header LAY_UNIT_FACTOR) 30000 40000")" '0 -10000 -20000'
+
 # How many places by their names: in P8's window none, in that of one cell one, in P4's several.
 while read -r name window place visits; do
     pass_if "$name is the answer in the window $window" \
-        same "$(harness <<<"how_many 0,0,30000,0,0,40000 $window,0,100 -10000 -20000")" "0 $(in_header "$name") ${place/,/ } $visits"
+        same "$(harness <<<"how_many 0,0,30000,0,0,40000 1000000 $window,0,100 -10000 -20000")" \
+        "0 $(in_header "$name") ${place/,/ } $visits"
 done <<'END'
 LAY_NO_PLACE 30001,40000,0 0,0 1
 LAY_ONE_PLACE 30000,40000,0 30000,40000 1
@@ -72,7 +92,7 @@ exported() { symbols | awk '$2 == "T" { print $3 }' | sort; }
 pass_if 'the header declares what the library has' [ "$(declared | sed 's/(.*//' | sort)" = "$(exported)" ]
 while read -r function; do
     commas=${function//[^,]/}
-    pass_if "${function%%(*} has fewer than ten arguments" [ ${#commas} -lt 9 ]
+    pass_if "${function%%(*} has fewer than twelve arguments" [ ${#commas} -lt 11 ]
 done < <(declared)
 
 # No variable that outlives a call, and nothing called but what fills and copies memory: no file, no heap and no lock.
