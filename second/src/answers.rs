@@ -6,7 +6,7 @@ use std::str::FromStr;
 
 use crate::chart::{self, Chain, Place, Readings};
 use crate::how_many::{self, Count};
-use crate::listing::{self, Held};
+use crate::listing::{self, Files, Held};
 use crate::numbers::{self, Mark};
 use crate::records::{self, Draft, Entry};
 use crate::refusals;
@@ -14,7 +14,7 @@ use crate::search::{self, Found, Job};
 use crate::words::{hex, unhex};
 
 /// The version of the library's header.
-const VERSION: u32 = 2;
+const VERSION: u32 = 3;
 
 /// The bytes that the library's buffer must have for each record of a listing, and for one more.
 pub const LINE_BYTES: usize = 5760;
@@ -59,15 +59,15 @@ impl<'a> Request<'a> {
         unhex(self.word()?)
     }
 
-    /// The bytes of a chain, which may be given as its numbers with commas between.
-    fn chain(&mut self) -> Result<Vec<u8>, String> {
-        let word = self.word()?;
+    /// The bytes of a chain, which may be given as its numbers with commas between, and its factor.
+    fn chain(&mut self) -> Result<(Vec<u8>, u32), String> {
+        let (word, factor) = (self.word()?, self.number()?);
         if !word.contains(',') {
-            return unhex(word);
+            return Ok((unhex(word)?, factor));
         }
         let numbers = word.split(',').map(number).collect::<Result<Vec<u32>, _>>()?;
         let numbers = numbers.try_into().map_err(|_| format!("no chain: {word}"))?;
-        Ok(records::chain_bytes(&chart::chain(numbers)).to_vec())
+        Ok((records::chain_bytes(&chart::chain(numbers, factor)).to_vec(), factor))
     }
 
     /// The bytes of a job, which may be given as its numbers with commas between; k must fit into one byte.
@@ -149,6 +149,7 @@ pub fn answer(line: &str) -> Result<String, String> {
         "chain" => chain(request),
         "read_chain" => read_chain(request),
         "write_chain" => write_chain(request),
+        "write_factor" => write_factor(request),
         "list" => list(request),
         _ => Err(format!("unknown verb: {verb}")),
     }
@@ -184,48 +185,46 @@ fn metres(mut request: Request) -> Result<String, String> {
 
 fn expected(mut request: Request) -> Result<String, String> {
     let mut list: Vec<i64> = request.lent()?;
-    let (chain, place) = (request.chain()?, request.place()?);
+    let ((chain, factor), place) = (request.chain()?, request.place()?);
     request.end()?;
-    let readings = expected_readings(list.len(), &chain, place);
+    let readings = expected_readings(list.len(), &chain, factor, place);
     let refusal = fill(&mut list, readings);
     Ok(with_entries(refusal, &list))
 }
 
 /// The readings for a list of `entries` entries. Refusals: 1 for that number and for the length of the chain, then 4, 5.
-fn expected_readings(entries: usize, chain: &[u8], place: Place) -> Result<[i64; CHAIN_READINGS], u32> {
+fn expected_readings(entries: usize, chain: &[u8], factor: u32, place: Place) -> Result<[i64; CHAIN_READINGS], u32> {
     records::fits(entries, CHAIN_READINGS)?;
-    let Readings { a, b } = chart::expected(&records::raw_chain(chain)?, place)?;
+    let Readings { a, b } = chart::expected(&records::raw_chain(chain, factor)?, place)?;
     Ok([a, b])
 }
 
 fn search(mut request: Request) -> Result<String, String> {
     let mut list: Vec<u32> = request.lent()?;
-    let (chain, job) = (request.chain()?, request.job()?);
-    let readings: Vec<i64> = request.numbers()?;
-    let found = search_by_bytes(&chain, &readings, &job, list.len() / 2).unwrap_or_else(Found::unvisited);
+    let found = match searched(request)? {
+        Ok((chain, wanted, job)) => search::search(&chain, wanted, &job, list.len() / 2),
+        Err(refusal) => Found::unvisited(refusal),
+    };
     let mut places = found.places.iter().flat_map(|place| [place.easting, place.northing]);
     list.fill_with(|| places.next().unwrap_or(0));
     let head = format!("{} {} {}", found.refusal, found.places.len(), found.visits);
     Ok(with_entries(head, &list))
 }
 
-/// A search by bytes. Refusals: those of the bytes, then those of a search.
-fn search_by_bytes(chain: &[u8], readings: &[i64], job: &[u8], room: usize) -> Result<Found, u32> {
-    let (chain, wanted, job) = searched(chain, readings, job)?;
-    Ok(search::search(&chain, wanted, &job, room))
-}
-
-/// What is searched for, from bytes. Refusals: 1 for all three lengths, then 2 for the job's bytes.
-fn searched(chain: &[u8], readings: &[i64], job: &[u8]) -> Result<(Chain, Readings, Job), u32> {
-    let chain = records::raw_chain(chain)?;
-    let [a, b] = <[i64; 2]>::try_from(readings).map_err(|_| refusals::LENGTH)?;
-    Ok((chain, Readings { a, b }, records::raw_job(job)?))
-}
-
-fn how_many(mut request: Request) -> Result<String, String> {
-    let (chain, job) = (request.chain()?, request.job()?);
+/// What is searched for, from bytes: all the words that are left. Refusals: 1 for all three lengths, then 2 for the job's bytes.
+fn searched(mut request: Request) -> Result<Result<(Chain, Readings, Job), u32>, String> {
+    let ((chain, factor), job) = (request.chain()?, request.job()?);
     let readings: Vec<i64> = request.numbers()?;
-    let answer = match searched(&chain, &readings, &job) {
+    let read = || {
+        let chain = records::raw_chain(&chain, factor)?;
+        let [a, b] = readings.try_into().map_err(|_| refusals::LENGTH)?;
+        Ok((chain, Readings { a, b }, records::raw_job(&job)?))
+    };
+    Ok(read())
+}
+
+fn how_many(request: Request) -> Result<String, String> {
+    let answer = match searched(request)? {
         Ok((chain, wanted, job)) => how_many::how_many(&chain, wanted, &job),
         Err(refusal) => Err((refusal, 0)),
     };
@@ -299,40 +298,45 @@ fn count_chains(mut request: Request) -> Result<String, String> {
 fn chain(mut request: Request) -> Result<String, String> {
     let buffer = request.lent()?;
     let number = request.number()?;
-    let table = request.bytes()?;
+    let (table, scale) = (request.bytes()?, request.bytes()?);
     request.end()?;
-    let record = chain_record(buffer.len(), &table, number);
-    Ok(written(buffer, record))
-}
-
-/// The bytes of a table's chain by its number. Refusals: 1 for the table's length, 5, then 1 for the buffer's length.
-fn chain_record(length: usize, table: &[u8], number: u32) -> Result<[u8; records::CHAIN_RECORD], u32> {
-    let chain = records::chain(table, number)?;
-    records::fits(length, records::CHAIN_RECORD)?;
-    Ok(records::chain_bytes(&chain))
+    // The buffer is tested after the chain.
+    let chain = records::chain(&table, &scale, number)
+        .and_then(|chain| records::fits(buffer.len(), records::CHAIN_RECORD).map(|()| chain));
+    let factor = chain.map_or(0, |chain| chain.factor);
+    Ok(format!("{} {factor}", written(buffer, chain.map(|chain| records::chain_bytes(&chain)))))
 }
 
 fn read_chain(mut request: Request) -> Result<String, String> {
     let mut list: Vec<u32> = request.lent()?;
-    let chain = request.chain()?;
+    let (chain, factor) = request.chain()?;
     request.end()?;
-    let stations = stations(list.len(), &chain);
+    let stations = stations(list.len(), &chain, factor);
     let refusal = fill(&mut list, stations);
     Ok(with_entries(refusal, &list))
 }
 
 /// A chain's numbers for a list of `entries` entries. Refusals: 1 for that number and for the length of the chain, then 5.
-fn stations(entries: usize, chain: &[u8]) -> Result<[u32; CHAIN_NUMBERS], u32> {
+fn stations(entries: usize, chain: &[u8], factor: u32) -> Result<[u32; CHAIN_NUMBERS], u32> {
     records::fits(entries, CHAIN_NUMBERS)?;
-    let chain = records::raw_chain(chain)?;
+    let chain = records::raw_chain(chain, factor)?;
     chart::admit_chain(&chain)?;
     Ok(chart::chain_numbers(&chain))
 }
 
 fn write_chain(mut request: Request) -> Result<String, String> {
     let buffer = request.lent()?;
+    let factor = request.number()?;
     let stations: Vec<u32> = request.numbers()?;
-    let record = records::write_chain(buffer.len(), &stations);
+    let record = records::write_chain(buffer.len(), &stations, factor);
+    Ok(written(buffer, record))
+}
+
+fn write_factor(mut request: Request) -> Result<String, String> {
+    let buffer = request.lent()?;
+    let factor = request.number()?;
+    request.end()?;
+    let record = records::write_factor(buffer.len(), factor);
     Ok(written(buffer, record))
 }
 
@@ -340,13 +344,14 @@ fn list(mut request: Request) -> Result<String, String> {
     let length: usize = request.number()?;
     let dirt: u8 = request.number()?;
     let held = request.held()?;
-    let (job, table, log) = (request.bytes()?, request.bytes()?, request.bytes()?);
+    let [job, table, scale, log] = &[request.bytes()?, request.bytes()?, request.bytes()?, request.bytes()?];
     request.end()?;
     if length / LINE_BYTES <= log.len() / records::RECORD {
         return Ok(format!("{} 0 0 0 0 0 - kept", refusals::ROOM));
     }
     let mut text = Vec::new();
-    let held = listing::list(&job, &table, &log, held, &mut text).map_err(|error| error.to_string())?;
+    let files = Files { job, table, scale, log };
+    let held = listing::list(&files, held, &mut text).map_err(|error| error.to_string())?;
     let mut lent = vec![dirt; length];
     lent[..text.len()].copy_from_slice(&text);
     let rest = if lent[text.len()..].iter().all(|&byte| byte == dirt) { "kept" } else { "touched" };
@@ -365,9 +370,11 @@ fn held_words(held: Option<Held>) -> String {
 mod tests {
     use super::answer;
 
-    const CHAIN_1: &str = "0,0,30000,0,0,40000";
+    /// Chains with their factors.
+    const CHAIN_1: &str = "0,0,30000,0,0,40000 1000000";
+    const UNSOUND: &str = "0,0,30000,0,0,0 1000000";
+    const BAD_FACTOR: &str = "0,0,30000,0,0,40000 998999";
     const CHAIN_1_BYTES: &str = "0000000000000000307500000000000000000000409c0000";
-    const UNSOUND: &str = "0,0,30000,0,0,0";
     const JOB: &str = "30750000409c0000010000000000000064000000000000000000000000000000";
 
     fn ok(line: &str) -> String {
@@ -376,7 +383,7 @@ mod tests {
 
     #[test]
     fn the_version() {
-        assert_eq!(ok("version"), "2");
+        assert_eq!(ok("version"), "3");
     }
 
     #[test]
@@ -393,12 +400,15 @@ mod tests {
     #[test]
     fn expected_readings() {
         assert_eq!(ok(&format!("expected 2 -9 {CHAIN_1} 30000 40000")), "0 -10000 -20000");
-        assert_eq!(ok(&format!("expected 2 -9 {CHAIN_1_BYTES} 30000 40000")), "0 -10000 -20000");
-        assert_eq!(ok(&format!("expected 3 -9 {UNSOUND} 100000001 0")), "1 0 0 0");
+        assert_eq!(ok(&format!("expected 2 -9 {CHAIN_1_BYTES} 1000000 30000 40000")), "0 -10000 -20000");
+        assert_eq!(ok(&format!("expected 2 -9 {CHAIN_1_BYTES} 999000 30000 40000")), "0 -10010 -20020");
         assert_eq!(ok(&format!("expected 0 -9 {CHAIN_1} 0 0")), "1");
-        assert_eq!(ok(&format!("expected 2 -9 {CHAIN_1_BYTES}00 100000001 0")), "1 0 0");
-        assert_eq!(ok(&format!("expected 2 -9 {UNSOUND} 100000001 0")), "4 0 0");
-        assert_eq!(ok(&format!("expected 2 -9 {UNSOUND} 0 0")), "5 0 0");
+        for unsound in [UNSOUND, BAD_FACTOR] {
+            assert_eq!(ok(&format!("expected 3 -9 {unsound} 100000001 0")), "1 0 0 0");
+            assert_eq!(ok(&format!("expected 2 -9 {unsound} 100000001 0")), "4 0 0");
+            assert_eq!(ok(&format!("expected 2 -9 {unsound} 0 0")), "5 0 0");
+        }
+        assert_eq!(ok(&format!("expected 2 -9 {CHAIN_1_BYTES}00 0 100000001 0")), "1 0 0");
     }
 
     #[test]
@@ -409,33 +419,41 @@ mod tests {
         assert_eq!(ask(3, 5), "9 0 5 0 0 0");
         assert_eq!(ask(3, 4), "10 0 4 0 0 0");
         assert_eq!(ask(0, 0), "10 0 0");
-        let by_bytes = ok(&format!("search 5 7 {CHAIN_1_BYTES} {JOB} -10000 -20000"));
+        let by_bytes = ok(&format!("search 5 7 {CHAIN_1_BYTES} 1000000 {JOB} -10000 -20000"));
         assert_eq!(by_bytes, "0 2 5 30000 40000 30001 40001 0");
     }
 
     #[test]
-    fn a_search_by_bytes_refuses_in_order() {
-        let ask = |rest: &str| ok(&format!("search 3 7 {rest}"));
+    fn searches_and_how_many_refuse_in_order() {
+        let refusal = |verb: &str, rest: &str| -> u32 {
+            let answer = ok(&format!("{verb} {rest}"));
+            let (refusal, others) = answer.split_once(' ').unwrap();
+            assert!(others.split(' ').all(|number| number == "0"), "{rest}: {answer}");
+            refusal.parse().unwrap()
+        };
         let (job, beyond) = ("01".repeat(32), "1000000001 0");
-        for rest in [
-            format!("{}00 {job} {beyond}", CHAIN_1_BYTES),
-            format!("{} {job} {beyond}", &CHAIN_1_BYTES[2..]),
-            format!("{CHAIN_1_BYTES}{CHAIN_1_BYTES} {job} {beyond}"),
-            format!("- {job} {beyond}"),
-            format!("{UNSOUND} {job}"),
-            format!("{UNSOUND} {job} 1000000001"),
-            format!("{UNSOUND} {job} {beyond} 0"),
-            format!("{UNSOUND} {job}00 {beyond}"),
-            format!("{UNSOUND} {} {beyond}", &job[2..]),
-            format!("{UNSOUND} - {beyond}"),
-        ] {
-            assert_eq!(ask(&rest), "1 0 0 0 0 0", "{rest}");
+        for verb in ["search 3 7", "how_many"] {
+            for chain in [format!("{CHAIN_1_BYTES}00"), CHAIN_1_BYTES[2..].into(), CHAIN_1_BYTES.repeat(2), "-".into()] {
+                assert_eq!(refusal(verb, &format!("{chain} 0 {job} {beyond}")), 1, "{chain}");
+            }
+            for unsound in [UNSOUND, BAD_FACTOR] {
+                for rest in [
+                    format!("{job}"),
+                    format!("{job} 1000000001"),
+                    format!("{job} {beyond} 0"),
+                    format!("{job}00 {beyond}"),
+                    format!("{} {beyond}", &job[2..]),
+                    format!("- {beyond}"),
+                ] {
+                    assert_eq!(refusal(verb, &format!("{unsound} {rest}")), 1, "{rest}");
+                }
+                assert_eq!(refusal(verb, &format!("{unsound} {job} {beyond}")), 2);
+                assert_eq!(refusal(verb, &format!("{unsound} 0,0,25,100001,9 {beyond}")), 3);
+                assert_eq!(refusal(verb, &format!("{unsound} 0,0,25,100001,9 0 0")), 5);
+            }
+            assert_eq!(refusal(verb, &format!("{CHAIN_1} 0,0,25,100001,9 0 0")), 6);
+            assert_eq!(refusal(verb, &format!("{CHAIN_1} 0,0,24,100001,9 0 0")), 7);
         }
-        assert_eq!(ask(&format!("{UNSOUND} {job} {beyond}")), "2 0 0 0 0 0");
-        assert_eq!(ask(&format!("{UNSOUND} 0,0,25,100001,0 {beyond}")), "3 0 0 0 0 0");
-        assert_eq!(ask(&format!("{UNSOUND} 0,0,25,100001,0 0 0")), "5 0 0 0 0 0");
-        assert_eq!(ask(&format!("{CHAIN_1} 0,0,25,100001,0 0 0")), "6 0 0 0 0 0");
-        assert_eq!(ask(&format!("{CHAIN_1} 0,0,24,100001,0 0 0")), "7 0 0 0 0 0");
     }
 
     #[test]
@@ -458,29 +476,7 @@ mod tests {
         assert_eq!(ask("30001,40000,0,0,100"), "0 1 0 0 1");
         assert_eq!(ask("30000,40000,0,0,100"), "0 2 30000 40000 1");
         assert_eq!(ask("30000,40000,0,0,0"), "10 0 0 0 0");
-        assert_eq!(ok(&format!("how_many {CHAIN_1_BYTES} {JOB} -10000 -20000")), "0 3 0 0 5");
-    }
-
-    #[test]
-    fn how_many_refuses_in_order() {
-        let ask = |rest: &str| ok(&format!("how_many {rest}"));
-        let (job, beyond) = ("01".repeat(32), "1000000001 0");
-        for rest in [
-            format!("{CHAIN_1_BYTES}00 {job} {beyond}"),
-            format!("- {job} {beyond}"),
-            format!("{UNSOUND} {job}"),
-            format!("{UNSOUND} {job} 1000000001"),
-            format!("{UNSOUND} {job} {beyond} 0"),
-            format!("{UNSOUND} {job}00 {beyond}"),
-            format!("{UNSOUND} - {beyond}"),
-        ] {
-            assert_eq!(ask(&rest), "1 0 0 0 0", "{rest}");
-        }
-        assert_eq!(ask(&format!("{UNSOUND} {job} {beyond}")), "2 0 0 0 0");
-        assert_eq!(ask(&format!("{UNSOUND} 0,0,25,100001,9 {beyond}")), "3 0 0 0 0");
-        assert_eq!(ask(&format!("{UNSOUND} 0,0,25,100001,9 0 0")), "5 0 0 0 0");
-        assert_eq!(ask(&format!("{CHAIN_1} 0,0,25,100001,9 0 0")), "6 0 0 0 0");
-        assert_eq!(ask(&format!("{CHAIN_1} 0,0,24,100001,9 0 0")), "7 0 0 0 0");
+        assert_eq!(ok(&format!("how_many {CHAIN_1_BYTES} 1000000 {JOB} -10000 -20000")), "0 3 0 0 5");
     }
 
     #[test]
@@ -509,32 +505,51 @@ mod tests {
 
     #[test]
     fn chains_taken_out_read_and_written() {
-        let table = format!("{}{CHAIN_1_BYTES}", "00".repeat(24));
-        assert_eq!(ok(&format!("count_chains {table}")), "0 2");
-        assert_eq!(ok(&format!("chain 24 9 2 {table}")), format!("0 {CHAIN_1_BYTES}"));
-        assert_eq!(ok(&format!("chain 2 9 2 {table}")), "1 0000");
-        assert_eq!(ok(&format!("chain 2 9 1 {table}")), "5 0000");
-        assert_eq!(ok(&format!("chain 2 9 3 {table}")), "5 0000");
-        assert_eq!(ok(&format!("chain 24 9 3 {table}00")), format!("1 {}", "00".repeat(24)));
-        assert_eq!(ok(&format!("read_chain 6 9 {CHAIN_1_BYTES}")), "0 0 0 30000 0 0 40000");
-        assert_eq!(ok(&format!("read_chain 7 9 {UNSOUND}")), "1 0 0 0 0 0 0 0");
-        assert_eq!(ok("read_chain 6 9 00"), "1 0 0 0 0 0 0");
-        assert_eq!(ok(&format!("read_chain 6 9 {UNSOUND}")), "5 0 0 0 0 0 0");
-        assert_eq!(ok("write_chain 24 9 0 0 30000 0 0 40000"), format!("0 {CHAIN_1_BYTES}"));
-        assert_eq!(ok("write_chain 3 9 0 0 30000 0 0 0"), "1 000000");
-        assert_eq!(ok("write_chain 24 9"), format!("1 {}", "00".repeat(24)));
-        assert_eq!(ok("write_chain 24 9 0 0 30000 0 0 0"), format!("5 {}", "00".repeat(24)));
+        let table = format!("{}{CHAIN_1_BYTES}{CHAIN_1_BYTES}", "00".repeat(24));
+        let scale = "40420f00d9400f0029460f00";
+        let zeros = "00".repeat(24);
+        assert_eq!(ok(&format!("count_chains {table}")), "0 3");
+        assert_eq!(ok(&format!("chain 24 9 2 {table} {scale}")), format!("0 {CHAIN_1_BYTES} 999641"));
+        assert_eq!(ok(&format!("chain 2 9 2 {table} {scale}")), "1 0000 0");
+        for number in [0, 1, 3, 4] {
+            assert_eq!(ok(&format!("chain 2 9 {number} {table} {scale}")), "5 0000 0", "{number}");
+        }
+        assert_eq!(ok(&format!("chain 24 9 4 {table}00 {scale}")), format!("1 {zeros} 0"));
+        for wrong in ["-", "40420f00", "40420f00d9400f0029460f", "40420f00d9400f0029460f0000"] {
+            assert_eq!(ok(&format!("chain 24 9 4 {table} {wrong}")), format!("1 {zeros} 0"), "{wrong}");
+        }
+        assert_eq!(ok(&format!("read_chain 6 9 {CHAIN_1_BYTES} 1001000")), "0 0 0 30000 0 0 40000");
+        assert_eq!(ok("read_chain 6 9 00 0"), "1 0 0 0 0 0 0");
+        for unsound in [UNSOUND, BAD_FACTOR] {
+            assert_eq!(ok(&format!("read_chain 7 9 {unsound}")), "1 0 0 0 0 0 0 0");
+            assert_eq!(ok(&format!("read_chain 6 9 {unsound}")), "5 0 0 0 0 0 0");
+        }
+        assert_eq!(ok("write_chain 24 9 999000 0 0 30000 0 0 40000"), format!("0 {CHAIN_1_BYTES}"));
+        assert_eq!(ok("write_chain 3 9 998999 0 0 30000 0 0 0"), "1 000000");
+        assert_eq!(ok("write_chain 24 9 998999"), format!("1 {zeros}"));
+        assert_eq!(ok("write_chain 24 9 999000 0 0 30000 0 0 0"), format!("5 {zeros}"));
+        assert_eq!(ok("write_chain 24 9 998999 0 0 30000 0 0 40000"), format!("5 {zeros}"));
+    }
+
+    #[test]
+    fn factors_written() {
+        assert_eq!(ok("write_factor 4 9 999641"), "0 d9400f00");
+        assert_eq!(ok("write_factor 4 9 1001001"), "5 00000000");
+        assert_eq!(ok("write_factor 5 9 1001001"), "1 0000000000");
+        assert_eq!(ok("write_factor 0 9 999641"), "1 -");
     }
 
     #[test]
     fn a_listing_needs_room_for_one_record_more() {
-        assert_eq!(ok("list 5759 9 1 2 3 1 - - -"), "9 0 0 0 0 0 - kept");
-        assert_eq!(ok("list 5760 9 1 2 3 1 - - -"), "0 14 0 0 0 0 4a4f42205245465553454420310a kept");
+        assert_eq!(ok("list 5759 9 1 2 3 1 - - - -"), "9 0 0 0 0 0 - kept");
+        assert_eq!(ok("list 5760 9 1 2 3 1 - - - -"), "0 14 0 0 0 0 4a4f42205245465553454420310a kept");
+        let refused = ok(&format!("list 5760 9 1 2 3 1 {JOB} {CHAIN_1_BYTES} 40420f -"));
+        assert_eq!(refused, "0 16 0 0 0 0 5343414c45205245465553454420310a kept");
     }
 
     #[test]
     fn an_empty_log_passes_on_what_is_held() {
-        let passed_on = |held: &str| ok(&format!("list 5760 9 {held} {} {} -", "0".repeat(64), "0".repeat(48)));
+        let passed_on = |held: &str| ok(&format!("list 5760 9 {held} {JOB} {CHAIN_1_BYTES} 00000000 -"));
         assert_eq!(passed_on("1 2 3 0"), "0 0 1 2 3 0 - kept");
         assert_eq!(passed_on("5 2 3 0"), "0 0 1 2 3 0 - kept");
         assert_eq!(passed_on("5 2 3 9"), "0 0 1 2 3 1 - kept");
@@ -552,8 +567,16 @@ mod tests {
             "centimetres 00",
             "record -",
             "read_job 0,0,0,0,0",
-            "expected 2 0 0,0,1,0,0 0 0",
-            "read_chain 6 0 0,0,1,0,0,1,1",
+            "expected 2 0 0,0,1,0,0 1000000 0 0",
+            "expected 2 0 0,0,1,0,0,1 0 0",
+            "read_chain 6 0 0,0,1,0,0,1,1 1000000",
+            "read_chain 6 0 0,0,1,0,0,1",
+            "read_chain 6 0 0,0,1,0,0,1 4294967296",
+            "chain 24 0 1 -",
+            "write_chain 24 0",
+            "write_factor 4 0",
+            "write_factor 4 0 1 1",
+            "list 5760 0 0 0 0 0 - - -",
         ] {
             assert!(answer(line).is_err(), "{line}");
         }

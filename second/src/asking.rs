@@ -6,7 +6,7 @@ use crate::chart::{self, Chain, Place, Readings, MOST_EASTING, MOST_NORTHING};
 use crate::numbers::MOST_CENTIMETRES;
 use crate::pieces;
 use crate::random::Random;
-use crate::records::{self, CHAIN_RECORD, RECORD};
+use crate::records::{self, CHAIN_RECORD, FACTOR_RECORD, RECORD};
 use crate::search::{self, Job, MOST_EXPONENT, MOST_TOLERANCE};
 use crate::words::hex;
 
@@ -15,7 +15,7 @@ pub const FEW_VISITS: u64 = 2000;
 pub const MANY_VISITS: u64 = 50_000;
 
 /// The requests of one turn: each verb has its places in it.
-const TURN: u64 = 24;
+const TURN: u64 = 25;
 
 /// One request in this many asks for the version, which never changes. It is the first of a turn.
 const VERSION_EVERY: u64 = 50 * TURN;
@@ -38,14 +38,15 @@ pub fn request(seed: u64, index: u64) -> String {
         10 => record_writing(random),
         11 => format!("read_job {}", hex(&job(random))),
         12 => job_writing(random),
-        13 => format!("count_chains {}", hex(&table(random))),
+        13 => format!("count_chains {}", hex(&table_of(random).1)),
         14 | 15 => chain_asked(random),
         16 => chain_reading(random),
         17 => chain_writing(random),
-        18 | 19 => listing(random),
-        20 => asking_how_many::asked(random),
-        21 => asking_how_many::faulty(random, turn),
-        22 => asking_how_many::paired(random, turn).0,
+        18 => factor_writing(random, turn),
+        19 | 20 => listing(random),
+        21 => asking_how_many::asked(random),
+        22 => asking_how_many::faulty(random, turn),
+        23 => asking_how_many::paired(random, turn).0,
         _ => asking_how_many::paired(&mut Random::for_item(seed, index - 1), turn).1,
     }
 }
@@ -79,8 +80,9 @@ pub fn chain(random: &mut Random, place: Place) -> Chain {
         return pieces::unsound_chain(random);
     }
     if random.once_in(12) {
+        let factor = pieces::factor(random);
         let mut station = || pieces::edge_place(random);
-        return Chain { master: station(), a: station(), b: station() };
+        return Chain { master: station(), a: station(), b: station(), factor };
     }
     if random.once_in(4) {
         return pieces::square_chain(random, place);
@@ -97,22 +99,27 @@ fn joined(numbers: &[u32], between: &str) -> String {
     numbers.iter().map(u32::to_string).collect::<Vec<_>>().join(between)
 }
 
-/// The word for a chain: its numbers or its bytes.
-pub fn chain_word(random: &mut Random, chain: &Chain) -> String {
+/// The words for a chain: its numbers or its bytes, and its factor.
+pub fn chain_words(random: &mut Random, chain: &Chain) -> String {
     if random.once_in(2) {
-        return joined(&chart::chain_numbers(chain), ",");
+        return format!("{} {}", joined(&chart::chain_numbers(chain), ","), chain.factor);
     }
-    hex(&records::chain_bytes(chain))
+    byte_words(&records::chain_bytes(chain), chain)
 }
 
-/// The word for a chain: its numbers or its bytes; once in eight, bytes that are mostly too few or too many.
-fn doubtful_chain_word(random: &mut Random, chain: &Chain) -> String {
+/// These bytes in place of a chain's own, and its factor.
+pub fn byte_words(bytes: &[u8], chain: &Chain) -> String {
+    format!("{} {}", hex(bytes), chain.factor)
+}
+
+/// The words for a chain: its numbers or its bytes, and its factor; once in eight, bytes that are mostly too few or too many.
+fn doubtful_chain_words(random: &mut Random, chain: &Chain) -> String {
     if !random.once_in(8) {
-        return chain_word(random, chain);
+        return chain_words(random, chain);
     }
     let mut bytes = records::chain_bytes(chain).to_vec();
     misfit(random, &mut bytes);
-    hex(&bytes)
+    byte_words(&bytes, chain)
 }
 
 /// The word for a job: its numbers or its bytes.
@@ -165,7 +172,7 @@ fn expected(random: &mut Random) -> String {
     let place = if random.once_in(9) { random.pick(&[chain.master, chain.a, chain.b]) } else { place };
     let dirt = random.pick(&[0, 1, -1, i64::MAX, i64::MIN]);
     let entries = length(random, CHAIN_READINGS);
-    format!("expected {entries} {dirt} {} {}", doubtful_chain_word(random, &chain), place_words(place))
+    format!("expected {entries} {dirt} {} {}", doubtful_chain_words(random, &chain), place_words(place))
 }
 
 /// What a search is asked for, before its allowance is chosen.
@@ -244,7 +251,7 @@ fn searching(random: &mut Random) -> String {
     let asked = Asked { chain, wanted, job, room: entries / 2 };
     let dirt = list_dirt(random);
     let job = Job { allowance: allowance(random, &asked), ..job };
-    let (chain, job) = (chain_word(random, &chain), job_word(random, &job));
+    let (chain, job) = (chain_words(random, &chain), job_word(random, &job));
     format!("search {entries} {dirt} {chain} {job} {} {}", wanted.a, wanted.b)
 }
 
@@ -253,7 +260,7 @@ fn faulty_searching(random: &mut Random) -> String {
     let place = pieces::anywhere(random);
     let chain = if random.once_in(3) { pieces::unsound_chain(random) } else { pieces::sound_chain(random, place, 5000) };
     let (entries, dirt, readings) = (random.below(12), list_dirt(random), faulty_readings(random, &chain, place));
-    let (chain, job) = (doubtful_chain_word(random, &chain), faulty_job(random, place));
+    let (chain, job) = (doubtful_chain_words(random, &chain), faulty_job(random, place));
     format!("search {entries} {dirt} {chain} {job}{readings}")
 }
 
@@ -410,24 +417,37 @@ fn job(random: &mut Random) -> Vec<u8> {
     bytes
 }
 
-fn table(random: &mut Random) -> Vec<u8> {
+/// Chains, and their table, which is mostly as it should be.
+fn table_of(random: &mut Random) -> (Vec<Chain>, Vec<u8>) {
     let count = random.pick(&[0, 1, 1, 2, 3, 15, 16, 16, 17, 33]);
     let middle = pieces::anywhere(random);
     let chains: Vec<Chain> = (0..count).map(|_| chain(random, middle)).collect();
     let mut bytes = pieces::table(&chains);
     spoil(random, &mut bytes);
+    (chains, bytes)
+}
+
+/// The side file of chains, which is mostly as it should be.
+fn scale_of(random: &mut Random, chains: &[Chain]) -> Vec<u8> {
+    let mut bytes = pieces::scale(chains);
+    match random.below(12) {
+        0 => pieces::misfit_scale(random, &mut bytes),
+        1 => pieces::damage(random, &mut bytes),
+        _ => {}
+    }
     bytes
 }
 
 fn chain_asked(random: &mut Random) -> String {
-    let bytes = table(random);
-    let count = (bytes.len() / CHAIN_RECORD) as u64;
+    let (chains, table) = table_of(random);
+    let scale = scale_of(random, &chains);
+    let count = chains.len() as u64;
     let number = match random.below(4) {
         0 => random.pick(&[0, 1, 16, 17, 255, 256, 257, u32::MAX.into(), count + 1]),
         _ => random.between(1, count.max(1) as i64) as u64,
     };
     let (length, dirt) = (length(random, CHAIN_RECORD), byte_dirt(random));
-    format!("chain {length} {dirt} {number} {}", hex(&bytes))
+    format!("chain {length} {dirt} {number} {} {}", hex(&table), hex(&scale))
 }
 
 /// A chain that is unsound once in three at least.
@@ -442,24 +462,33 @@ fn doubtful_chain(random: &mut Random) -> Chain {
 fn chain_reading(random: &mut Random) -> String {
     let chain = doubtful_chain(random);
     let (entries, dirt) = (length(random, CHAIN_NUMBERS), list_dirt(random));
-    format!("read_chain {entries} {dirt} {}", doubtful_chain_word(random, &chain))
+    format!("read_chain {entries} {dirt} {}", doubtful_chain_words(random, &chain))
 }
 
 fn chain_writing(random: &mut Random) -> String {
-    let mut numbers = chart::chain_numbers(&doubtful_chain(random)).to_vec();
+    let chain = doubtful_chain(random);
+    let mut numbers = chart::chain_numbers(&chain).to_vec();
     if random.once_in(6) {
         let count = misfit_length(random, CHAIN_NUMBERS);
         numbers.resize(count, list_dirt(random));
     }
     let (length, dirt) = (length(random, CHAIN_RECORD), byte_dirt(random));
-    format!("write_chain {length} {dirt} {}", joined(&numbers, " ")).trim_end().into()
+    format!("write_chain {length} {dirt} {} {}", chain.factor, joined(&numbers, " ")).trim_end().into()
+}
+
+/// Every other buffer has the length that fits; the others have each length about it in turn.
+fn factor_writing(random: &mut Random, turn: u64) -> String {
+    let factor = if random.once_in(2) { pieces::factor(random) } else { pieces::bad_factor(random) };
+    let length = if turn % 2 == 0 { FACTOR_RECORD as u64 } else { turn / 2 % 7 };
+    format!("write_factor {length} {} {factor}", byte_dirt(random))
 }
 
 fn listing(random: &mut Random) -> String {
     let place = pieces::anywhere(random);
     let reach = 1 << random.between(3, 30);
     let chain = pieces::sound_chain(random, place, reach);
-    let mut table = pieces::table(&[chain, pieces::unsound_chain(random)]);
+    let chains = [chain, pieces::unsound_chain(random)];
+    let (mut table, scale) = (pieces::table(&chains), scale_of(random, &chains));
     if random.once_in(16) {
         spoil(random, &mut table);
     }
@@ -478,7 +507,7 @@ fn listing(random: &mut Random) -> String {
         _ => enough,
     };
     let dirt = random.pick(&[0, 10, 0x55, 0xff]);
-    let files = [&job, &table, &log].map(|file| hex(file)).join(" ");
+    let files = [&job, &table, &scale, &log].map(|file| hex(file)).join(" ");
     format!("list {length} {dirt} {} {files}", held_words(random, place))
 }
 

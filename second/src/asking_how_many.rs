@@ -48,7 +48,7 @@ fn any_question(random: &mut Random) -> Question {
 pub fn asked(random: &mut Random) -> String {
     let question = any_question(random);
     let job = Job { allowance: allowance(random, &question), ..question.job };
-    let (chain, job) = (asking::chain_word(random, &question.chain), asking::job_word(random, &job));
+    let (chain, job) = (asking::chain_words(random, &question.chain), asking::job_word(random, &job));
     format!("how_many {chain} {job} {} {}", question.wanted.a, question.wanted.b)
 }
 
@@ -145,7 +145,7 @@ pub fn paired(random: &mut Random, turn: u64) -> (String, String) {
     let (question, figures) = affordable(random, KINDS[(turn % kinds) as usize]);
     let needed = figures.needed().map_or(figures.visits, |(_, needed)| needed);
     let Pair { allowances, searches } = pair(turn / kinds, needed, figures.visits);
-    let chain = asking::chain_word(random, &question.chain);
+    let chain = asking::chain_words(random, &question.chain);
     let by_numbers = random.once_in(2);
     let [first, second] = allowances.map(|allowance| {
         let job = Job { allowance, ..question.job };
@@ -186,14 +186,17 @@ pub fn faulty(random: &mut Random, turn: u64) -> String {
     let chain = if unsound { pieces::unsound_chain(random) } else { sound };
     let wanted = faulty_reading(random, chart::readings(&sound, place), reading);
     let job = faulty_job(random, place, window, tolerance);
-    let chain =
-        if chain_length { misfit_word(random, &records::chain_bytes(&chain)) } else { asking::chain_word(random, &chain) };
+    let chain = if chain_length {
+        asking::byte_words(&misfit(random, &records::chain_bytes(&chain)), &chain)
+    } else {
+        asking::chain_words(random, &chain)
+    };
     let mut bytes = pieces::job(&job);
     if zero {
         bytes[random.pick(&[9, 10, 11, 24, 25, 26, 27, 28, 29, 30, 31])] = random.pick(&[1, 0x80, 0xff]);
     }
     let job = match (job_length, zero) {
-        (true, _) => misfit_word(random, &bytes),
+        (true, _) => hex(&misfit(random, &bytes)),
         (false, true) => hex(&bytes),
         _ => asking::job_word(random, &job),
     };
@@ -225,12 +228,12 @@ fn faulty_job(random: &mut Random, place: Place, window: bool, tolerance: bool) 
 }
 
 /// The bytes of a record with some cut off, or with some more.
-fn misfit_word(random: &mut Random, record: &[u8]) -> String {
+fn misfit(random: &mut Random, record: &[u8]) -> Vec<u8> {
     let fitting = record.len();
     let any = random.below(fitting as u64) as usize;
     let mut bytes = record.to_vec();
     bytes.resize(random.pick(&[fitting - 1, fitting + 1, 2 * fitting, 0, any]), 0);
-    hex(&bytes)
+    bytes
 }
 
 #[cfg(test)]

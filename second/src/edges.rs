@@ -1,7 +1,7 @@
-//! Makes logs at the edges of the rules: refusals, limits, rounding, holds, lengths, missing files, unsound chains and line
-//! numbers.
+//! Makes logs at the edges of the rules: refusals, limits, rounding, holds, lengths, missing files, unsound chains, factors
+//! and line numbers.
 
-use crate::chart::{self, Chain, Place, Readings, MOST_EASTING, MOST_NORTHING};
+use crate::chart::{self, Chain, Place, Readings, MOST_EASTING, MOST_NORTHING, UNIT_FACTOR};
 use crate::folder::Folder;
 use crate::pieces;
 use crate::random::Random;
@@ -13,6 +13,7 @@ const CHAIN: Chain = Chain {
     master: Place { easting: 0, northing: 0 },
     a: Place { easting: 30000, northing: 0 },
     b: Place { easting: 0, northing: 40000 },
+    factor: UNIT_FACTOR,
 };
 const JOB: Job = Job { corner: Place { easting: 30000, northing: 40000 }, k: 1, tolerance: 0, allowance: 100 };
 
@@ -109,9 +110,10 @@ pub fn refusals(random: &mut Random, turn: u64) -> Folder {
 }
 
 fn wrong_length(random: &mut Random, folder: &mut Folder) {
-    let bytes = match random.below(3) {
+    let bytes = match random.below(4) {
         0 => &mut folder.job,
         1 => &mut folder.table,
+        2 => &mut folder.scale,
         _ => &mut folder.log,
     };
     if let Some(bytes) = bytes {
@@ -218,6 +220,23 @@ pub fn tables(random: &mut Random, turn: u64) -> Folder {
     folder
 }
 
+/// Side files that are missing or of a wrong length, in turn with a sound job and table, a refused job, and a refused table.
+pub fn scales(random: &mut Random, turn: u64) -> Folder {
+    let count = random.pick(&[1, 1, 2, 3, 15, 16]);
+    let log = mixed(random, 4);
+    let mut folder = Folder::new(&JOB, &vec![CHAIN; count], &log);
+    match &mut folder.scale {
+        Some(scale) if turn % 4 > 0 => pieces::misfit_scale(random, scale),
+        scale => *scale = None,
+    }
+    match (turn / 4 % 3, &mut folder.table) {
+        (1, _) => folder.set_job_byte(random.pick(&[8, 9, 15, 31]), 0xff),
+        (2, Some(table)) => table.push(0),
+        _ => {}
+    }
+    folder
+}
+
 /// Holds in every position: first, after a refusal, after one place, after two, after a hold.
 pub fn holds(random: &mut Random, _turn: u64) -> Folder {
     let mut log = Vec::new();
@@ -259,11 +278,12 @@ pub fn tails(random: &mut Random, turn: u64) -> Folder {
     folder
 }
 
-/// Each of the three files missing, empty or sound.
+/// Each of the four files missing, empty or sound.
 pub fn absences(random: &mut Random, turn: u64) -> Folder {
     let log = mixed(random, 3);
     let mut folder = Folder::new(&JOB, &[CHAIN], &log);
-    for (file, power) in [(&mut folder.job, 1), (&mut folder.table, 3), (&mut folder.log, 9)] {
+    let files = [&mut folder.job, &mut folder.table, &mut folder.scale, &mut folder.log];
+    for (file, power) in files.into_iter().zip([1, 3, 9, 27]) {
         match turn / power % 3 {
             0 => {}
             1 => *file = None,
@@ -273,21 +293,36 @@ pub fn absences(random: &mut Random, turn: u64) -> Folder {
     folder
 }
 
-/// Sound and unsound chains in one table; some logs name only the sound ones.
-pub fn unsound(random: &mut Random, turn: u64) -> Folder {
+/// Sound and unsound chains in turn, made by `sound` and `unsound`. Every other log names only the sound ones.
+fn in_turn(random: &mut Random, turn: u64, sound: fn(&mut Random) -> Chain, unsound: fn(&mut Random) -> Chain) -> Folder {
     let count = random.between(2, 16) as usize;
     let first = random.below(2) as usize;
     let chains: Vec<Chain> =
-        (0..count).map(|index| if index % 2 == first { CHAIN } else { pieces::unsound_chain(random) }).collect();
+        (0..count).map(|index| if index % 2 == first { sound(random) } else { unsound(random) }).collect();
     let mut log = Vec::new();
     for step in 1..=random.between(1, 20) as u32 {
         let any = random.below(count as u64) as usize;
-        let number = if turn % 2 == 0 || any % 2 == first { any + 1 } else { first + 1 };
-        let wanted = random.pick(&[ONE_PLACE, ONE_PLACE, TWO_PLACES, NO_PLACE]);
-        log.push(pieces::fix(number as u8, step, wanted));
+        let index = if turn % 2 == 0 || any % 2 == first { any } else { first };
+        let near = pieces::about(random, JOB.corner, 1);
+        let wanted = if index % 2 == first { chart::readings(&chains[index], near) } else { TWO_PLACES };
+        log.push(pieces::fix(index as u8 + 1, step, wanted));
         log.push(pieces::hold(step));
     }
     Folder::new(&JOB, &chains, &log)
+}
+
+pub fn unsound(random: &mut Random, turn: u64) -> Folder {
+    in_turn(random, turn, |_| CHAIN, pieces::unsound_chain)
+}
+
+/// 01's stations with factors in range and out of it.
+pub fn factors(random: &mut Random, turn: u64) -> Folder {
+    in_turn(
+        random,
+        turn,
+        |random| Chain { factor: pieces::factor(random), ..CHAIN },
+        |random| Chain { factor: pieces::bad_factor(random), ..CHAIN },
+    )
 }
 
 /// Line numbers at the ends of their range, and repeated.

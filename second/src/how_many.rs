@@ -1,12 +1,12 @@
-//! Whether there is exactly one place (02, A2). Nothing here walks the window, stops or keeps to an allowance: the squares that
+//! Whether there is exactly one place (02, A2 and A3). Nothing here walks the window, stops or keeps to an allowance: the squares that
 //! are visited are found level by level and put in chart order, so that a square's position is the number of its visit. What
 //! the positions of the matching cells mean for an allowance is decided afterwards. Small windows are counted out as well.
 
 use std::cmp::Reverse;
 
-use crate::chart::{self, Chain, Place, Readings};
+use crate::chart::{self, Chain, Place, Ranging, Readings};
 use crate::refusals;
-use crate::search::{self, Job, SWEPT_EXPONENT};
+use crate::search::{self, Job, MARGIN, SWEPT_EXPONENT};
 
 /// How many visits are listed at first, and how many times more if these decide nothing.
 const FIRST_VISITS: usize = 1000;
@@ -88,9 +88,10 @@ impl Square {
     }
 
     /// Whether a cell matches, or a larger square is not dropped.
-    fn passes(&self, root: fn(u64) -> u64, chain: &Chain, wanted: Readings, job: &Job) -> bool {
-        let (half, slack) = if self.exponent == 0 { (0, 0) } else { (1 << (self.exponent - 1), (2 << self.exponent) + 2) };
-        let found = chart::readings_with(root, chain, self.place(job, half));
+    fn passes(&self, range: Ranging, chain: &Chain, wanted: Readings, job: &Job) -> bool {
+        let (half, slack) =
+            if self.exponent == 0 { (0, 0) } else { (1 << (self.exponent - 1), (2 << self.exponent) + MARGIN) };
+        let found = chart::readings_with(range, chain, self.place(job, half));
         chart::miss(found, wanted) <= u64::from(job.tolerance + slack)
     }
 }
@@ -101,7 +102,7 @@ fn visited(chain: &Chain, wanted: Readings, job: &Job, most: usize) -> (Vec<Squa
     let mut squares = vec![Square::new(job.k, 0, 0)];
     let mut whole = true;
     for exponent in (1..=job.k).rev() {
-        let kept = |square: &&Square| square.exponent == exponent && square.passes(chart::root, chain, wanted, job);
+        let kept = |square: &&Square| square.exponent == exponent && square.passes(chart::range, chain, wanted, job);
         let quarters: Vec<Square> = squares.iter().filter(kept).flat_map(Square::quarters).collect();
         squares.extend(quarters);
         squares.sort_by_key(Square::order);
@@ -114,7 +115,7 @@ fn visited(chain: &Chain, wanted: Readings, job: &Job, most: usize) -> (Vec<Squa
 /// The figures of the first `most` visits. The question must not be refused before it begins.
 pub fn figures(chain: &Chain, wanted: Readings, job: &Job, most: usize) -> Figures {
     let (squares, whole) = visited(chain, wanted, job, most);
-    let matches = |square: &Square| square.exponent == 0 && square.passes(chart::root, chain, wanted, job);
+    let matches = |square: &Square| square.exponent == 0 && square.passes(chart::range, chain, wanted, job);
     let numbered = (1..).zip(&squares).filter(|(_, square)| matches(square));
     Figures {
         matches: numbered.map(|(visit, cell)| (visit, cell.place(job, 0))).collect(),
@@ -128,7 +129,7 @@ pub fn figures(chain: &Chain, wanted: Readings, job: &Job, most: usize) -> Figur
 fn counted(chain: &Chain, wanted: Readings, job: &Job) -> Figures {
     let all = (0..=job.k).flat_map(|exponent| all_squares(job.k, exponent));
     let (passing, dropped): (Vec<Square>, Vec<Square>) =
-        all.partition(|square| square.passes(chart::root_by_digits, chain, wanted, job));
+        all.partition(|square| square.passes(chart::range_by_digits, chain, wanted, job));
     let is_visited = |square: &&Square| !dropped.iter().any(|larger| larger.holds(square));
     let numbers: Vec<u64> = passing.iter().chain(&dropped).filter(is_visited).map(|square| square.number).collect();
     let visit = |cell: &Square| numbers.iter().filter(|&&number| number <= cell.number).count() as u64;
@@ -220,11 +221,12 @@ mod tests {
 
     #[test]
     fn refusals_in_order() {
-        let unsound = Chain { b: CHAIN_1.a, ..CHAIN_1 };
         let wrong = Job { k: 25, tolerance: 100_001, allowance: 0, ..P4 };
-        assert_eq!(how_many(&unsound, Readings { a: 0, b: -1_000_000_001 }, &wrong), Err((3, 0)));
-        assert_eq!(how_many(&unsound, Readings { a: i64::MIN, b: 0 }, &wrong), Err((3, 0)));
-        assert_eq!(how_many(&unsound, WANTED, &wrong), Err((5, 0)));
+        for unsound in [Chain { b: CHAIN_1.a, ..CHAIN_1 }, Chain { factor: 1_001_001, ..CHAIN_1 }] {
+            assert_eq!(how_many(&unsound, Readings { a: 0, b: -1_000_000_001 }, &wrong), Err((3, 0)));
+            assert_eq!(how_many(&unsound, Readings { a: i64::MIN, b: 0 }, &wrong), Err((3, 0)));
+            assert_eq!(how_many(&unsound, WANTED, &wrong), Err((5, 0)));
+        }
         assert_eq!(answer(WANTED, wrong), Err((6, 0)));
         assert_eq!(answer(WANTED, Job { k: 24, ..wrong }), Err((7, 0)));
         assert_eq!(answer(WANTED, Job { k: 24, tolerance: 100_000, ..wrong }), Err((10, 0)));
@@ -253,7 +255,7 @@ mod tests {
         let wanted = Readings { a: 12205441, b: 9172617 };
         let job = Job { corner: chart::place(47499999, 497945629), k: 24, ..P4 };
         let figures = figures(&CHAIN_002, wanted, &job, 10_000);
-        assert_eq!((figures.visits, figures.whole, figures.matches.len()), (2753, true, 3));
+        assert_eq!((figures.visits, figures.whole, figures.matches.len()), (3117, true, 3));
         let second = figures.matches[1].0;
         assert_eq!(how_many(&CHAIN_002, wanted, &job), Ok((Count::Several, second)));
         assert_eq!(how_many(&CHAIN_002, wanted, &Job { allowance: second, ..job }), Ok((Count::Several, second)));

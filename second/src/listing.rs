@@ -1,4 +1,4 @@
-//! The listing of a job, a table and a log (01, The program; 02, A1).
+//! The listing of a log by its job, table and side file (01, The program; 02, A1 and A3).
 
 use std::io::{self, Write};
 
@@ -10,6 +10,14 @@ use crate::search::{self, Job};
 
 /// The places that the program's list has room for.
 pub const ROOM: usize = 256;
+
+/// The bytes of the files that are listed.
+pub struct Files<'a> {
+    pub job: &'a [u8],
+    pub table: &'a [u8],
+    pub scale: &'a [u8],
+    pub log: &'a [u8],
+}
 
 /// What a record of the log gives, with the word that is printed for it; `rounded` is the last field of its line.
 struct Answer {
@@ -30,17 +38,20 @@ pub struct Held {
 type Refused = (u32, u64);
 
 /// Prints the listing, and returns what a hold after it would repeat.
-pub fn list(job: &[u8], table: &[u8], log: &[u8], held: Option<Held>, out: &mut impl Write) -> io::Result<Option<Held>> {
-    let job = match records::job(job) {
+pub fn list(files: &Files, held: Option<Held>, out: &mut impl Write) -> io::Result<Option<Held>> {
+    let job = match records::job(files.job) {
         Ok(job) => job,
         Err(refusal) => return writeln!(out, "JOB REFUSED {refusal}").map(|_| None),
     };
-    if let Err(refusal) = records::chain_count(table) {
+    if let Err(refusal) = records::chain_count(files.table) {
         return writeln!(out, "CHAIN REFUSED {refusal}").map(|_| None);
     }
+    if let Err(refusal) = records::admit_scale(files.table, files.scale) {
+        return writeln!(out, "SCALE REFUSED {refusal}").map(|_| None);
+    }
     let mut held = held;
-    for record in log.chunks(RECORD) {
-        let answer = answer(&job, table, record, held);
+    for record in files.log.chunks(RECORD) {
+        let answer = answer(&job, files, record, held);
         print(record, &answer, out)?;
         held = answer.ok().and_then(held_after);
     }
@@ -54,7 +65,7 @@ fn held_after(answer: Answer) -> Option<Held> {
     }
 }
 
-fn answer(job: &Job, table: &[u8], record: &[u8], held: Option<Held>) -> Result<Answer, Refused> {
+fn answer(job: &Job, files: &Files, record: &[u8], held: Option<Held>) -> Result<Answer, Refused> {
     let unvisited = |refusal| (refusal, 0);
     let one = |word, place, rounded| Answer { word, places: vec![place], visits: 0, rounded };
     let rounded = |marks: [Mark; 2]| marks != [Mark::Equal; 2];
@@ -63,7 +74,7 @@ fn answer(job: &Job, table: &[u8], record: &[u8], held: Option<Held>) -> Result<
         Entry::Hold => return held.map(|held| one("HOLD", held.place, held.rounded)).ok_or((refusals::HOLD, 0)),
         Entry::Hyperbolic { chain, wanted, marks } => (chain, wanted, marks),
     };
-    let chain = records::chain(table, u32::from(chain)).map_err(unvisited)?;
+    let chain = records::chain(files.table, files.scale, u32::from(chain)).map_err(unvisited)?;
     let found = search::search(&chain, wanted, job, ROOM);
     if found.refusal != 0 {
         return Err((found.refusal, found.visits));
@@ -95,6 +106,7 @@ mod tests {
 
     const JOB: &str = "30750000409c0000010000000000000064000000000000000000000000000000";
     const TABLE: &str = "0000000000000000307500000000000000000000409c0000";
+    const SCALE: &str = "40420f00";
     const FIX: &str = "010100000100000000000000000059c000000000000069c00000000000000000";
     const GRID: &str = "02000000020000005c8fc2f528c0724000000000000079400000000000000000";
     const EXACT: &str = "0200000004000000000000000000d03f0000000000cc72400000000000000000";
@@ -104,15 +116,19 @@ mod tests {
         Some(Held { place: chart::place(easting, northing), rounded })
     }
 
-    fn text(job: &str, table: &str, log: &str, held: Option<Held>) -> (String, Option<Held>) {
-        let [job, table, log] = [job, table, log].map(|bytes| words::unhex(bytes).unwrap());
+    fn text(files: [&str; 4], held: Option<Held>) -> (String, Option<Held>) {
+        let [job, table, scale, log] = &files.map(|bytes| words::unhex(bytes).unwrap());
         let mut out = Vec::new();
-        let held = list(&job, &table, &log, held, &mut out).unwrap();
+        let held = list(&Files { job, table, scale, log }, held, &mut out).unwrap();
         (String::from_utf8(out).unwrap(), held)
     }
 
+    fn held_text(log: &str, held: Option<Held>) -> (String, Option<Held>) {
+        text([JOB, TABLE, SCALE, log], held)
+    }
+
     fn printed(log: &str) -> String {
-        text(JOB, TABLE, log, None).0
+        held_text(log, None).0
     }
 
     fn last_fields(log: &str) -> String {
@@ -153,26 +169,35 @@ mod tests {
     #[test]
     fn a_short_last_record() {
         assert_eq!(printed(&format!("{GRID}00")), "2 GRID 1 0 30001 40000 1\n- REFUSED 1 0\n");
-        assert_eq!(text(JOB, TABLE, "02", held(1, 2, true)), ("- REFUSED 1 0\n".into(), None));
+        assert_eq!(held_text("02", held(1, 2, true)), ("- REFUSED 1 0\n".into(), None));
     }
 
     #[test]
-    fn a_bad_job_or_table_is_all_that_is_printed() {
-        assert_eq!(text("-", "-", FIX, None).0, "JOB REFUSED 1\n");
-        assert_eq!(text(JOB, "-", FIX, None).0, "CHAIN REFUSED 1\n");
-        assert_eq!(text(JOB, TABLE, "-", held(1, 2, true)), (String::new(), held(1, 2, true)));
+    fn a_bad_job_table_or_side_file_is_all_that_is_printed() {
+        assert_eq!(text(["-", "-", "-", FIX], None).0, "JOB REFUSED 1\n");
+        assert_eq!(text([JOB, "-", "-", FIX], None).0, "CHAIN REFUSED 1\n");
+        for scale in ["-", "40420f", "40420f0000", "40420f0040420f00"] {
+            for log in ["-", FIX, GRID] {
+                assert_eq!(text([JOB, TABLE, scale, log], held(1, 2, true)), ("SCALE REFUSED 1\n".into(), None));
+            }
+        }
+        assert_eq!(held_text("-", held(1, 2, true)), (String::new(), held(1, 2, true)));
     }
 
     #[test]
     fn an_unsound_chain_matters_only_when_named() {
-        let table = format!("{TABLE}{}", "00".repeat(24));
-        assert!(text(JOB, &table, FIX, None).0.starts_with("1 FIX 2 5 "));
-        assert_eq!(text(JOB, &table, &FIX.replacen("0101", "0102", 1), None).0, "1 REFUSED 5 0\n");
+        let twice = TABLE.repeat(2);
+        let chains = [(format!("{TABLE}{}", "00".repeat(24)), "40420f00"), (twice.clone(), "573e0f00"), (twice, "00000000")];
+        for (table, factor) in chains {
+            let of = |log: &str| text([JOB, &table, &format!("{SCALE}{factor}"), log], None).0;
+            assert!(of(FIX).starts_with("1 FIX 2 5 "));
+            assert_eq!(of(&FIX.replacen("0101", "0102", 1)), "1 REFUSED 5 0\n");
+        }
     }
 
     #[test]
     fn a_held_place_is_given() {
-        assert_eq!(text(JOB, TABLE, HOLD, held(7, u32::MAX, false)).0, "3 HOLD 1 0 7 4294967295 0\n");
-        assert_eq!(text(JOB, TABLE, HOLD, held(7, u32::MAX, true)).0, "3 HOLD 1 0 7 4294967295 1\n");
+        assert_eq!(held_text(HOLD, held(7, u32::MAX, false)).0, "3 HOLD 1 0 7 4294967295 0\n");
+        assert_eq!(held_text(HOLD, held(7, u32::MAX, true)).0, "3 HOLD 1 0 7 4294967295 1\n");
     }
 }

@@ -1,4 +1,4 @@
-//! A second program for the rules of document 01 with requests A1 and A2 of 02, written from these alone, to be compared
+//! A second program for the rules of document 01 with requests A1 to A3 of 02, written from these alone, to be compared
 //! with the first.
 
 mod answers;
@@ -22,6 +22,8 @@ mod words;
 use std::io::{self, BufRead, BufWriter, Write};
 use std::path::Path;
 use std::process::ExitCode;
+
+use listing::Files;
 
 const USAGE: &str = "second list [FOLDER] | answers | logs SEED COUNT ROOT | requests SEED COUNT";
 
@@ -54,11 +56,12 @@ fn contents(path: &Path) -> Result<Vec<u8>, String> {
 }
 
 fn list(folder: &Path) -> Result<(), String> {
-    let job = contents(&folder.join("job.dat"))?;
-    let table = contents(&folder.join("chain.dat"))?;
-    let log = contents(&folder.join("lay.dat"))?;
+    let job = &contents(&folder.join("job.dat"))?;
+    let table = &contents(&folder.join("chain.dat"))?;
+    let scale = &contents(&folder.join("scale.dat"))?;
+    let log = &contents(&folder.join("lay.dat"))?;
     let mut out = BufWriter::new(io::stdout().lock());
-    listing::list(&job, &table, &log, None, &mut out).map_err(told)?;
+    listing::list(&Files { job, table, scale, log }, None, &mut out).map_err(told)?;
     out.flush().map_err(told)
 }
 

@@ -6,6 +6,7 @@ use std::path::Path;
 use crate::chart::{Chain, Readings};
 use crate::edges;
 use crate::folder::Folder;
+use crate::listing::Files;
 use crate::random::Random;
 use crate::records::{self, Entry, RECORD};
 use crate::tracks::{self, Purse};
@@ -13,7 +14,7 @@ use crate::tracks::{self, Purse};
 type Kind = fn(&mut Random, u64) -> Folder;
 
 /// The kinds of logs, taken in turn.
-const KINDS: [Kind; 18] = [
+const KINDS: [Kind; 20] = [
     tracks::track,
     edges::refusals,
     tracks::damaged,
@@ -24,6 +25,7 @@ const KINDS: [Kind; 18] = [
     edges::jobs,
     tracks::allowances,
     edges::tables,
+    edges::scales,
     tracks::track,
     edges::holds,
     edges::marks,
@@ -31,6 +33,7 @@ const KINDS: [Kind; 18] = [
     edges::tails,
     edges::absences,
     edges::unsound,
+    edges::factors,
     edges::lines,
 ];
 
@@ -39,25 +42,24 @@ const LONG_EVERY: u64 = 400;
 
 /// Whether all searches of a folder together cost few enough visits that many such folders can be listed.
 fn is_cheap(folder: &Folder) -> bool {
-    let (job, table, log) = match (&folder.job, &folder.table, &folder.log) {
-        (Some(job), Some(table), Some(log)) => (records::job(job), table, log),
-        _ => return true,
-    };
-    let job = match job {
+    let files = folder.files();
+    let job = match records::job(files.job) {
         Ok(job) => job,
         Err(_) => return true,
     };
-    let mut purse = Purse(40_000 + 2 * log.len() as u64);
-    log.chunks(RECORD).all(|record| match named(table, record) {
+    let mut purse = Purse(40_000 + 2 * files.log.len() as u64);
+    files.log.chunks(RECORD).all(|record| match named(&files, record) {
         Some((chain, wanted)) => purse.pays(&chain, wanted, &job),
         None => true,
     })
 }
 
 /// The chain and the readings of a record's search, if it has one that is not refused before it begins.
-fn named(table: &[u8], record: &[u8]) -> Option<(Chain, Readings)> {
+fn named(files: &Files, record: &[u8]) -> Option<(Chain, Readings)> {
     match records::entry(record).ok()? {
-        Entry::Hyperbolic { chain, wanted, .. } => Some((records::chain(table, chain.into()).ok()?, wanted)),
+        Entry::Hyperbolic { chain, wanted, .. } => {
+            Some((records::chain(files.table, files.scale, chain.into()).ok()?, wanted))
+        }
         _ => None,
     }
 }

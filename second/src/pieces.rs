@@ -1,9 +1,9 @@
 //! Makes the chains, places, numbers and bytes of which logs and requests are made.
 
-use crate::chart::{self, Chain, Place, Readings, MOST_EASTING, MOST_NORTHING};
+use crate::chart::{self, Chain, Place, Readings, LEAST_FACTOR, MOST_EASTING, MOST_FACTOR, MOST_NORTHING, UNIT_FACTOR};
 use crate::numbers::{self, MOST_CENTIMETRES};
 use crate::random::Random;
-use crate::records::{self, RECORD};
+use crate::records::{self, FACTOR_RECORD, RECORD};
 use crate::search::Job;
 
 const SIGN: u64 = 1 << 63;
@@ -70,10 +70,28 @@ pub fn edge_place(random: &mut Random) -> Place {
     chart::place(near(MOST_EASTING), near(MOST_NORTHING))
 }
 
+/// A factor in range: any, the one that leaves distances as they are, or one at an end of the range.
+pub fn factor(random: &mut Random) -> u32 {
+    match random.below(6) {
+        0 => UNIT_FACTOR,
+        1 => LEAST_FACTOR + random.below(2) as u32,
+        2 => MOST_FACTOR - random.below(2) as u32,
+        _ => random.between(LEAST_FACTOR.into(), MOST_FACTOR.into()) as u32,
+    }
+}
+
+/// A factor out of range: next to it, at an end of 32 bits, or any below or above.
+pub fn bad_factor(random: &mut Random) -> u32 {
+    let below = random.between(0, i64::from(LEAST_FACTOR) - 1) as u32;
+    let above = random.between(i64::from(MOST_FACTOR) + 1, u32::MAX.into()) as u32;
+    random.pick(&[LEAST_FACTOR - 1, MOST_FACTOR + 1, 0, u32::MAX, below, above])
+}
+
 pub fn sound_chain(random: &mut Random, place: Place, reach: u32) -> Chain {
     loop {
+        let factor = factor(random);
         let mut station = || about(random, place, reach);
-        let chain = Chain { master: station(), a: station(), b: station() };
+        let chain = Chain { master: station(), a: station(), b: station(), factor };
         if chart::is_sound(&chain) {
             return chain;
         }
@@ -94,19 +112,20 @@ fn below_a_square(random: &mut Random, place: Place) -> Place {
 /// A sound chain whose squared distances from the place are squares, or one less than squares, or any numbers.
 pub fn square_chain(random: &mut Random, place: Place) -> Chain {
     loop {
+        let factor = factor(random);
         let mut station = || match random.below(6) {
             0 => anywhere(random),
             1 => chart::place(place.easting, anywhere(random).northing),
             _ => below_a_square(random, place),
         };
-        let chain = Chain { master: station(), a: station(), b: station() };
+        let chain = Chain { master: station(), a: station(), b: station(), factor };
         if chart::is_sound(&chain) {
             return chain;
         }
     }
 }
 
-/// A chain with two stations equal, or with one out of range.
+/// A chain with two stations equal, with one out of range, or, every other one, with its factor out of range.
 pub fn unsound_chain(random: &mut Random) -> Chain {
     let middle = anywhere(random);
     let sound = sound_chain(random, middle, 5000);
@@ -116,13 +135,14 @@ pub fn unsound_chain(random: &mut Random) -> Chain {
         2 => chart::place(u32::MAX, 0),
         _ => chart::place(0, u32::MAX),
     };
-    match random.below(6) {
+    match random.below(12) {
         0 => Chain { a: sound.master, ..sound },
         1 => Chain { b: sound.master, ..sound },
         2 => Chain { b: sound.a, ..sound },
         3 => Chain { master: beyond, ..sound },
         4 => Chain { a: beyond, ..sound },
-        _ => Chain { b: beyond, ..sound },
+        5 => Chain { b: beyond, ..sound },
+        _ => Chain { factor: bad_factor(random), ..sound },
     }
 }
 
@@ -243,6 +263,19 @@ pub fn table(chains: &[Chain]) -> Vec<u8> {
     chains.iter().flat_map(records::chain_bytes).collect()
 }
 
+/// The side file of the chains.
+pub fn scale(chains: &[Chain]) -> Vec<u8> {
+    chains.iter().flat_map(|chain| chain.factor.to_le_bytes()).collect()
+}
+
+/// Changes the length of a side file: a byte or a factor less or more, nothing left, or twice as much.
+pub fn misfit_scale(random: &mut Random, bytes: &mut Vec<u8>) {
+    let fitting = bytes.len();
+    let less = |count| fitting.saturating_sub(count);
+    let lengths = [less(1), fitting + 1, less(FACTOR_RECORD), fitting + FACTOR_RECORD, 0, 2 * fitting];
+    bytes.resize(random.pick(&lengths), 0);
+}
+
 pub fn job(job: &Job) -> Vec<u8> {
     records::job_bytes(job).to_vec()
 }
@@ -288,9 +321,12 @@ mod tests {
             let k = random.below(25) as u32;
             let made = Job { corner: corner_for(&mut random, place, k), k, tolerance: 100_000, allowance: random.next() };
             assert_eq!(records::job(&job(&made)), Ok(made));
-            let chain = sound_chain(&mut random, place, 3);
-            assert_eq!(records::chain(&table(&[chain, chain]), 2), Ok(chain));
-            assert_eq!(records::chain(&table(&[unsound_chain(&mut random)]), 1), Err(5));
+            let chains = [unsound_chain(&mut random), sound_chain(&mut random, place, 3)];
+            let (table, mut scale) = (table(&chains), scale(&chains));
+            assert_eq!([1, 2].map(|number| records::chain(&table, &scale, number)), [Err(5), Ok(chains[1])]);
+            misfit_scale(&mut random, &mut scale);
+            assert_eq!(records::chain(&table, &scale, 2), Err(1));
+            let chain = chains[1];
             let wanted = chart::readings(&chain, place);
             let entry = records::entry(&fix(9, 1, wanted));
             assert!(matches!(entry, Ok(Entry::Hyperbolic { chain: 9, wanted: read, .. }) if read == wanted));

@@ -1,4 +1,4 @@
-//! Reads and writes the records (01, The records). Masks have one bit for each byte, set if the byte must be zero.
+//! Reads and writes the records and the side file (01, The records; 02, A3). Masks have one bit for each byte, set if the byte must be zero.
 
 use crate::chart::{self, Chain, Place, Readings};
 use crate::numbers::{self, Mark};
@@ -7,6 +7,7 @@ use crate::search::{self, Job};
 
 pub const RECORD: usize = 32;
 pub const CHAIN_RECORD: usize = 24;
+pub const FACTOR_RECORD: usize = 4;
 pub const MOST_CHAINS: usize = 16;
 
 const HYPERBOLIC_ZEROS: u32 = 0xff00_000c;
@@ -123,10 +124,15 @@ pub fn chain_count(table: &[u8]) -> Result<usize, u32> {
     (1..=MOST_CHAINS).find(|count| count * CHAIN_RECORD == table.len()).ok_or(refusals::LENGTH)
 }
 
-/// The chain as its bytes have it, sound or not. Refusal: 1.
-pub fn raw_chain(record: &[u8]) -> Result<Chain, u32> {
+/// Refuses a table with 1, and then a side file that has not a factor for each of its chains, with 1.
+pub fn admit_scale(table: &[u8], scale: &[u8]) -> Result<(), u32> {
+    fits(scale.len(), chain_count(table)? * FACTOR_RECORD)
+}
+
+/// The chain as its bytes and its factor have it, sound or not. Refusal: 1.
+pub fn raw_chain(record: &[u8], factor: u32) -> Result<Chain, u32> {
     fits(record.len(), CHAIN_RECORD)?;
-    Ok(Chain { master: place_at(record, 0), a: place_at(record, 8), b: place_at(record, 16) })
+    Ok(Chain { master: place_at(record, 0), a: place_at(record, 8), b: place_at(record, 16), factor })
 }
 
 pub fn chain_bytes(chain: &Chain) -> [u8; CHAIN_RECORD] {
@@ -138,20 +144,29 @@ pub fn chain_bytes(chain: &Chain) -> [u8; CHAIN_RECORD] {
 }
 
 /// The bytes of the chain with these numbers, for a buffer of `length` bytes. Refusals: 1 for either length, then 5.
-pub fn write_chain(length: usize, numbers: &[u32]) -> Result<[u8; CHAIN_RECORD], u32> {
-    let chain = chart::chain(numbers.try_into().map_err(|_| refusals::LENGTH)?);
+pub fn write_chain(length: usize, numbers: &[u32], factor: u32) -> Result<[u8; CHAIN_RECORD], u32> {
+    let chain = chart::chain(numbers.try_into().map_err(|_| refusals::LENGTH)?, factor);
     fits(length, CHAIN_RECORD)?;
     chart::admit_chain(&chain)?;
     Ok(chain_bytes(&chain))
 }
 
-/// The chain of a table by its number. Refusals: 1 for the table's length, then 5.
-pub fn chain(table: &[u8], number: u32) -> Result<Chain, u32> {
-    let count = chain_count(table)? as u32;
-    if number == 0 || number > count {
+/// The bytes of a factor in the side file, for a buffer of `length` bytes. Refusals: 1, 5.
+pub fn write_factor(length: usize, factor: u32) -> Result<[u8; FACTOR_RECORD], u32> {
+    fits(length, FACTOR_RECORD)?;
+    if !chart::is_factor(factor) {
         return Err(refusals::CHAIN);
     }
-    let chain = raw_chain(&table[(number as usize - 1) * CHAIN_RECORD..][..CHAIN_RECORD])?;
+    Ok(factor.to_le_bytes())
+}
+
+/// The chain of a table and its side file by its number. Refusals: 1 for the table, 1 for the side file, then 5.
+pub fn chain(table: &[u8], scale: &[u8], number: u32) -> Result<Chain, u32> {
+    admit_scale(table, scale)?;
+    let index = (number as usize).checked_sub(1).ok_or(refusals::CHAIN)?;
+    let mut chains = table.chunks(CHAIN_RECORD).zip(scale.chunks(FACTOR_RECORD));
+    let (record, factor) = chains.nth(index).ok_or(refusals::CHAIN)?;
+    let chain = raw_chain(record, word(factor, 0))?;
     chart::admit_chain(&chain)?;
     Ok(chain)
 }
@@ -265,15 +280,26 @@ mod tests {
 
     #[test]
     fn a_chain_is_written_or_refused_by_number() {
-        let bytes = write_chain(24, &[1, 2, 3, 4, 5, 0x0607]).unwrap();
+        let bytes = write_chain(24, &[1, 2, 3, 4, 5, 0x0607], 999_000).unwrap();
         assert_eq!(bytes, [1, 0, 0, 0, 2, 0, 0, 0, 3, 0, 0, 0, 4, 0, 0, 0, 5, 0, 0, 0, 7, 6, 0, 0]);
-        assert_eq!(raw_chain(&bytes), Ok(chart::chain([1, 2, 3, 4, 5, 0x0607])));
-        assert_eq!(raw_chain(&bytes[1..]), Err(1));
+        assert_eq!(raw_chain(&bytes, 8), Ok(chart::chain([1, 2, 3, 4, 5, 0x0607], 8)));
+        assert_eq!(raw_chain(&bytes[1..], 8), Err(1));
         assert_eq!(
-            [(24, 5), (24, 7), (23, 6), (25, 6)].map(|(length, count)| write_chain(length, &[0; 9][..count])),
+            [(24, 5), (24, 7), (23, 6), (25, 6)].map(|(length, count)| write_chain(length, &[0; 9][..count], 0)),
             [Err(1); 4]
         );
-        assert_eq!(write_chain(24, &[0; 6]), Err(5));
+        assert_eq!(write_chain(24, &[0; 6], 999_000), Err(5));
+        assert_eq!([998_999, 1_001_001, 0].map(|factor| write_chain(24, &[1, 2, 3, 4, 5, 6], factor)), [Err(5); 3]);
+    }
+
+    #[test]
+    fn a_factor_is_written_or_refused_by_number() {
+        assert_eq!(write_factor(4, 999_641), Ok([0xd9, 0x40, 0x0f, 0]));
+        assert_eq!([999_000, 1_000_000, 1_001_000].map(|factor| write_factor(4, factor).is_ok()), [true; 3]);
+        assert_eq!([998_999, 1_001_001, 0, u32::MAX].map(|factor| write_factor(4, factor)), [Err(5); 4]);
+        for length in [0, 1, 2, 3, 5, 6] {
+            assert_eq!([999_000, 998_999].map(|factor| write_factor(length, factor)), [Err(1); 2]);
+        }
     }
 
     #[test]
@@ -283,7 +309,19 @@ mod tests {
             [0, 23, 24, 25, 384, 408].map(|length| chain_count(&table[..length])),
             [Err(1), Err(1), Ok(1), Err(1), Ok(16), Err(1)]
         );
-        assert_eq!([0, 1, 2].map(|number| chain(&table[..24], number)), [Err(5); 3]);
+        assert_eq!([0, 1, 2].map(|number| chain(&table[..24], &[0; 4], number)), [Err(5); 3]);
+    }
+
+    #[test]
+    fn a_side_file_has_a_factor_for_each_chain() {
+        let numbers = [1, 2, 3, 4, 5, 6];
+        let table = chain_bytes(&chart::chain(numbers, 0)).repeat(2);
+        let scale = [999_000u32, 1_001_001].map(u32::to_le_bytes).concat();
+        let ask = |length, number| chain(&table, &scale.repeat(2)[..length], number);
+        assert_eq!([0, 4, 7, 9, 12, 16].map(|length| ask(length, 3)), [Err(1); 6]);
+        assert_eq!(ask(8, 1), Ok(chart::chain(numbers, 999_000)));
+        assert_eq!([0, 2, 3, u32::MAX].map(|number| ask(8, number)), [Err(5); 4]);
+        assert_eq!(chain(&table[1..], &scale, 1), Err(1));
     }
 
     #[test]

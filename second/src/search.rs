@@ -1,4 +1,4 @@
-//! The search and its count (01, The search and its count) by a stack of squares; a sweep of small windows checks it.
+//! The search and its count (01, The search and its count; 02, A3) by a stack of squares; a sweep of small windows checks it.
 
 use crate::chart::{self, Chain, Place, Readings, MOST_EASTING, MOST_NORTHING};
 use crate::numbers::MOST_CENTIMETRES;
@@ -6,6 +6,8 @@ use crate::refusals;
 
 pub const MOST_EXPONENT: u32 = 24;
 pub const MOST_TOLERANCE: u32 = 100_000;
+/// A square is dropped if a reading differs by more than the tolerance, twice its side and this.
+pub const MARGIN: u32 = 4;
 /// Windows up to this exponent are swept cell by cell as well.
 pub const SWEPT_EXPONENT: u32 = 3;
 
@@ -109,7 +111,7 @@ fn walk(chain: &Chain, wanted: Readings, job: &Job, room: usize) -> Found {
             return Found::refused(refusals::ALLOWANCE, visits);
         }
         visits += 1;
-        let slack = if square.side == 1 { 0 } else { 2 * square.side + 2 };
+        let slack = if square.side == 1 { 0 } else { 2 * square.side + MARGIN };
         let miss = chart::miss(chart::readings(chain, square.middle()), wanted);
         if miss > u64::from(job.tolerance + slack) {
             continue;
@@ -134,7 +136,7 @@ fn sweep(chain: &Chain, wanted: Readings, job: &Job) -> Vec<Place> {
     let side = 1u32 << job.k;
     let window = Square { corner: job.corner, side };
     let matches = |cell: Place| {
-        let found = chart::readings_with(chart::root_by_digits, chain, cell);
+        let found = chart::readings_with(chart::range_by_digits, chain, cell);
         chart::miss(found, wanted) <= u64::from(job.tolerance)
     };
     let mut cells: Vec<(u64, Place)> = (0..side * side)
@@ -154,7 +156,7 @@ pub fn full_allowance(k: u32) -> u64 {
 #[cfg(test)]
 mod tests {
     use super::*;
-    use crate::chart::tests::{CHAIN_002, CHAIN_1};
+    use crate::chart::tests::{CHAIN_002, CHAIN_1, FACTOR_002, POINTS_002};
 
     const P4: Job = Job { corner: Place { easting: 30000, northing: 40000 }, k: 1, tolerance: 0, allowance: u64::MAX };
     const WANTED: Readings = Readings { a: -10000, b: -20000 };
@@ -217,17 +219,55 @@ mod tests {
     fn readings_are_refused_first_and_chains_next() {
         let beyond = Readings { a: 0, b: -1_000_000_001 };
         assert_eq!(answer(beyond, Job { k: 25, ..P4 }, 9).0, 3);
-        let unsound = Chain { b: CHAIN_1.a, ..CHAIN_1 };
-        assert_eq!(search(&unsound, WANTED, &Job { k: 25, ..P4 }, 9).refusal, 5);
-        assert_eq!(search(&unsound, Readings { a: i64::MIN, b: i64::MAX }, &P4, 9).refusal, 3);
+        for unsound in
+            [Chain { b: CHAIN_1.a, ..CHAIN_1 }, Chain { factor: 998_999, ..CHAIN_1 }, Chain { factor: 0, ..CHAIN_1 }]
+        {
+            assert_eq!(search(&unsound, WANTED, &Job { k: 25, ..P4 }, 9).refusal, 5);
+            assert_eq!(search(&unsound, Readings { a: i64::MIN, b: i64::MAX }, &P4, 9).refusal, 3);
+        }
+    }
+
+    /// Whether the search in a window finds exactly these places in so many visits.
+    fn finds(chain: &Chain, wanted: Readings, (corner, k): (Place, u32), places: &[(u32, u32)], visits: u64) {
+        let places = places.iter().map(|&(easting, northing)| chart::place(easting, northing)).collect();
+        let found = search(chain, wanted, &Job { corner, k, ..P4 }, 256);
+        assert_eq!(found, Found { refusal: 0, places, visits }, "{chain:?} {wanted:?}");
     }
 
     #[test]
-    fn published_crossings() {
-        let job = Job { corner: chart::place(47499999, 497945629), k: 24, ..P4 };
-        let found = search(&CHAIN_002, Readings { a: 12205441, b: 9172617 }, &job, 256);
-        assert_eq!(found.visits, 2753);
+    fn visits_about_p4() {
+        for (k, visits) in [(5, 945), (12, 2529)] {
+            let half = 1 << (k - 1);
+            let corner = chart::place(30000 - half, 40000 - half);
+            let found = search(&CHAIN_1, WANTED, &Job { corner, k, ..P4 }, 256);
+            assert_eq!((found.refusal, found.visits), (0, visits));
+            assert!(found.places.contains(&P4.corner));
+        }
+    }
+
+    #[test]
+    fn double_crossings() {
         let places = [(49810530, 498945629), (48500000, 502000000), (48500000, 502000001)];
-        assert_eq!(found.places, places.map(|(east, north)| chart::place(east, north)));
+        let window = (chart::place(47499999, 497945629), 24);
+        finds(&CHAIN_002, Readings { a: 12205441, b: 9172617 }, window, &places, 3117);
+        let line = chart::chain([50000000, 500000000, 49000000, 500000000, 51000000, 500000000], 1_000_000);
+        let places = [(50100000, 499800000), (50100000, 500200000)];
+        let window = (chart::place(50000000, 499700000), 20);
+        finds(&line, Readings { a: 894427, b: 698348 }, window, &places, 2085);
+    }
+
+    #[test]
+    fn the_points_of_document_002() {
+        let places: [(&[(u32, u32)], u64); 4] = [
+            (&[(59999999, 490000001), (60000000, 490000000)], 4097),
+            (&[(60000000, 490100000)], 4025),
+            (&[(60100001, 489999999), (60100003, 489999998), (60100002, 489999999), (60100000, 490000000)], 4225),
+            (&[(60099999, 490100001), (60100000, 490100000)], 4209),
+        ];
+        for ((point, plain, scaled), (places, visits)) in POINTS_002.into_iter().zip(places) {
+            let window = (chart::place(point.easting - 4194304, point.northing - 4194304), 23);
+            finds(&CHAIN_002, plain, window, places, visits);
+            finds(&Chain { factor: FACTOR_002, ..CHAIN_002 }, scaled, window, places, visits);
+        }
     }
 }

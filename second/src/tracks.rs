@@ -111,9 +111,10 @@ pub fn squares(random: &mut Random, _turn: u64) -> Folder {
 /// A track, or a log with many holds, with some bytes of one of its files changed, or the file's length.
 pub fn damaged(random: &mut Random, turn: u64) -> Folder {
     let mut folder = if random.once_in(2) { track(random, turn) } else { crate::edges::holds(random, turn) };
-    let file = match turn % 5 {
+    let file = match turn % 6 {
         0 => &mut folder.job,
         1 => &mut folder.table,
+        2 => &mut folder.scale,
         _ => &mut folder.log,
     };
     if let Some(bytes) = file {
@@ -151,6 +152,7 @@ pub fn double_crossings(random: &mut Random, turn: u64) -> Folder {
         master: middle,
         a: beside(middle, bearing, arm, 0),
         b: beside(middle, bearing, if random.once_in(2) { other_arm } else { 2 * arm }, 0),
+        factor: pieces::factor(random),
     };
     let half = 2 << size;
     let corner = chart::place(middle.easting - half, middle.northing - half);
@@ -188,9 +190,10 @@ fn published_crossing(random: &mut Random) -> Folder {
         master: chart::place(50_000_000, 500_000_000),
         a: chart::place(40_000_000, 490_000_000),
         b: chart::place(60_000_000, 500_000_000),
+        factor: chart::UNIT_FACTOR,
     };
     let corner = chart::place(47_499_999, 497_945_629);
-    let job = Job { corner, k: 24, tolerance: 0, allowance: random.pick(&[2752, 2753, 2754, u64::MAX]) };
+    let job = Job { corner, k: 24, tolerance: 0, allowance: random.pick(&[3116, 3117, 3118, u64::MAX]) };
     let wanted = Readings { a: 12_205_441, b: 9_172_617 };
     let near = Readings { a: wanted.a + random.between(-9, 9), b: wanted.b + random.between(-9, 9) };
     let log = [pieces::fix(1, 1, wanted), pieces::hold(2), pieces::fix(1, 3, near), pieces::hold(4)];
