@@ -1,4 +1,4 @@
-// For the C programs of the bench: places, and the distance of two places by the processor's square root.
+// For the C programs of the bench: places, the distance of two places by the processor's square root, and ranges.
 #include <math.h>
 #include <stdint.h>
 
@@ -18,3 +18,6 @@ static int64_t distance(Place p, Place q) {
     int64_t e = p.easting - q.easting, n = p.northing - q.northing;
     return whole_root(e * e + n * n);
 }
+
+// From a place to a station over the ground: the distance on the grid divided by the chain's factor, which is in millionths.
+static int64_t range(Place p, Place station, int64_t factor) { return distance(p, station) * 1000000 / factor; }

@@ -1,6 +1,7 @@
 // Lists a lay log in the plain way: the program with which the bench compares the times of the others.
 //     cc -O2 -o target/bench/plain bench/plain.c -lm && target/bench/plain FOLDER
-// It prints what laylist prints for FOLDER, or for the folder it is run in if none is given. Each visit takes three square roots.
+// It prints what laylist prints for FOLDER, or for the folder it is run in if none is given. Each visit takes three square roots and
+// three divisions.
 #include <inttypes.h>
 #include <stdbool.h>
 #include <stdio.h>
@@ -9,8 +10,9 @@
 
 #include "distance.h"
 
-enum { ROOM = 256, LOG_RECORD = 32, CHAIN_RECORD = 24, JOB_RECORD = 32, MOST_CHAINS = 16 };
+enum { ROOM = 256, LOG_RECORD = 32, CHAIN_RECORD = 24, FACTOR_RECORD = 4, JOB_RECORD = 32, MOST_CHAINS = 16 };
 enum { MOST_EASTING = 100000000, MOST_NORTHING = 1000000000, MOST_EXPONENT = 24, MOST_TOLERANCE = 100000 };
+enum { LEAST_FACTOR = 999000, MOST_FACTOR = 1001000 };
 enum { HYPERBOLIC = 1, GRID = 2, HOLD = 3 };
 
 typedef struct {
@@ -18,8 +20,14 @@ typedef struct {
     size_t length;
 } File;
 
+// The chains' stations, and the side file with their factors.
+typedef struct {
+    File chains, scale;
+} Table;
+
 typedef struct {
     Place master, a, b;
+    int64_t factor;
 } Chain;
 
 typedef struct {
@@ -58,6 +66,7 @@ static bool in_range(Place p) {
 static bool same(Place p, Place q) { return p.easting == q.easting && p.northing == q.northing; }
 
 static bool sound(Chain c) {
+    if (c.factor < LEAST_FACTOR || c.factor > MOST_FACTOR) return false;
     if (!in_range(c.master) || !in_range(c.a) || !in_range(c.b)) return false;
     return !same(c.master, c.a) && !same(c.master, c.b) && !same(c.a, c.b);
 }
@@ -87,8 +96,8 @@ static bool centimetres(const uint8_t *bytes, int64_t *answer, bool *rounded) {
 
 // Whether both readings at a place are as wanted, give or take slack.
 static bool matches(const Search *s, Place p, int64_t slack) {
-    int64_t master = distance(p, s->chain.master);
-    int64_t a = distance(p, s->chain.a) - master, b = distance(p, s->chain.b) - master;
+    int64_t factor = s->chain.factor, master = range(p, s->chain.master, factor);
+    int64_t a = range(p, s->chain.a, factor) - master, b = range(p, s->chain.b, factor) - master;
     return llabs(a - s->a) <= slack && llabs(b - s->b) <= slack;
 }
 
@@ -114,7 +123,7 @@ static void visit(Search *s, int64_t e, int64_t n, int64_t side) {
         return;
     }
     int64_t half = side / 2;
-    if (!matches(s, (Place){e + half, n + half}, s->tolerance + 2 * side + 2)) return;
+    if (!matches(s, (Place){e + half, n + half}, s->tolerance + 2 * side + 4)) return;
     visit(s, e, n, half);
     visit(s, e + half, n, half);
     visit(s, e, n + half, half);
@@ -139,6 +148,10 @@ static int table_refusal(File f) {
     return fits ? 0 : 1;
 }
 
+static int scale_refusal(Table t) {
+    return t.scale.length == t.chains.length / CHAIN_RECORD * FACTOR_RECORD ? 0 : 1;
+}
+
 // The refusal of a log record by itself, 0 for none; `numbers` gets its two numbers in centimetres, and `rounded` is set if one was
 // rounded.
 static int record_refusal(const uint8_t *r, int64_t numbers[2], bool *rounded) {
@@ -150,14 +163,15 @@ static int record_refusal(const uint8_t *r, int64_t numbers[2], bool *rounded) {
     return 0;
 }
 
-static int chain_of(File table, int which, Chain *chain) {
-    if (which == 0 || (size_t)which * CHAIN_RECORD > table.length) return 5;
-    const uint8_t *r = table.bytes + (which - 1) * CHAIN_RECORD;
-    *chain = (Chain){place_at(r), place_at(r + 8), place_at(r + 16)};
+static int chain_of(Table table, int which, Chain *chain) {
+    if (which == 0 || (size_t)which * CHAIN_RECORD > table.chains.length) return 5;
+    const uint8_t *r = table.chains.bytes + (which - 1) * CHAIN_RECORD;
+    int64_t factor = (int64_t)number(table.scale.bytes + (which - 1) * FACTOR_RECORD, FACTOR_RECORD);
+    *chain = (Chain){place_at(r), place_at(r + 8), place_at(r + 16), factor};
     return sound(*chain) ? 0 : 5;
 }
 
-static void search(Search *s, const Job *job, File table, int which, const int64_t readings[2]) {
+static void search(Search *s, const Job *job, Table table, int which, const int64_t readings[2]) {
     s->refusal = chain_of(table, which, &s->chain);
     if (s->refusal) return;
     s->a = readings[0];
@@ -169,7 +183,7 @@ static void search(Search *s, const Job *job, File table, int which, const int64
 }
 
 // Leaves the answer of a record in `s`, as a search does. There a hold finds the answer of the record before it.
-static void answer(Search *s, const Job *job, File table, const uint8_t *r) {
+static void answer(Search *s, const Job *job, Table table, const uint8_t *r) {
     int64_t numbers[2];
     bool held = !s->refusal && s->count == 1, rounded = false;
     s->visits = 0;
@@ -218,7 +232,7 @@ static void print(const Search *s, const uint8_t *r) {
     fwrite(text, 1, (size_t)(at - text), stdout);
 }
 
-static void list(const Job *job, File table, File log) {
+static void list(const Job *job, Table table, File log) {
     static Search s;
     size_t at = 0;
     for (; log.length - at >= LOG_RECORD; at += LOG_RECORD) {
@@ -248,16 +262,21 @@ int main(int argc, char **argv) {
     static char buffer[1 << 16];
     setvbuf(stdout, buffer, _IOFBF, sizeof buffer);
     const char *folder = argc > 1 ? argv[1] : ".";
-    File table = read_file(folder, "chain.dat");
+    Table table = {read_file(folder, "chain.dat"), read_file(folder, "scale.dat")};
     Job job;
     int refusal = job_of(read_file(folder, "job.dat"), &job);
     if (refusal) {
         printf("JOB REFUSED %d\n", refusal);
         return 0;
     }
-    refusal = table_refusal(table);
+    refusal = table_refusal(table.chains);
     if (refusal) {
         printf("CHAIN REFUSED %d\n", refusal);
+        return 0;
+    }
+    refusal = scale_refusal(table);
+    if (refusal) {
+        printf("SCALE REFUSED %d\n", refusal);
         return 0;
     }
     list(&job, table, read_file(folder, "lay.dat"));

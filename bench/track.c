@@ -7,10 +7,13 @@
 
 #include "distance.h"
 
-enum { LOG_RECORD = 32, CHAIN_RECORD = 24, JOB_RECORD = 32, LEGS = 5 };
+enum { LOG_RECORD = 32, CHAIN_RECORD = 24, FACTOR_RECORD = 4, JOB_RECORD = 32, LEGS = 5 };
 
 static const Place master = {50000000, 500000000}, a = {41400000, 505100000}, b = {50100000, 510000000};
 static const Place middle = {47200000, 505000000};
+
+// The scale of the grid on its central meridian. With 1,000,000 a program might leave out the scaling.
+static const int64_t factor = 999600;
 
 // Farther from the middle the hyperbolas of the chain cross at so small an angle that with tolerance 10 more cells match than a
 // list has room for.
@@ -29,7 +32,7 @@ static void put_place(uint8_t *bytes, Place p) {
 }
 
 static void put_reading(uint8_t *bytes, Place slave, Place p) {
-    double metres = (double)(distance(p, slave) - distance(p, master)) / 100;
+    double metres = (double)(range(p, slave, factor) - range(p, master, factor)) / 100;
     uint64_t bits;
     memcpy(&bits, &metres, sizeof bits);
     put(bytes, 8, bits);
@@ -68,6 +71,12 @@ static void write_chain(const char *folder) {
     write_file(folder, "chain.dat", chain, sizeof chain);
 }
 
+static void write_scale(const char *folder) {
+    uint8_t scale[FACTOR_RECORD];
+    put(scale, FACTOR_RECORD, (uint64_t)factor);
+    write_file(folder, "scale.dat", scale, sizeof scale);
+}
+
 // The ship goes east at an even speed, and north and south in turn on legs of equal length.
 static Place on_track(int64_t i, int64_t records, int64_t reach) {
     int64_t along = i * LEGS % records, leg = i * LEGS / records;
@@ -99,6 +108,7 @@ int main(int argc, char **argv) {
     int k = atoi(argv[2]);
     write_job(argv[1], k, strtoull(argv[3], NULL, 10));
     write_chain(argv[1]);
+    write_scale(argv[1]);
     write_log(argv[1], k, atoll(argv[4]));
     return 0;
 }
