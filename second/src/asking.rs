@@ -489,8 +489,10 @@ fn listing(random: &mut Random) -> String {
     let chain = pieces::sound_chain(random, place, reach);
     let chains = [chain, pieces::unsound_chain(random)];
     let (mut table, scale) = (pieces::table(&chains), scale_of(random, &chains));
-    if random.once_in(16) {
-        spoil(random, &mut table);
+    match random.below(16) {
+        0 => spoil(random, &mut table),
+        1 => misfit(random, &mut table),
+        _ => {}
     }
     let count = random.below(5) as usize;
     let mut log: Vec<u8> = (0..count).flat_map(|_| listed_record(random, place, &chain)).collect();
