@@ -211,8 +211,11 @@ fn search(mut request: Request) -> Result<String, String> {
     Ok(with_entries(head, &list))
 }
 
-/// What is searched for, from bytes: all the words that are left. Refusals: 1 for all three lengths, then 2 for the job's bytes.
-fn searched(mut request: Request) -> Result<Result<(Chain, Readings, Job), u32>, String> {
+/// What is searched for, or a refusal: 1 for all three lengths, then 2 for the job's bytes.
+type Searched = Result<(Chain, Readings, Job), u32>;
+
+/// What is searched for, by all the words that are left.
+fn searched(mut request: Request) -> Result<Searched, String> {
     let ((chain, factor), job) = (request.chain()?, request.job()?);
     let readings: Vec<i64> = request.numbers()?;
     let read = || {
@@ -438,7 +441,7 @@ mod tests {
             }
             for unsound in [UNSOUND, BAD_FACTOR] {
                 for rest in [
-                    format!("{job}"),
+                    job.clone(),
                     format!("{job} 1000000001"),
                     format!("{job} {beyond} 0"),
                     format!("{job}00 {beyond}"),

@@ -311,6 +311,7 @@ fn in_turn(random: &mut Random, turn: u64, sound: fn(&mut Random) -> Chain, unso
     Folder::new(&JOB, &chains, &log)
 }
 
+/// 01's chain and unsound ones.
 pub fn unsound(random: &mut Random, turn: u64) -> Folder {
     in_turn(random, turn, |_| CHAIN, pieces::unsound_chain)
 }
