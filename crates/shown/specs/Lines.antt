@@ -1,8 +1,7 @@
 -- The line of a job, of a chain, of a side file that does not fit and of a log record (docs/FORMATS.md, Text).
-use Prim.Native.Nat.{ℕ}
+use Prim.Native.Nat.{ℕ, _-_, _*_, _/_}
 use mathlib.Core.Bool.{Bool, cond}
 use mathlib.Core.List.{List, [], _∷_, _++_}
-use lib.Dec.{eqb}
 use lib.ListN.{length}
 use Rattle.fields.specs.Fields.{fieldAt}
 use Rattle.chart.specs.declared.Chain.{Chain}
@@ -18,7 +17,7 @@ use Rattle.records.specs.declared.RawAnswer.{RawAnswer}
 use Rattle.records.specs.declared.RawAnswer.the-variants as raw
 use Rattle.records.specs.Bytes.{unless}
 use Rattle.records.specs.LogRecords.{rawRecordOf, logEntryOf}
-use Rattle.records.specs.ChainTables.{factorBytes, rawChainOf}
+use Rattle.records.specs.ChainTables.{factorBytes, oneTo, rawChainOf}
 use Rattle.records.specs.Jobs.{rawJobOf, jobOf}
 use Rattle.records.specs.Refusals.{entryRefusal, jobRefusal}
 use Rattle.text.specs.Texts.{figuresText, bytesIn}
@@ -42,38 +41,37 @@ jobText s = jobFields (rawJobOf s)
 unfoldable pub jobLine : List ℕ → List ℕ
 jobLine s = lineWith (bytesIn "JOB") (jobText s) (jobRefusal (jobOf s)) s
 
--- A chain, with its number in the table and its factor. `scale` has the four bytes of the factor. If there are not four, the side file
--- does not fit the table: then no factor is shown, and the stations alone are tested (02, A3). Bytes that are not 24 are refused with
--- 1, even if they are a table of several chains.
+-- A chain, with its number in the table and its factor from the side file `scale`. If that has none for it, no factor is shown, and
+-- the stations alone are tested (02, A3). Bytes that are not 24 are refused with 1, even if they are a table of several chains.
 abbrev pub stationFigures : Chain → List ℕ
 stationFigures c =
     c .master .easting ∷ c .master .northing ∷ c .a .easting ∷ c .a .northing ∷ c .b .easting ∷ c .b .northing ∷ []
 
-abbrev pub hasFactor : List ℕ → Bool
-hasFactor scale = eqb (length scale) factorBytes
+abbrev pub hasFactor : List ℕ → ℕ → Bool
+hasFactor scale number = oneTo (length scale / factorBytes) number
 
-abbrev pub factorOr : List ℕ → ℕ
-factorOr scale = cond (hasFactor scale) (fieldAt factorBytes scale 0) unitFactor
+abbrev pub factorOr : List ℕ → ℕ → ℕ
+factorOr scale number = cond (hasFactor scale number) (fieldAt factorBytes scale (factorBytes * (number - 1))) unitFactor
 
-abbrev pub factorText : List ℕ → List ℕ
-factorText scale = cond (hasFactor scale) (figuresText (factorOr scale ∷ [])) []
+abbrev pub factorText : List ℕ → ℕ → List ℕ
+factorText scale number = cond (hasFactor scale number) (figuresText (factorOr scale number ∷ [])) []
 
-unfoldable pub chainFields : ℕ → List ℕ → NamedChain → List ℕ
-chainFields number scale (named.Chain c) = figuresText (number ∷ stationFigures c) ++ factorText scale
-chainFields number scale (named.Refused refusal) = []
+unfoldable pub chainFields : List ℕ → ℕ → NamedChain → List ℕ
+chainFields scale number (named.Chain c) = figuresText (number ∷ stationFigures c) ++ factorText scale number
+chainFields scale number (named.Refused refusal) = []
 
-abbrev pub chainText : ℕ → List ℕ → List ℕ → List ℕ
-chainText number scale s = chainFields number scale (rawChainOf s (factorOr scale))
+abbrev pub chainText : List ℕ → ℕ → List ℕ → List ℕ
+chainText scale number s = chainFields scale number (rawChainOf s (factorOr scale number))
 
 unfoldable pub soundness : NamedChain → ℕ
 soundness (named.Chain c) = unless (isSound c) 5 0
 soundness (named.Refused number) = number
 
-abbrev pub refusalIn : List ℕ → List ℕ → ℕ
-refusalIn scale s = soundness (rawChainOf s (factorOr scale))
+abbrev pub refusalIn : List ℕ → ℕ → List ℕ → ℕ
+refusalIn scale number s = soundness (rawChainOf s (factorOr scale number))
 
-unfoldable pub chainLine : ℕ → List ℕ → List ℕ → List ℕ
-chainLine number scale s = lineWith (bytesIn "CHAIN") (chainText number scale s) (refusalIn scale s) s
+unfoldable pub chainLine : List ℕ → ℕ → List ℕ → List ℕ
+chainLine scale number s = lineWith (bytesIn "CHAIN") (chainText scale number s) (refusalIn scale number s) s
 
 -- A side file that does not fit its table.
 unfoldable pub scaleLine : List ℕ → List ℕ

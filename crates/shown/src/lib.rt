@@ -11,7 +11,7 @@ ghost use Rattle.records.specs.Jobs.{jobOf};
 ghost use Rattle.writing.specs.Writing.{metresBytes};
 ghost use Rattle.text.specs.Texts.{figuresText, hexOf, bytesIn};
 ghost use Rattle.shown.specs.Fields.{centimetresText, decimalText, metresText, hexText, refusedText};
-ghost use Rattle.shown.specs.Lines.{jobText, jobLine, stationFigures, factorOr, factorText, chainText, refusalIn, chainLine, scaleLine, rawText, recordText, recordLine};
+ghost use Rattle.shown.specs.Lines.{jobText, jobLine, stationFigures, hasFactor, factorOr, factorText, chainText, refusalIn, chainLine, scaleLine, rawText, recordText, recordLine};
 ghost use Rattle.shown.specs.Lines as lines;
 ghost use Rattle.shown.specs.Expected.{byChain, expectedIn, isRoundedBack, writtenText, slaveLine, expectedText};
 ghost use Rattle.shown.specs.Counted.{chainOrNone, countedIn, manyLine, manyReply};
@@ -58,15 +58,15 @@ pub fn job(out: &mut [u8], s: &[u8]) -> Line
     Line::Text(put_end(out, b, number, s))
 }
 
-// Puts the line of a chain, from its number in the table, the 4 bytes of its factor, or none, and its 24 bytes.
+// Puts the line of a chain, from its number in the table, the side file, which may be empty, and its 24 bytes.
 pub fn chain(out: &mut [u8], number: u32, scale: &[u8], s: &[u8]) -> Line
-    ensures answer { λ r. ⌜ r ≡ shownIn (now (out .entry)) (length (now (s .entry))) (Says (chainLine number (now (scale .entry)) (now (s .entry)))) .answer ⌝ }
-    ensures out { λ _. ⌜ now (out .exit) ≡ shownIn (now (out .entry)) (length (now (s .entry))) (Says (chainLine number (now (scale .entry)) (now (s .entry)))) .buffer ⌝ }
+    ensures answer { λ r. ⌜ r ≡ shownIn (now (out .entry)) (length (now (s .entry))) (Says (chainLine (now (scale .entry)) number (now (s .entry)))) .answer ⌝ }
+    ensures out { λ _. ⌜ now (out .exit) ≡ shownIn (now (out .entry)) (length (now (s .entry))) (Says (chainLine (now (scale .entry)) number (now (s .entry)))) .buffer ⌝ }
 {
     if !has_line_room(out.len(), s.len()) {
         return Line::Refused(9);
     }
-    let refusal = chain_refusal(scale, s);
+    let refusal = chain_refusal(scale, number, s);
     let a = text::put(out, 0, b"CHAIN");
     let b = put_chain(out, a, number, scale, s);
     Line::Text(put_end(out, b, refusal, s))
@@ -159,10 +159,10 @@ fn job_refusal(s: &[u8]) -> u32
     }
 }
 
-fn chain_refusal(scale: &[u8], s: &[u8]) -> u32
-    ensures { λ r. ⌜ r ≡ refusalIn (now (scale .entry)) (now (s .entry)) ⌝ }
+fn chain_refusal(scale: &[u8], number: u32, s: &[u8]) -> u32
+    ensures { λ r. ⌜ r ≡ refusalIn (now (scale .entry)) number (now (s .entry)) ⌝ }
 {
-    soundness(records::raw_chain(s, factor_or(scale)))
+    soundness(records::raw_chain(s, factor_or(scale, number)))
 }
 
 fn soundness(chain: NamedChain) -> u32
@@ -179,14 +179,14 @@ fn soundness(chain: NamedChain) -> u32
     }
 }
 
-// The factor in four bytes, or the factor 1 if there are not four.
-fn factor_or(scale: &[u8]) -> u32
-    ensures { λ r. ⌜ r ≡ factorOr (now (scale .entry)) ⌝ }
+// The factor of the chain with this number, or the factor 1 if the side file has none for it.
+fn factor_or(scale: &[u8], number: u32) -> u32
+    ensures { λ r. ⌜ r ≡ factorOr (now (scale .entry)) number ⌝ }
 {
-    if scale.len() != records::FACTOR_BYTES {
+    if !has_factor(scale, number) {
         return chart::UNIT_FACTOR;
     }
-    match fields::four_at(scale, 0) {
+    match fields::four_at(scale, records::FACTOR_BYTES * (number as usize - 1)) {
         Four::Value(n) => n,
         Four::Outside => 0,
     }
@@ -285,16 +285,22 @@ fn put_job(out: &mut [u8], at: usize, s: &[u8]) -> usize
 }
 
 fn put_chain(out: &mut [u8], at: usize, number: u32, scale: &[u8], s: &[u8]) -> usize
-    ensures text { λ r. ⌜ Puts (now (out .entry)) at (chainText number (now (scale .entry)) (now (s .entry))) (now (out .exit)) r ⌝ }
-    ensures few { λ _. ⌜ length (chainText number (now (scale .entry)) (now (s .entry))) ≤ 168 ⌝ }
+    ensures text { λ r. ⌜ Puts (now (out .entry)) at (chainText (now (scale .entry)) number (now (s .entry))) (now (out .exit)) r ⌝ }
+    ensures few { λ _. ⌜ length (chainText (now (scale .entry)) number (now (s .entry))) ≤ 168 ⌝ }
 {
-    match records::raw_chain(s, factor_or(scale)) {
+    match records::raw_chain(s, factor_or(scale, number)) {
         NamedChain::Chain(c) => {
             let end = put_stations(out, at, number, c);
-            put_factor(out, end, scale)
+            put_factor(out, end, scale, number)
         }
         NamedChain::Refused(_) => at,
     }
+}
+
+fn has_factor(scale: &[u8], number: u32) -> bool
+    ensures { λ r. ⌜ r ≡ hasFactor (now (scale .entry)) number ⌝ }
+{
+    records::one_to(scale.len() / records::FACTOR_BYTES, number)
 }
 
 fn put_stations(out: &mut [u8], at: usize, number: u32, c: Chain) -> usize
@@ -316,14 +322,14 @@ fn put_stations(out: &mut [u8], at: usize, number: u32, c: Chain) -> usize
     )
 }
 
-fn put_factor(out: &mut [u8], at: usize, scale: &[u8]) -> usize
-    ensures text { λ r. ⌜ Puts (now (out .entry)) at (factorText (now (scale .entry))) (now (out .exit)) r ⌝ }
-    ensures few { λ _. ⌜ length (factorText (now (scale .entry))) ≤ 21 ⌝ }
+fn put_factor(out: &mut [u8], at: usize, scale: &[u8], number: u32) -> usize
+    ensures text { λ r. ⌜ Puts (now (out .entry)) at (factorText (now (scale .entry)) number) (now (out .exit)) r ⌝ }
+    ensures few { λ _. ⌜ length (factorText (now (scale .entry)) number) ≤ 21 ⌝ }
 {
-    if scale.len() != records::FACTOR_BYTES {
+    if !has_factor(scale, number) {
         return at;
     }
-    put_figures(out, at, &[factor_or(scale) as u64])
+    put_figures(out, at, &[factor_or(scale, number) as u64])
 }
 
 fn put_record(out: &mut [u8], at: usize, s: &[u8]) -> usize

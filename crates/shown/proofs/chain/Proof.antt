@@ -53,11 +53,11 @@ returns-2 c =
     let s = start .args .s .now in
     let number = start .args .number in
     let scale = start .args .scale .now in
-    let behind = refusedText (refusalIn scale s) s ++ bytesIn "\n" in
+    let behind = refusedText (refusalIn scale number s) s ++ bytesIn "\n" in
     let same = ap (λ (n : ℕ). refusedText n s ++ bytesIn "\n") (refusal .chain-refusal .ensures) in
-    answered (start .args .out .now) (length s) (chainLine number scale s) (sym (room .before .has-line-room .ensures) ∙ not-false _ (room .if1 .left))
+    answered (start .args .out .now) (length s) (chainLine scale number s) (sym (room .before .has-line-room .ensures) ∙ not-false _ (room .if1 .left))
     (put-both (put-from (word .put .ensures)) (put-both (fields .put-chain .ensures .0) (puts-as same (end .put-end .ensures .0))))
-    (omega (arith, length-append (bytesIn "CHAIN") (chainText number scale s ++ behind), length-append (chainText number scale s) behind, fields .put-chain .ensures .1, subst (λ (x : List ℕ). length x ≤ 31 + 2 * length s) same (end .put-end .ensures .1)))
+    (omega (arith, length-append (bytesIn "CHAIN") (chainText scale number s ++ behind), length-append (chainText scale number s) behind, fields .put-chain .ensures .1, subst (λ (x : List ℕ). length x ≤ 31 + 2 * length s) same (end .put-end .ensures .1)))
 
 pub chain-spec : {M : Type 1} → statement M
 chain-spec =

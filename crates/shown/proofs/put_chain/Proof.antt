@@ -20,10 +20,10 @@ raw-chain-requires : tie.Need-raw-chain-requires
 raw-chain-requires c κs = search needs
 
 -- The fields of the chain that was read are the chain's text.
-read : (c : tie.After-raw-chain) → let a = c .before .before .before .before .before .args in chainFields (a .number) (a .scale .now) (c .raw-chain .result) ≡ chainText (a .number) (a .scale .now) (a .s .now)
+read : (c : tie.After-raw-chain) → let a = c .before .before .before .before .before .args in chainFields (a .scale .now) (a .number) (c .raw-chain .result) ≡ chainText (a .scale .now) (a .number) (a .s .now)
 read c =
     let a = c .before .before .before .before .before .args in
-    ap (chainFields (a .number) (a .scale .now)) (c .raw-chain .ensures ∙ ap (rawChainOf (a .s .now)) (c .before .factor-or .ensures))
+    ap (chainFields (a .scale .now) (a .number)) (c .raw-chain .ensures ∙ ap (rawChainOf (a .s .now)) (c .before .factor-or .ensures))
 
 enum-known-c : tie.Need-enum-known-c
 enum-known-c c = search needs
@@ -48,9 +48,9 @@ returns c =
     let told = stations .before .before .before in
     let chain = told .before .before in
     let a = chain .before .before .before .before .before .args in
-    let text = ap (chainFields (a .number) (a .scale .now)) (sym (told .c .given .1)) ∙ read chain in (
+    let text = ap (chainFields (a .scale .now) (a .number)) (sym (told .c .given .1)) ∙ read chain in (
       puts-as text (put-both (stations .put-stations .ensures .0) (factor .put-factor .ensures .0)),
-      subst (λ (x : List ℕ). length x ≤ 168) text (omega (arith, length-append (figuresText (a .number ∷ stationFigures (told .c .given .0 .0))) (factorText (a .scale .now)), stations .put-stations .ensures .1, factor .put-factor .ensures .1)),
+      subst (λ (x : List ℕ). length x ≤ 168) text (omega (arith, length-append (figuresText (a .number ∷ stationFigures (told .c .given .0 .0))) (factorText (a .scale .now) (a .number)), stations .put-stations .ensures .1, factor .put-factor .ensures .1)),
     )
 
 returns-2 : tie.Need-returns-2
@@ -58,7 +58,7 @@ unfolding chainFields
 returns-2 c =
     let chain = c .before .before in
     let a = chain .before .before .before .before .before .args in
-    let text = ap (chainFields (a .number) (a .scale .now)) (sym (c .enum-told .given .1)) ∙ read chain in
+    let text = ap (chainFields (a .scale .now) (a .number)) (sym (c .enum-told .given .1)) ∙ read chain in
     (puts-as text (puts-none (a .out .now) (a .at)), subst (λ (x : List ℕ). length x ≤ 168) text (omega arith))
 
 pub put-chain-spec : {M : Type 1} → statement M
