@@ -1,4 +1,4 @@
--- The table as it is made, one chain for each line.
+-- The table and its side file as they are made, one chain and its factor for each line.
 use Prim.Native.Nat.{ℕ, _+_, _*_, _≤_}
 use mathlib.Core.Bool.{Bool, true, false, cond}
 use mathlib.Core.List.{List}
@@ -7,8 +7,9 @@ use lib.Dec.{ltb, eqb}
 use lib.ListN.{length, take}
 use Rattle.chart.specs.declared.Chain.{Chain}
 use Rattle.records.specs.Bytes.{unless}
-use Rattle.records.specs.ChainTables.{chainBytes, mostChains}
+use Rattle.records.specs.ChainTables.{chainBytes, mostChains, factorBytes}
 use Rattle.writing.specs.ChainWriting.{chainRefusalOf, chainBufferOf, allSound, tableOf}
+use Rattle.writing.specs.FactorWriting.{factorBufferOf, scaleOf}
 use Rattle.text.specs.Puts.{withText}
 use Rattle.parsing.specs.declared.ParsedChain.{ParsedChain}
 use Rattle.parsing.specs.declared.ParsedChain.the-variants as parsed
@@ -43,11 +44,18 @@ tableWith table before (parsed.Chain c) = withText table (chainBytes * before) (
 tableWith table before parsed.Passed = table
 tableWith table before (parsed.Refused number) = table
 
--- The table begins with `count` chains, one after the other, each of them sound: those of some lines. Which lines were read depends
--- on the operating system.
-pub record HoldsChains (table : List ℕ) (count : ℕ) : Type 0 where
+-- The side file then: the factor's bytes, or zeros for one that is not allowed.
+abbrev pub scaleWith : List ℕ → ℕ → ParsedChain → List ℕ
+scaleWith scale before (parsed.Chain c) = withText scale (factorBytes * before) (factorBufferOf factorBytes (c .factor))
+scaleWith scale before parsed.Passed = scale
+scaleWith scale before (parsed.Refused number) = scale
+
+-- The table begins with `count` chains, one after the other, each of them sound, and the side file with their factors: those of some
+-- lines. Which lines were read depends on the operating system.
+pub record HoldsChains (table scale : List ℕ) (count : ℕ) : Type 0 where
   pub few : count ≤ mostChains
   pub chains : List Chain
   pub size : length chains ≡ count
   pub sound : allSound chains ≡ true
   pub bytes : take (chainBytes * count) table ≡ tableOf chains
+  pub factors : take (factorBytes * count) scale ≡ scaleOf chains

@@ -1,21 +1,25 @@
-// Writes chain.dat in the folder that it is run in, one chain for each line of standard input. Every line that is refused, and
-// anything that fails, is reported on standard error; then the file stays as it was.
+// Writes chain.dat and scale.dat in the folder that it is run in, one chain and its factor for each line of standard input. Every line
+// that is refused is reported on standard error; then both files stay as they were.
 ghost use mathlib.Core.Bool.{cond, _&&_};
 ghost use mathlib.Core.Path.{_≡_};
-ghost use Prim.Native.Nat.{_*_, _≤_};
+ghost use Prim.Native.Nat.{_*_, _≤_, _<_};
 ghost use lib.ListN.{length};
-ghost use Rattle.records.specs.ChainTables.{chainBytes, mostChains};
+ghost use Rattle.records.specs.ChainTables.{chainBytes, mostChains, factorBytes};
+ghost use Rattle.writing.specs.FactorWriting.{factorBufferOf};
+ghost use Rattle.text.specs.Puts.{withText};
 ghost use Rattle.parsing.specs.Parsed.{parsedChain};
 ghost use Rattle.parsing.specs.declared.ParsedChain.the-variants as parsed;
 ghost use Rattle.files.specs.Input.{atEnd};
-ghost use Rattle.laychain.specs.Tables.{verdictOf, lineVerdict, tableWith, chainsAfter, isWell, HoldsChains};
+ghost use Rattle.laychain.specs.Tables.{verdictOf, lineVerdict, tableWith, scaleWith, chainsAfter, isWell, HoldsChains};
 use chart::Chain;
 use files::Input;
 use parsing::ChainFault;
 use parsing::Form;
 use parsing::ParsedChain;
 use records::CHAIN_BYTES;
+use records::FACTOR_BYTES;
 use records::MOST_CHAINS;
+use records::SCALE_BYTES;
 use records::TABLE_BYTES;
 
 // What becomes of a line: its chain is in the table, it is passed over, or it is refused.
@@ -35,26 +39,34 @@ struct Sum {
 fn main() {
     let words = files::no_arguments(
         b"laychain",
-        b"laychain writes chain.dat, the table of station chains, in place of the one in this folder.
+        b"laychain writes chain.dat, the table of station chains, and scale.dat, their scale factors, in place of
+those in this folder.
 
 Each line of standard input is a chain, 1 to 16 of them, the first one chain 1:
 
-  E N E N E N    easting and northing of master, slave A and slave B, 0 to 100000000 and
-                 0 to 1000000000, no two stations on one spot; in centimetres in digits
-                 alone, or in metres with two decimals: 30001 is 300.01
+  E N E N E N [FACTOR]
+
+  E N     easting and northing of master, slave A and slave B, 0 to 100000000 and 0 to 1000000000,
+          no two stations on one spot; in centimetres in digits alone, or in metres with two
+          decimals: 30001 is 300.01
+  FACTOR  how long the chart's grid is for a length on the ground, in millionths, 999000 to 1001000;
+          1000000, the same length, if it is left out
 
 Blank lines, and lines that begin with #, are passed over. Each refused line is reported as soon as
-it is read, with the number of its refusal; then chain.dat stays as it was.
-The chain with its master at (0, 0), A at (30000, 0) and B at (0, 40000):
+it is read, with the number of its refusal; then both files stay as they were.
+The chain with its master at (0, 0), A at (30000, 0) and B at (0, 40000), and the same with the factor 0.9996:
 
   echo 0 0 30000 0 0 40000 | laychain
+  echo 0 0 30000 0 0 40000 999600 | laychain
 ",
     );
     let expected = b"the chains are read from standard input, one line each";
     if !files::none_given(b"laychain", words, expected) {
         return;
     }
-    if files::is_free(b"laychain", b"chain.dat", b"chain.dat.new") {
+    if files::is_free(b"laychain", b"chain.dat", b"chain.dat.new")
+        && files::is_free(b"laychain", b"scale.dat", b"scale.dat.new")
+    {
         make_table();
     }
 }
@@ -62,31 +74,35 @@ The chain with its master at (0, 0), A at (30000, 0) and B at (0, 40000):
 fn make_table() {
     let mut buffer = [0u8; files::LINE_BYTES];
     let mut table = [0u8; TABLE_BYTES];
-    let chains = read_chains(&mut buffer, &mut table);
+    let mut scale = [0u8; SCALE_BYTES];
+    let chains = read_chains(&mut buffer, &mut table, &mut scale);
     if chains == 0 {
         return;
     }
-    if files::replace(
+    if files::replace_pair(
         b"laychain",
         b"chain.dat",
         b"chain.dat.new",
         &table[0..CHAIN_BYTES * chains],
+        b"scale.dat",
+        b"scale.dat.new",
+        &scale[0..FACTOR_BYTES * chains],
         files::END_TRIES,
     ) {
-        files::written(
-            b"laychain",
-            b"chain.dat",
-            b"chain",
-            chains as u64,
-            chains as u64,
-        );
+        told(chains as u64);
     }
 }
 
-// Reads the chains into the table and returns how many there are; 0 if something was refused, which has been printed.
-fn read_chains(buffer: &mut [u8], table: &mut [u8]) -> usize
-    requires { ⌜ length (now table) ≡ chainBytes * mostChains ⌝ }
-    ensures { λ r. ⌜ HoldsChains (now (table .exit)) r ⌝ }
+fn told(chains: u64) {
+    files::written(b"laychain", b"chain.dat", b"chain", chains, chains);
+    files::written(b"laychain", b"scale.dat", b"factor", chains, chains);
+}
+
+// Reads the chains into the table, and their factors into the side file, and returns how many there are; 0 if something was refused,
+// which has been printed.
+fn read_chains(buffer: &mut [u8], table: &mut [u8], scale: &mut [u8]) -> usize
+    requires { ⌜ (length (now table) ≡ chainBytes * mostChains) × (length (now scale) ≡ factorBytes * mostChains) ⌝ }
+    ensures { λ r. ⌜ HoldsChains (now (table .exit)) (now (scale .exit)) r ⌝ }
 {
     let mut from = buffer.len();
     let mut to = buffer.len();
@@ -104,7 +120,7 @@ fn read_chains(buffer: &mut [u8], table: &mut [u8]) -> usize
         let Input::Line { start, end, stop } = input else {
             return ended(input, line, count, well, tally);
         };
-        let verdict = put_line(table, count, &buffer[start..end]);
+        let verdict = put_line(table, scale, count, &buffer[start..end]);
         report(line, &buffer[start..end], verdict);
         count = chains_after(count, verdict);
         well = accepted(well, verdict);
@@ -227,29 +243,41 @@ fn none(tally: Sum) -> usize
     0
 }
 
-// Puts the chain of a line into the table, after `before` others.
-fn put_line(table: &mut [u8], before: usize, line: &[u8]) -> Verdict
-    requires { ⌜ length (now table) ≡ chainBytes * mostChains ⌝ }
+// Puts the chain of a line into the table and its factor into the side file, after `before` others.
+fn put_line(table: &mut [u8], scale: &mut [u8], before: usize, line: &[u8]) -> Verdict
+    requires { ⌜ (length (now table) ≡ chainBytes * mostChains) × (length (now scale) ≡ factorBytes * mostChains) ⌝ }
     ensures answer { λ r. ⌜ r ≡ lineVerdict before (parsedChain (now (line .entry))) ⌝ }
     ensures table { λ r. ⌜ now (table .exit) ≡ tableWith (now (table .entry)) before (parsedChain (now (line .entry))) ⌝ }
+    ensures scale { λ r. ⌜ now (scale .exit) ≡ scaleWith (now (scale .entry)) before (parsedChain (now (line .entry))) ⌝ }
 {
     match parsing::chain(line) {
-        ParsedChain::Chain(c) => put_chain(table, before, c),
+        ParsedChain::Chain(c) => put_chain(table, scale, before, c),
         ParsedChain::Passed => Verdict::Passed,
         ParsedChain::Refused(number) => Verdict::Refused(number),
     }
 }
 
-fn put_chain(table: &mut [u8], before: usize, c: Chain) -> Verdict
-    requires { ⌜ length (now table) ≡ chainBytes * mostChains ⌝ }
+fn put_chain(table: &mut [u8], scale: &mut [u8], before: usize, c: Chain) -> Verdict
+    requires { ⌜ (length (now table) ≡ chainBytes * mostChains) × (length (now scale) ≡ factorBytes * mostChains) ⌝ }
     ensures answer { λ r. ⌜ r ≡ lineVerdict before (parsed.Chain c) ⌝ }
     ensures table { λ r. ⌜ now (table .exit) ≡ tableWith (now (table .entry)) before (parsed.Chain c) ⌝ }
+    ensures scale { λ r. ⌜ now (scale .exit) ≡ scaleWith (now (scale .entry)) before (parsed.Chain c) ⌝ }
 {
     if before >= MOST_CHAINS {
         return Verdict::Refused(1);
     }
+    put_factor(scale, before, c.factor);
     let at = CHAIN_BYTES * before;
     by_refusal(writing::write_chain(&mut table[at..at + CHAIN_BYTES], c))
+}
+
+// The factor of a chain that is refused does not matter: then nothing is written.
+fn put_factor(scale: &mut [u8], before: usize, factor: u32)
+    requires { ⌜ (length (now scale) ≡ factorBytes * mostChains) × (before < mostChains) ⌝ }
+    ensures { λ _. ⌜ now (scale .exit) ≡ withText (now (scale .entry)) (factorBytes * before) (factorBufferOf factorBytes factor) ⌝ }
+{
+    let at = FACTOR_BYTES * before;
+    writing::write_factor(&mut scale[at..at + FACTOR_BYTES], factor);
 }
 
 fn by_refusal(number: u32) -> Verdict
@@ -303,6 +331,7 @@ fn refuse_stations(line: u64, text: &[u8], fault: ChainFault) {
             word,
             b"this station stands on the spot of one before it",
         ),
+        ChainFault::Factor => refused(line, text, 6, b"a factor is 999000 to 1001000 millionths"),
     }
 }
 

@@ -17,7 +17,7 @@ use Rattle.layshow.specs.Walks.{PutLine}
 module _ (o : List ℕ) (at bytes : ℕ) (fits : at + lineRoom bytes ≤ length o) where
   -- The room that is lent, and what is after it.
   abbrev lent : ℕ
-  lent = at + 192 + 2 * bytes - at
+  lent = at + 208 + 2 * bytes - at
 
   abbrev room : List ℕ
   room = take lent (drop at o)

@@ -2,8 +2,9 @@
 use mathlib.Core.Path.{sym, ap, _∙_}
 use native.Mathlib.Omega.{arith}
 use borrow.Author.Tests.{not-false}
-use borrow.Author.Needs.{needs}
 use Rattle.files.specs.Answers.{filledBytes}
+use Rattle.files.proofs.OpenLaws.{started-room}
+use borrow.Author.Needs.{needs}
 use Rattle.laylist.proofs.by_job.Statement.{statement}
 use Rattle.laylist.proofs.by_job.Tie as tie
 
@@ -16,17 +17,26 @@ same-length c = search needs
 returns : tie.Need-returns
 returns c = search needs
 
-slice-aggregate-start : tie.Need-slice-aggregate-start
-slice-aggregate-start c = search needs
+slice-aggregate-open : tie.Need-slice-aggregate-open
+slice-aggregate-open c = search needs
 
-slice-aggregate-start-2 : tie.Need-slice-aggregate-start-2
-slice-aggregate-start-2 c = search needs
+slice-aggregate-open-2 : tie.Need-slice-aggregate-open-2
+slice-aggregate-open-2 c = search needs
 
-slice-aggregate-start-3 : tie.Need-slice-aggregate-start-3
-slice-aggregate-start-3 c = search needs
+open-requires : tie.Need-open-requires
+open-requires c κs = search needs
 
-start-requires : tie.Need-start-requires
-start-requires c κs = search needs
+slice-aggregate-start-of : tie.Need-slice-aggregate-start-of
+slice-aggregate-start-of c = search needs
+
+slice-aggregate-start-of-2 : tie.Need-slice-aggregate-start-of-2
+slice-aggregate-start-of-2 c = search needs
+
+slice-aggregate-start-of-3 : tie.Need-slice-aggregate-start-of-3
+slice-aggregate-start-of-3 c = search needs
+
+start-of-requires : tie.Need-start-of-requires
+start-of-requires c κs = search needs
 
 enum-known-n : tie.Need-enum-known-n
 enum-known-n c = search needs
@@ -47,11 +57,14 @@ part-by-table-start : tie.Need-part-by-table-start
 part-by-table-start c = search needs
 
 part-by-table-end : tie.Need-part-by-table-end
-part-by-table-end c = omega (arith, ap filledBytes (c .before .before .before .n .given .1))
+part-by-table-end c =
+    let told = c .before .before .before in
+    let read = told .before .before .before in
+    omega (arith, ap filledBytes (told .n .given .1), started-room (read .before .before .before .before .«open» .result) (read .start-of .result) (read .start-of .ensures))
 
 by-table-requires : tie.Need-by-table-requires
 by-table-requires c κs =
-    let judged = c .before .before .before .before .before .before .before .before .before .before .before in
+    let judged = c .before .before .before .before .before .before .before .before .before .before .before .before .before .before in
     let call = judged .before .before .before in
     (search needs, sym (call .job-accepted .ensures) ∙ not-false _ (judged .if1 .left))
 
@@ -68,10 +81,13 @@ by-job-spec =
     job-accepted-requires
     same-length
     returns
-    slice-aggregate-start
-    slice-aggregate-start-2
-    slice-aggregate-start-3
-    start-requires
+    slice-aggregate-open
+    slice-aggregate-open-2
+    open-requires
+    slice-aggregate-start-of
+    slice-aggregate-start-of-2
+    slice-aggregate-start-of-3
+    start-of-requires
     enum-known-n
     enum-told
     same-length-2

@@ -20,6 +20,9 @@ slice-aggregate-print-part c = search needs
 slice-aggregate-print-part-2 : tie.Need-slice-aggregate-print-part-2
 slice-aggregate-print-part-2 c = search needs
 
+slice-aggregate-print-part-3 : tie.Need-slice-aggregate-print-part-3
+slice-aggregate-print-part-3 c = search needs
+
 print-part-requires : tie.Need-print-part-requires
 print-part-requires c κs = search needs
 
@@ -33,7 +36,7 @@ same-length c = search needs
 returns-2 : tie.Need-returns-2
 unfolding acceptsJob
 returns-2 c =
-    let told = c .before .before .before .before .before .before in
+    let told = c .before .before .before .before .before .before .before in
     ap acceptsJob (sym (told .enum-told2 .given .1) ∙ told .before .before .job-of .ensures)
 
 pub job-accepted-spec : {M : Type 1} → statement M
@@ -45,6 +48,7 @@ job-accepted-spec =
     enum-told-2
     slice-aggregate-print-part
     slice-aggregate-print-part-2
+    slice-aggregate-print-part-3
     print-part-requires
     returns
     same-length

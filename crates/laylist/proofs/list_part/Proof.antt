@@ -23,7 +23,7 @@ returns : tie.Need-returns
 returns c =
     let told = c .before in
     let call = told .before .before .before .before in
-    let start = call .before .before .before .before .before .before in
+    let start = call .before .before .before .before .before .before .before in
     let a = start .args in
     let room = roomy (a .out .now) (a .part .now) (start .pre .0) (start .pre .1 .few) in
     let p = listingFrom (a .job .now) (a .table .now) (a .scale .now) (a .part .now) (a .before) in
@@ -36,7 +36,7 @@ same-length-2 c = search needs
 returns-2 : tie.Need-returns-2
 returns-2 c =
     let call = c .before .before .before .before in
-    let start = call .before .before .before .before .before .before in
+    let start = call .before .before .before .before .before .before .before in
     let a = start .args in
     let room = roomy (a .out .now) (a .part .now) (start .pre .0) (start .pre .1 .few) in
     let p = listingFrom (a .job .now) (a .table .now) (a .scale .now) (a .part .now) (a .before) in

@@ -41,7 +41,7 @@ print-part-requires : tie.Need-print-part-requires Inv-loop μ-loop
 print-part-requires c κs =
     let end = c .before .before in
     let told = end .before .before .before in
-    let a = told .before .before .before .before .before .args in
+    let a = told .before .before .before .before .before .before .args in
     let bytes = told .bytes-at-once in
     (search needs, at-once (a .job .now) _ (omega (arith, bytes .ensures, end .piece-end .ensures)))
 
@@ -61,7 +61,7 @@ loop-less : tie.Need-loop-less Inv-loop μ-loop
 loop-less c =
     let end = c .before .before .before .before .before .before .before .before in
     let told = end .before .before .before in
-    let a = told .before .before .before .before .before .args in
+    let a = told .before .before .before .before .before .before .args in
     let some = whole-records (jobOf (a .job .now)) (told .bytes-at-once .ensures) .0 in
     omega (arith, some, end .piece-end .ensures)
 
@@ -72,7 +72,7 @@ loop-again c =
     let end = call .before .before .before in
     let loop = end .before .before in
     let known = loop .before in
-    let start = known .before .before .before .before .before in
+    let start = known .before .before .before .before .before .before in
     let a = start .args in
     let bytes = known .bytes-at-once in
     let whole = whole-records (jobOf (a .job .now)) (bytes .ensures) .1 in (
@@ -90,7 +90,7 @@ same-length-2 c = search needs
 returns-2 : tie.Need-returns-2 Inv-loop μ-loop
 returns-2 c =
     let loop = c .before in
-    let start = loop .before .before .before .before .before .before in
+    let start = loop .before .before .before .before .before .before .before in
     let a = start .args in
     sym (loop .loop .inv .1 .1 ∙ nothing-left (a .job .now) (a .table .now) (a .scale .now) (start .pre .1) (a .log .now) (loop .loop .done) (loop .loop .carried) (search needs))
 

@@ -17,6 +17,9 @@ enum-told-2 c = search needs
 slice-aggregate-print-part : tie.Need-slice-aggregate-print-part
 slice-aggregate-print-part c = search needs
 
+slice-aggregate-print-part-2 : tie.Need-slice-aggregate-print-part-2
+slice-aggregate-print-part-2 c = search needs
+
 print-part-requires : tie.Need-print-part-requires
 print-part-requires c κs = search needs
 
@@ -30,7 +33,7 @@ same-length c = search needs
 returns-2 : tie.Need-returns-2
 unfolding acceptsTable
 returns-2 c =
-    let told = c .before .before .before .before .before in
+    let told = c .before .before .before .before .before .before in
     ap acceptsTable (sym (told .enum-told2 .given .1) ∙ told .before .before .chain-count .ensures)
 
 pub table-accepted-spec : {M : Type 1} → statement M
@@ -41,6 +44,7 @@ table-accepted-spec =
     enum-told
     enum-told-2
     slice-aggregate-print-part
+    slice-aggregate-print-part-2
     print-part-requires
     returns
     same-length
