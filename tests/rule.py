@@ -1,5 +1,5 @@
 """The rules of document 01 in whole numbers and exact fractions, section by section in that paper's order, with what document 02
-adds to them. The Python programs of the tests share this one statement of them; the second program, second/, does not use it.
+changes in them and adds to them. The Python programs of the tests share this one statement of them; the second program, second/, does not use it.
 
 A place is a pair, easting and northing, in centimetres. Readings are a tuple, one for each slave of a chain. A rule that can
 refuse makes its tests in the order that 01 gives, each with the number of its refusal.
@@ -48,14 +48,17 @@ def flat(places):
     return [number for place in places for number in place]
 
 
-# 01, Distance and reading
+# 01, Distance and reading, with the scale factor of 02's A3, in millionths
+
+UNIT, LEAST_FACTOR, MOST_FACTOR = 1_000_000, 999_000, 1_001_000
 
 
 class Chain(NamedTuple):
-    """The places of the master and of the slaves A and B."""
+    """The places of the master and of the slaves A and B, and the scale factor."""
 
     master: tuple
     slaves: tuple
+    factor: int = UNIT
 
 
 def stations(chain):
@@ -68,20 +71,24 @@ def distance(p, q):
 
 
 def range_of(chain, station, place):
-    """The distance from a station of a chain to a place, as it is used in readings."""
-    return distance(place, station)
+    """The whole part of the distance, which is cut already, times 1,000,000 divided by the factor: grid to ground."""
+    return distance(place, station) * UNIT // chain.factor
 
 
 def readings(chain, place):
-    """For each slave its distance less the master's, each cut to a whole number first."""
+    """For each slave its range less the master's, each cut to a whole number first."""
     to_master = range_of(chain, chain.master, place)
     return tuple(range_of(chain, slave, place) - to_master for slave in chain.slaves)
 
 
 def is_sound(chain):
-    """All its places are in range, and no two are equal."""
+    """Its factor and all its places are in range, and no two places are equal."""
     places = stations(chain)
-    return all(map(in_range, places)) and len(set(places)) == len(places)
+    return is_factor(chain.factor) and all(map(in_range, places)) and len(set(places)) == len(places)
+
+
+def is_factor(factor):
+    return LEAST_FACTOR <= factor <= MOST_FACTOR
 
 
 def agrees(chain, place, wanted, by):
@@ -170,32 +177,43 @@ def record_bytes(record, length=32):
     return struct.pack("<BBxxI24s", record.kind, record.chain if record.kind == 1 else 0, record.line, fields)
 
 
-# 01, The records: the chain table
+# 01, The records: the chain table; 02, A3: the side file with a factor for each chain
 
 
 def pieces(s, size):
     return [s[at : at + size] for at in range(0, len(s), size)]
 
 
-def chain_of(numbers):
+def chain_of(numbers, factor=UNIT):
     """The chain with these numbers: easting and northing of the master, then of each slave."""
     master, *slaves = zip(numbers[0::2], numbers[1::2])
-    return Chain(master, tuple(slaves))
+    return Chain(master, tuple(slaves), factor)
 
 
 def chain_bytes(chain):
     return struct.pack("<6I", *flat(stations(chain)))
 
 
-def chains_in(table):
-    """Every chain of a table, sound or not."""
+def factor_bytes(factor):
+    return struct.pack("<I", factor)
+
+
+def stations_in(table):
+    """Every chain of a table as the table alone has it: with a factor that does not count."""
     refuse(1, len(table) % 24 or not 1 <= len(table) // 24 <= 16)
     return [chain_of(struct.unpack("<6I", s)) for s in pieces(table, 24)]
 
 
-def chain_in(table, number):
+def chains_in(table, scale):
+    """Every chain of a table with its factor, sound or not."""
+    chains = stations_in(table)
+    refuse(1, len(scale) != 4 * len(chains))
+    return [chain._replace(factor=factor) for chain, (factor,) in zip(chains, struct.iter_unpack("<I", scale))]
+
+
+def chain_in(table, scale, number):
     """The chain with this number; the first chain has number 1."""
-    chains = chains_in(table)
+    chains = chains_in(table, scale)
     refuse(5, not 1 <= number <= len(chains))
     refuse(5, not is_sound(chains[number - 1]))
     return chains[number - 1]
@@ -245,7 +263,7 @@ def job_in(s):
     return raw_job(s)
 
 
-# 01, The search and its count
+# 01, The search and its count, with the greater difference of 02's A3
 
 
 def walk(chain, wanted, job):
@@ -256,7 +274,7 @@ def walk(chain, wanted, job):
         corner, side = squares.pop()
         yield corner, side
         half = side // 2
-        if side > 1 and agrees(chain, moved(corner, half, half), wanted, job.tolerance + 2 * side + 2):
+        if side > 1 and agrees(chain, moved(corner, half, half), wanted, job.tolerance + 2 * side + 4):
             for east, north in (half, half), (0, half), (half, 0), (0, 0):
                 squares.append((moved(corner, east, north), half))
 
@@ -324,14 +342,14 @@ def how_many(chain, wanted, job):
 # 01, Numbers of refusal: a place's expected readings
 
 
-def expected(table, number, place):
-    """4 precedes 5; the length of the table (1) is tested before both."""
-    chains_in(table)
+def expected(table, scale, number, place):
+    """4 precedes 5; the lengths of the table and of the side file (1) are tested before both."""
+    chains_in(table, scale)
     refuse(4, not in_range(place))
-    return readings(chain_in(table, number), place)
+    return readings(chain_in(table, scale, number), place)
 
 
-# 01, The program, with the last field of 02's A1
+# 01, The program, with the last field of 02's A1 and the side file of A3
 
 ROOM = 256
 
@@ -351,7 +369,7 @@ def refused(number, visits=0):
     return "REFUSED", number, visits, [], []
 
 
-def answer(job, table, held, s, find):
+def answer(job, table, scale, held, s, find):
     """A record's word, the count of its places or the number of its refusal, the visits, the places, and a list of its last field,
     which is empty for a refused record. `held` is what a hold repeats, or None."""
     refusal, record = tried(log_record, s)
@@ -361,29 +379,32 @@ def answer(job, table, held, s, find):
         return given("HOLD", [held.place], held.rounded) if held else refused(11)
     if record.kind == 2:
         return given("GRID", [record.numbers], rounded(record.marks))
-    refusal, chain = tried(chain_in, table, record.chain)
+    refusal, chain = tried(chain_in, table, scale, record.chain)
     if refusal:
         return refused(refusal)
     refusal, visits, places = find(chain, record.numbers, job, ROOM)
     return refused(refusal, visits) if refusal else given("FIX", places, rounded(record.marks), visits)
 
 
-def lines(job, table, log, held, find):
+def lines(job, table, scale, log, held, find):
     """One line for each record, and with it what a hold after it repeats, or None."""
     for s in pieces(log, 32):
-        *words, places, last = answer(job, table, held, s, find)
+        *words, places, last = answer(job, table, scale, held, s, find)
         held = Held(*places, *last) if len(places) == 1 else None
         line = raw_record(s).line if len(s) == 32 else "-"
         yield " ".join(map(str, (line, *words, *flat(places), *last))), held
 
 
-def listing(job, table, log, held=None, find=search):
-    """The lines for the bytes of the three files. `log` may be a part of a log; then `held` is what the part before it leaves to
+def listing(job, table, scale, log, held=None, find=search):
+    """The lines for the bytes of the four files. `log` may be a part of a log; then `held` is what the part before it leaves to
     repeat. `find` may be another search that answers the same."""
     refusal, asked = tried(job_in, job)
     if refusal:
         return [(f"JOB REFUSED {refusal}", None)]
-    refusal, _ = tried(chains_in, table)
+    refusal, _ = tried(stations_in, table)
     if refusal:
         return [(f"CHAIN REFUSED {refusal}", None)]
-    return list(lines(asked, table, log, held, find))
+    refusal, _ = tried(chains_in, table, scale)
+    if refusal:
+        return [(f"SCALE REFUSED {refusal}", None)]
+    return list(lines(asked, table, scale, log, held, find))
