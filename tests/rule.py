@@ -1,5 +1,6 @@
 """The rules of document 01 in whole numbers and exact fractions, section by section in that paper's order, with what document 02
-changes in them and adds to them. The Python programs of the tests share this one statement of them; the second program, second/, does not use it.
+changes in them and adds to them. The Python programs of the tests share this one statement of them; the second program, second/,
+does not use it.
 
 A place is a pair, easting and northing, in centimetres. Readings are a tuple, one for each slave of a chain. A rule that can
 refuse makes its tests in the order that 01 gives, each with the number of its refusal.

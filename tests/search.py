@@ -6,13 +6,14 @@
     search.py answers      answers the requests on standard input
 
 The rule finds its places by its walk through quarters. To check them, they are also found without the walk: by halving boxes, with
-the least and the greatest distance of the cells of a box from each station, and in a small window cell by cell too. They are put
+the least and the greatest range of the cells of a box from each station, and in a small window cell by cell too. They are put
 in order by their interleaved numbers. How many there are must agree with the places. If the ways differ, the program stops without
 an answer.
 """
 import random
 import struct
 import sys
+from math import isqrt
 from typing import NamedTuple
 
 # Without this the modules beside this one would leave compiled files in the tree.
@@ -35,10 +36,11 @@ class Request(NamedTuple):
     allowance: int
     entries: int
     held: int
+    factor: int = rule.UNIT
 
     @property
     def chain(self):
-        return rule.Chain(self.master, (self.a, self.b))
+        return rule.Chain(self.master, (self.a, self.b), self.factor)
 
     @property
     def job(self):
@@ -53,7 +55,7 @@ def line_of(r, verb="search"):
     """The request by a verb: `search`, which has a list, or `how_many`, which has none."""
     chain, job = rule.flat(rule.stations(r.chain)), (*r.corner, *r.job[1:])
     list_of = (r.entries, r.held) if verb == "search" else ()
-    return " ".join(map(str, (verb, *list_of, commas(chain), commas(job), *r.wanted)))
+    return " ".join(map(str, (verb, *list_of, commas(chain), r.factor, commas(job), *r.wanted)))
 
 
 def bytes_of(word, made):
@@ -80,13 +82,13 @@ def told_how_many(*given):
     return refusal, answer, *place, visits
 
 
-def by_words(chain, job, *wanted):
+def by_words(chain, factor, job, *wanted):
     """What is asked by these words. The bytes are tested first: 1 for the lengths, and 2 for what must be zero in a job."""
     chain = bytes_of(chain, lambda n: rule.chain_bytes(rule.chain_of(n)))
     job = bytes_of(job, lambda n: rule.job_bytes(rule.Job((n[0], n[1]), *n[2:])))
     rule.refuse(1, len(chain) != 24 or len(wanted) != 2 or len(job) != 32)
     rule.refuse(2, any(rule.job_zeros(job)))
-    return rule.chain_of(struct.unpack("<6I", chain)), tuple(map(int, wanted)), rule.raw_job(job)
+    return rule.chain_of(struct.unpack("<6I", chain), int(factor)), tuple(map(int, wanted)), rule.raw_job(job)
 
 
 def readings(r, p):
@@ -97,7 +99,7 @@ def readings(r, p):
 
 
 def span(chain, station, box):
-    """The least and the greatest distance from a station to the cells of a box: to the nearest cell, and to the farthest corner."""
+    """The least and the greatest range from a station to the cells of a box: to the nearest cell, and to the farthest corner."""
     west, south, east, north = box
     e, n = station
     nearest = min(max(e, west), east), min(max(n, south), north)
@@ -116,7 +118,7 @@ def can_match(chain, wanted, tolerance, box):
 
 def by_boxes(chain, wanted, job):
     """The matching cells. Boxes that may hold one are halved, down to single cells, for which the test is exact: their least and
-    greatest distances are the same."""
+    greatest ranges are the same."""
     boxes = [(*job.corner, *moved(job.corner, 2**job.k - 1, 2**job.k - 1))]
     while boxes:
         west, south, east, north = box = boxes.pop()
@@ -177,7 +179,7 @@ P4 = Request((0, 0), (30000, 0), (0, 40000), (-10000, -20000), (30000, 40000), 1
 PAPER = P4._replace(
     master=(50_000_000, 500_000_000), a=(40_000_000, 490_000_000), b=(60_000_000, 500_000_000), allowance=AMPLE
 )
-# Stations as far apart as they may be if the readings at every place of the chart are to be within the limit.
+# Stations as far apart as they may be if the readings at every place of the chart are to be within the limit, by the usual factor.
 WIDE = P4._replace(master=(0, 0), a=(0, NORTH - 1), b=(EAST, 0))
 
 
@@ -239,6 +241,7 @@ def refusals():
     faults = (
         {"wanted": (-10000, 1_000_000_001)},
         {"b": (0, 0)},
+        {"factor": 998_999},
         {"corner": (EAST, 40000)},
         {"tolerance": 100_001},
         {"entries": 1},
@@ -266,28 +269,33 @@ def chains():
 
 
 # Chain, readings, corner, k, count and visits, worked out independently: hyperbolas that cross twice, in the chain of source
-# document 002 and in one whose stations lie in a line; then that document's four points.
+# document 002 and in one whose stations lie in a line; then that document's four points, with the factor 1,000,000 and with the one
+# that fits its lines to the master and A.
 LINE = PAPER._replace(a=(49_000_000, 500_000_000), b=(51_000_000, 500_000_000))
+GROUND = PAPER._replace(factor=999_641)
 CROSSINGS = (
-    (PAPER, (12205441, 9172617), (47499999, 497945629), 24, 3, 2753),
-    (LINE, (894427, 698348), (50000000, 499700000), 20, 2, 1821),
-    (PAPER, (5857865, -4142135), (55805696, 485805696), 23, 2, 3625),
-    (PAPER, (5928647, -4171602), (55805696, 485905696), 23, 1, 3557),
-    (PAPER, (5886978, -4212523), (55905696, 485805696), 23, 4, 3721),
-    (PAPER, (5957406, -4242337), (55905696, 485905696), 23, 2, 3689),
+    (PAPER, (12205441, 9172617), (47499999, 497945629), 24, 3, 3117),
+    (LINE, (894427, 698348), (50000000, 499700000), 20, 2, 2085),
+    (PAPER, (5857865, -4142135), (55805696, 485805696), 23, 2, 4097),
+    (PAPER, (5928647, -4171602), (55805696, 485905696), 23, 1, 4025),
+    (PAPER, (5886978, -4212523), (55905696, 485805696), 23, 4, 4225),
+    (PAPER, (5957406, -4242337), (55905696, 485905696), 23, 2, 4209),
+    (GROUND, (5859969, -4143622), (55805696, 485805696), 23, 2, 4097),
+    (GROUND, (5930776, -4173100), (55805696, 485905696), 23, 1, 4025),
+    (GROUND, (5889092, -4214036), (55905696, 485805696), 23, 4, 4225),
+    (GROUND, (5959545, -4243861), (55905696, 485905696), 23, 2, 4209),
 )
 
 
 def crossings():
-    """Room and allowance ample, and just enough."""
+    """Room and allowance ample, and just enough; the last visit not allowed, and no room for the last place."""
     for chain, wanted, corner, k, count, visits in CROSSINGS:
         r = chain._replace(wanted=wanted, corner=corner, k=k)
         yield r._replace(entries=20)
         yield r._replace(entries=2 * count, allowance=visits)
-    # the last visit not allowed, and no room for the last place
-    yield r._replace(allowance=visits - 1)
-    yield r._replace(entries=2 * count - 1)
-    # windows about P4's first place, whose visits are known as well: 729 and 2009
+        yield r._replace(allowance=visits - 1)
+        yield r._replace(entries=2 * count - 1)
+    # windows about P4's first place, whose visits are known as well: 945 and 2529
     yield p4(corner=(29984, 39984), k=5, allowance=AMPLE)
     yield p4(corner=(27952, 37952), k=12, allowance=AMPLE)
 
@@ -358,8 +366,8 @@ def differences():
     place = 30001, 40001
     yield from about(own(P4, place), 0)
     yield from about(own(p4(tolerance=100_000), place), 100_000)
-    yield from about(own(P4, place, corner=moved(place, -1, -1), k=1), 6)
-    yield from about(own(p4(tolerance=5), place, corner=moved(place, -4, -4), k=3), 23)
+    yield from about(own(P4, place, corner=moved(place, -1, -1), k=1), 8)
+    yield from about(own(p4(tolerance=5), place, corner=moved(place, -4, -4), k=3), 25)
     yield from about(own(P4, P4.a), 0)
     yield from about(own(p4(tolerance=3), P4.b), 3)
 
@@ -390,6 +398,41 @@ def close_errors():
         yield p4(a=(10_000_125, NORTH), b=(1, 0), wanted=(NORTH, 1), corner=(0, 0), k=0, tolerance=tolerance)
 
 
+# Factors about the ends of their range and about 1,000,000, and others that have no place in it.
+FACTORS = 999_000, 999_001, 999_641, 999_999, 1_000_001, 1_000_999, 1_001_000
+NO_FACTORS = 0, 1, 998_999, 1_001_001, 2_000_000, 2**31, 2**32 - 1
+
+
+def factors():
+    """Factors out of range; then by others the readings of places near and far, the places beside them, and the readings that a
+    wrong rule would give."""
+    for factor in NO_FACTORS:
+        yield p4(factor=factor)
+        yield p4(factor=factor, wanted=(0, 2**40))
+        yield p4(factor=factor, k=25)
+    for factor in FACTORS:
+        for r in (each._replace(factor=factor) for each in (P4, PAPER, WIDE)):
+            for p in P4.corner, (30001, 40000), (1, 1), r.master, r.b, (EAST, NORTH), (61_234_567, 487_654_321):
+                yield own(r, p)
+                yield own(r, p, corner=(min(p[0], EAST - 7), min(p[1], NORTH - 7)), k=3, tolerance=1, entries=128, allowance=AMPLE)
+                yield from (r._replace(wanted=wanted, corner=p, k=0) for wanted in misread(r.chain, p))
+        for tolerance in 0, 2:
+            r = p4(factor=factor, tolerance=tolerance, entries=600, allowance=AMPLE)
+            yield own(r, P4.corner, corner=(29984, 39984), k=5)
+
+
+def misread(chain, place):
+    """The readings of a place without the factor, with it the other way round, with one cut of root and quotient, and with one cut
+    of the difference; some may be right by chance."""
+    f, unit = chain.factor, rule.UNIT
+    squares = [(place[0] - e) ** 2 + (place[1] - n) ** 2 for e, n in rule.stations(chain)]
+    plain, turned = map(isqrt, squares), (isqrt(s) * f // unit for s in squares)
+    once = (isqrt(s * unit * unit // (f * f)) for s in squares)
+    for to_master, *to_slaves in map(list, (plain, turned, once)):
+        yield tuple(each - to_master for each in to_slaves)
+    yield tuple((isqrt(s) - isqrt(squares[0])) * unit // f for s in squares[1:])
+
+
 def stations():
     """Places on the stations and beside them, each found by its own readings."""
     for r in P4, PAPER, WIDE:
@@ -416,7 +459,10 @@ def decisions():
             yield p4(a=(1, 0), b=(0, 1), wanted=wanted, corner=(0, 0), k=24, allowance=allowance)
 
 
-NAMED = examples, limits, edges, refusals, chains, crossings, lists, allowances, orders, differences, close_errors, stations
+NAMED = (
+    *(examples, limits, edges, refusals, chains, factors, crossings),
+    *(lists, allowances, orders, differences, close_errors, stations),
+)
 
 
 def by_their_bytes():
@@ -430,7 +476,8 @@ def by_their_bytes():
         for asked in jobs:
             for wanted in "-10000 -20000", "-10000 1000000001", "-10000", "", "-10000 -20000 0":
                 for verb in "search 8 7", "how_many":
-                    yield " ".join(filter(None, (verb, stations.hex() or "-", asked.hex() or "-", wanted)))
+                    for factor in "1000000", "0":
+                        yield " ".join(filter(None, (verb, stations.hex() or "-", factor, asked.hex() or "-", wanted)))
 
 
 def beside(draw, p, reach):
@@ -446,6 +493,10 @@ def around(draw, p, k):
     return min(max(east, 0), EAST + 1 - 2**k), min(max(north, 0), NORTH + 1 - 2**k)
 
 
+def drawn_factor(draw):
+    return draw.choice((rule.UNIT, rule.UNIT, draw.choice(FACTORS), draw.randint(rule.LEAST_FACTOR, rule.MOST_FACTOR)))
+
+
 def with_fault(draw, r):
     """The request with one thing wrong in it, or just within its limit."""
     return draw.choice(
@@ -455,6 +506,7 @@ def with_fault(draw, r):
             r._replace(master=(draw.randint(EAST - 1, EAST + 2), r.master[1])),
             r._replace(b=(r.b[0], draw.getrandbits(32))),
             r._replace(b=draw.choice((r.master, r.a))),
+            r._replace(factor=draw.choice((998_999, 1_001_001, draw.getrandbits(32) | 1))),
             r._replace(corner=(EAST + 1 - 2**r.k + draw.randint(0, 2), r.corner[1])),
             r._replace(corner=(draw.getrandbits(32), draw.getrandbits(32))),
             r._replace(k=draw.randint(23, 40)),
@@ -472,8 +524,8 @@ def drawn(draw):
         k, reach = draw.randint(0, 6), draw.choice((4, 40, 1_000, 100_000, 10**7, NORTH))
         tolerance = draw.randint(0, draw.choice((0, 0, 1, 2, 30, 30, 100_000)))
     place = beside(draw, draw.choice(CORNERS), draw.choice((2**k, NORTH, NORTH)))
-    r = P4._replace(**{station: beside(draw, place, reach) for station in ("master", "a", "b")})
-    noise = draw.choice((0, 0, tolerance, tolerance + 1, tolerance + 2 ** (k + 1) + 3))
+    r = P4._replace(**{station: beside(draw, place, reach) for station in ("master", "a", "b")}, factor=drawn_factor(draw))
+    noise = draw.choice((0, 0, tolerance, tolerance + 1, tolerance + 2 ** (k + 1) + 5))
     wanted = tuple(min(max(x + draw.randint(-noise, noise), -NORTH), NORTH) for x in readings(r, place))
     r = r._replace(wanted=wanted, corner=around(draw, place, k), k=k, tolerance=tolerance, held=draw.getrandbits(32))
     return with_fault(draw, r) if draw.random() < 0.15 else r
