@@ -15,6 +15,7 @@ from math import inf, nextafter
 sys.dont_write_bytecode = True
 import rule
 from rule import EAST, NORTH
+from search import FACTORS, NO_FACTORS, drawn_factor
 
 NAN = 0x7FF8000000000000
 INFINITY = 0x7FF0000000000000
@@ -22,7 +23,9 @@ MINUS = 1 << 63
 FAR = 2**32 - 1
 
 
-# A request is a tuple: its verb, then the words of its line, which are whole numbers, and at the end bytes if it has some.
+# A request is a tuple: its verb, then the words of its line, which are whole numbers or bytes; for each verb that has bytes, which
+# of its words they are.
+BYTES = {"read_record": [0], "read_job": [0], "count_chains": [0], "chain": [3, 4], "read_chain": [2]}
 
 
 def in_words(values):
@@ -31,15 +34,13 @@ def in_words(values):
 
 def request_of(line):
     verb, *words = line.split()
-    if verb.startswith("write"):
-        return (verb, *map(int, words))
-    *numbers, digits = words
-    return (verb, *map(int, numbers), bytes.fromhex(digits.strip("-")))
+    of_bytes = BYTES.get(verb, [])
+    return (verb, *(bytes.fromhex(word.strip("-")) if at in of_bytes else int(word) for at, word in enumerate(words)))
 
 
 def lines_of(requests):
-    """The lines of requests. With each chain that is asked for, its table is counted, and its stations are read and written; with
-    each job that is read, its fields are written."""
+    """The lines of requests. With each chain that is asked for, its table is counted, and its stations and its factor are read and
+    written; with each job that is read, its fields are written."""
     for request in requests:
         yield in_words(request)
         if request[0] == "chain":
@@ -49,11 +50,13 @@ def lines_of(requests):
             yield in_words(("write_job", 32, 0xA5, *job.corner, *job[1:]))
 
 
-def beside_chain(length, held, number, table):
+def beside_chain(length, held, number, table, scale):
     yield "count_chains", table
     piece = table[24 * number - 24 : 24 * number] if number else b""
-    yield "read_chain", 6, held, piece
-    yield "write_chain", 24, held, *struct.unpack(f"<{len(piece) // 4}I", piece[: len(piece) // 4 * 4])
+    factor = int.from_bytes(scale[4 * number - 4 : 4 * number] if number else b"", "little")
+    yield "read_chain", 6, held, piece, factor
+    yield "write_chain", 24, held, factor, *struct.unpack(f"<{len(piece) // 4}I", piece[: len(piece) // 4 * 4])
+    yield "write_factor", 4, held, factor
 
 
 def told(request):
@@ -73,7 +76,7 @@ def record_answer(s):
 
 
 def count_answer(s):
-    refusal, chains = rule.tried(rule.chains_in, s)
+    refusal, chains = rule.tried(rule.stations_in, s)
     return refusal, 0 if refusal else len(chains)
 
 
@@ -107,25 +110,36 @@ def sound_bytes(length, chain):
     return rule.chain_bytes(chain)
 
 
-def chain_answer(length, held, number, table):
-    return in_buffer(length, lambda: sound_bytes(length, rule.chain_in(table, number)))
+def chain_answer(length, held, number, table, scale):
+    """The factor is given only with the bytes."""
+    refusal, s = in_buffer(length, lambda: sound_bytes(length, rule.chain_in(table, scale, number)))
+    return refusal, s, 0 if refusal else rule.chain_in(table, scale, number).factor
 
 
-def write_chain_answer(length, held, *numbers):
+def write_chain_answer(length, held, factor, *numbers):
     def written():
         rule.refuse(1, len(numbers) != 6)
-        return sound_bytes(length, rule.chain_of(numbers))
+        return sound_bytes(length, rule.chain_of(numbers, factor))
 
     return in_buffer(length, written)
 
 
-def read_chain_answer(entries, held, s):
+def read_chain_answer(entries, held, s, factor):
     def numbers():
         rule.refuse(1, len(s) != 24 or entries != 6)
-        return struct.unpack("<6I", sound_bytes(24, rule.chain_of(struct.unpack("<6I", s))))
+        return struct.unpack("<6I", sound_bytes(24, rule.chain_of(struct.unpack("<6I", s), factor)))
 
     refusal, read = rule.tried(numbers)
     return refusal, *([0] * entries if refusal else read)
+
+
+def write_factor_answer(length, held, factor):
+    def written():
+        rule.refuse(1, length != 4)
+        rule.refuse(5, not rule.is_factor(factor))
+        return rule.factor_bytes(factor)
+
+    return in_buffer(length, written)
 
 
 ANSWERS = {
@@ -137,6 +151,7 @@ ANSWERS = {
     "chain": chain_answer,
     "read_chain": read_chain_answer,
     "write_chain": write_chain_answer,
+    "write_factor": write_factor_answer,
 }
 
 
@@ -171,8 +186,18 @@ def draft(length=32, held=0x5A, kind=1, chain=1, line=1, x=-10000, y=-20000):
     return "write_record", length, held, kind, chain, line, x, y
 
 
-def named_chain(number, table, length=24, held=0x5A):
-    return "chain", length, held, number, table
+def scale_of(*factors):
+    return b"".join(map(rule.factor_bytes, factors))
+
+
+def units(table):
+    """A side file for this table, with the factor 1,000,000 for each chain."""
+    return scale_of(rule.UNIT) * (len(table) // 24)
+
+
+def named_chain(number, table, length=24, held=0x5A, scale=None):
+    """Unless a side file is given, it is that of the usual factors."""
+    return "chain", length, held, number, table, units(table) if scale is None else scale
 
 
 def changed(s, at, value):
@@ -365,6 +390,24 @@ def chains():
     yield named_chain(15, LONG[:360] + bytes(24))
 
 
+def scales():
+    """Side files of every length about the one that fits, also with a table that is refused; factors in range and out of it, in the
+    chain that is named and in the other; a factor and a chain that are both wrong, and a buffer that is too short as well."""
+    sixteen, longest = LONG[:384], scale_of(*range(1_000_000, 1_000_018))
+    for table in chain_of(*FIRST), PAIR, sixteen, PAIR + bytes(1), b"":
+        for length in range(4 * (len(table) // 24) + 6):
+            for number in 0, 1, len(table) // 24, 17:
+                yield named_chain(number, table, scale=longest[:length])
+    for number in range(1, 17):
+        yield named_chain(number, sixteen, scale=longest[:64])
+    for factor in (*FACTORS, *NO_FACTORS):
+        for scale in scale_of(factor, rule.UNIT), scale_of(rule.UNIT, factor):
+            for number in 0, 1, 2, 3:
+                yield named_chain(number, PAIR, scale=scale)
+            yield named_chain(1, PAIR, length=23, scale=scale)
+        yield named_chain(1, bytes(24), scale=scale_of(factor))
+
+
 def jobs():
     for k in 0, 1, 2, 23, 24, 25, 26, 31, 32, 33, 64, 128, 255:
         yield "read_job", job(k=k)
@@ -446,26 +489,33 @@ def rooms():
             yield named_chain(number, PAIR, length, 255)
         yield named_chain(1, PAIR[:47], length)
         for stations in sound, unsound, sound[:5], (*sound, 0), ():
-            yield "write_chain", length, 255, *stations
+            for factor in rule.UNIT, 0:
+                yield "write_chain", length, 255, factor, *stations
         for job in (30000, 40000, 1, 0, 100), (30000, 40000, 25, 100_001, 0):
             yield "write_job", length, 255, *job
     for stations in unsound, sound[:5], (*sound, 0), unsound[:4], ():
-        yield "write_chain", 24, 255, *stations
+        yield "write_chain", 24, 255, rule.UNIT, *stations
+    for factor in (*FACTORS, *NO_FACTORS):
+        yield "write_chain", 24, 255, factor, *sound
+        for length in 0, 3, 4, 5, 8:
+            yield "write_factor", length, 255, factor
     for job in (EAST, 40000, 0, 0, 0), (EAST, 40000, 1, 0, 0), (30000, NORTH, 24, 0, 0), (0, 0, 25, 100_001, 0), (0, 0, FAR, 0, 0):
         yield "write_job", 32, 255, *job
     for tolerance in 100_000, 100_001, FAR:
         yield "write_job", 32, 0, 0, 0, 0, tolerance, 2**64 - 1
     for entries in 0, 1, 5, 7, 12:
         for s in chain_of(*FIRST), chain_of(*FIRST)[:23], chain_of(*FIRST) + bytes(1), bytes(24), b"":
-            yield "read_chain", entries, FAR, s
-            yield "read_chain", 6, FAR, s
+            for factor in rule.UNIT, 998_999:
+                yield "read_chain", entries, FAR, s, factor
+                yield "read_chain", 6, FAR, s, factor
 
 
-NAMED = examples, kinds, lengths, numbers, zeros, limits, roundings, marks, chains, jobs, drafts, draft_faults, rooms
+NAMED = examples, kinds, lengths, numbers, zeros, limits, roundings, marks, chains, scales, jobs, drafts, draft_faults, rooms
 
 
 def sweep():
-    """Each byte of a record of each kind and of a job set to each other value; each of a table of two chains to a dozen values."""
+    """Each byte of a record of each kind and of a job set to each other value; each of a table of two chains, and of its side file,
+    to a dozen values."""
     for verb, s in *(("read_record", s) for s in SOUND), ("read_job", job()):
         for at in range(32):
             for value in range(256):
@@ -475,6 +525,10 @@ def sweep():
         for value in 0, 1, 2, 5, 48, 59, 60, 64, 117, 127, 128, 255:
             for number in 1, 2:
                 yield named_chain(number, changed(PAIR, at, value))
+    for at in range(8):
+        for value in 0, 1, 14, 15, 16, 62, 63, 66, 69, 70, 128, 255:
+            for number in 1, 2:
+                yield named_chain(number, PAIR, scale=changed(units(PAIR), at, value))
 
 
 def drawn_number(draw):
@@ -554,7 +608,8 @@ def drawn_table(draw):
     count = draw.choice((1, 2, 3, draw.randint(0, 17)))
     number = draw.choice((draw.randint(1, max(count, 1)), draw.randint(0, count + 2), draw.getrandbits(32)))
     table = damaged(draw, b"".join(drawn_chain(draw) for _ in range(count)))
-    return named_chain(number, table, draw.choice((24,) * 9 + (23, 25, draw.randint(0, 60))), draw.getrandbits(8))
+    scale = damaged(draw, scale_of(*(drawn_factor(draw) for _ in range(count))))
+    return named_chain(number, table, draw.choice((24,) * 9 + (23, 25, draw.randint(0, 60))), draw.getrandbits(8), scale)
 
 
 def at_random(seed):

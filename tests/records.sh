@@ -1,6 +1,6 @@
 #!/usr/bin/env bash
-# Tests of the library's functions that read and write log records, jobs and chains: compared with document 01's examples and
-# limits, and with the rule (records.py, rule.py). A seed other than the gate's may be given.
+# Tests of the library's functions that read and write log records, jobs, chains and factors: compared with document 01's examples
+# and limits, and with the rule (records.py, rule.py). A seed other than the gate's may be given.
 cd "$(dirname "$0")/.." && . tests/common.bash && . tests/library.bash
 seed=${1:-20261115}
 
@@ -17,6 +17,7 @@ refuses count_chains 0 1
 refuses chain 0 1 5
 refuses read_chain 0 1 5
 refuses write_chain 0 1 5
+refuses write_factor 0 1 5
 
 # Every two marks were met, in hyperbolic and in grid records; and no mark after a refusal.
 for kind in 1 2; do
@@ -107,20 +108,25 @@ each read_record <<'END'
 02 00 0000 02000000 5c8fc2f528c07240 713d0ad7a3c07240 00000000000000: 1 0 0 0 0 0 0 0
 END
 
+# units COUNT: the side file of so many factors of 1,000,000
+units() { [ "$1" -gt 0 ] && printf '40420f00%.0s' $(seq "$1") || echo -; }
+
 # Tables, on lines of NUMBER:BYTES: COUNT: CHAIN. They are empty, have a byte too many, or have 01's chain 1, alone or with a chain
 # as far out as may be; stations are out of range or equal, in chain NUMBER or in the other. COUNT is what count_chains answers, and
 # CHAIN what read_chain answers for chain NUMBER; its bytes are those in the table, and its stations are written as these bytes.
+# Each chain has the factor 1,000,000.
 while IFS=: read -r number bytes count chain; do
     bytes=${bytes// /} chain=${chain# }
     told "count_chains $bytes" "${count# }"
+    scale=$(units $((${#bytes} / 48)))
     if [ "${chain%% *}" -ne 0 ]; then
-        told "chain 24 90 $number $bytes" "${chain%% *} 0{48}"
+        told "chain 24 90 $number $bytes $scale" "${chain%% *} 0{48} 0"
         continue
     fi
     piece=${bytes:48 * (number - 1):48}
-    told "chain 24 90 $number $bytes" "0 $piece"
-    told "read_chain 6 90 $piece" "$chain"
-    told "write_chain 24 90 ${chain#* }" "0 $piece"
+    told "chain 24 90 $number $bytes $scale" "0 $piece 1000000"
+    told "read_chain 6 90 $piece 1000000" "$chain"
+    told "write_chain 24 90 1000000 ${chain#* }" "0 $piece"
 done <<'END'
 1:-: 1 0: 1 0 0 0 0 0 0
 0:01000000 02000000 31750000 01000000 07000000 419c0000: 0 1: 5 0 0 0 0 0 0
@@ -140,13 +146,65 @@ END
 printf -v zeros %0816d 0
 told "count_chains ${zeros:48}" '0 16'
 told "count_chains $zeros" '1 0'
-told "chain 24 90 16 ${zeros:48}" '5 0{48}'
-told "chain 24 90 16 $zeros" '1 0{48}'
-told 'write_chain 24 255 0 0 0 0 0 40000' '5 0{48}'
-told 'write_chain 23 255 0 0 30000 0 0 40000' '1 0{46}'
-told 'write_chain 24 255 0 0 30000 0 0' '1 0{48}'
-told "read_chain 5 4294967295 ${zeros:768}" '1 0 0 0 0 0'
-told "read_chain 6 4294967295 ${zeros:768}" '5 0 0 0 0 0 0'
+told "chain 24 90 16 ${zeros:48} $(units 16)" '5 0{48} 0'
+told "chain 24 90 16 $zeros $(units 17)" '1 0{48} 0'
+told 'write_chain 24 255 1000000 0 0 0 0 0 40000' '5 0{48}'
+told 'write_chain 23 255 1000000 0 0 30000 0 0 40000' '1 0{46}'
+told 'write_chain 24 255 1000000 0 0 30000 0 0' '1 0{48}'
+told "read_chain 5 4294967295 ${zeros:768} 1000000" '1 0 0 0 0 0'
+told "read_chain 6 4294967295 ${zeros:768} 1000000" '5 0 0 0 0 0 0'
+
+# Side files for 01's chain and the one as far out as may be, on lines of NUMBER:BYTES: ANSWER, where the answer of an accepted
+# chain is its factor: of every length up to nine bytes; factors at both ends of their range and just out of it, 0 and the largest
+# number, each in the chain that is named and in the other.
+first=0000000000000000307500000000000000000000409c0000 outer=00e1f50500ca9a3b0000000000ca9a3b00e1f50500000000
+while IFS=: read -r number bytes refusal factor; do
+    piece=$([ $number -eq 1 ] && echo $first || echo $outer)
+    [ $refusal -eq 0 ] || piece='0{48}'
+    told "chain 24 90 $number $first$outer ${bytes// /}" "${refusal# } $piece ${factor:-0}"
+done <<'END'
+1:-: 1
+1:40: 1
+1:4042: 1
+1:40420f: 1
+1:40420f00: 1
+1:40420f00 41: 1
+1:40420f00 4142: 1
+1:40420f00 41420f: 1
+1:40420f00 41420f00: 0:1000000
+2:40420f00 41420f00: 0:1000001
+0:40420f00 41420f00: 5
+17:40420f00 41420f00: 5
+1:40420f00 41420f00 42: 1
+1:583e0f00 40420f00: 0:999000
+1:573e0f00 40420f00: 5
+2:573e0f00 40420f00: 0:1000000
+2:40420f00 28460f00: 0:1001000
+2:40420f00 29460f00: 5
+1:40420f00 29460f00: 0:1000000
+1:00000000 40420f00: 5
+1:ffffffff 40420f00: 5
+END
+told "chain 23 90 1 $first$outer 573e0f0040420f00" '5 0{46} 0'
+told "chain 23 90 1 $first$outer 583e0f0040420f00" '1 0{46} 0'
+
+# Factors written, and the refusals 5 and 1; a chain whose factor is out of range is neither read nor written.
+told 'write_factor 4 255 999641' '0 d9400f00'
+told 'write_factor 4 255 999000' '0 583e0f00'
+told 'write_factor 4 255 1001000' '0 28460f00'
+told 'write_factor 4 255 998999' '5 0{8}'
+told 'write_factor 4 255 1001001' '5 0{8}'
+told 'write_factor 4 255 0' '5 0{8}'
+told 'write_factor 4 255 4294967295' '5 0{8}'
+told 'write_factor 0 255 1001000' '1 -'
+told 'write_factor 3 255 1001000' '1 0{6}'
+told 'write_factor 5 255 998999' '1 0{10}'
+told 'write_chain 24 255 999000 0 0 30000 0 0 40000' "0 $first"
+told 'write_chain 24 255 998999 0 0 30000 0 0 40000' '5 0{48}'
+told 'write_chain 24 255 1001001 0 0 30000 0 0 40000' '5 0{48}'
+told 'write_chain 23 255 0 0 0 30000 0 0 40000' '1 0{46}'
+told "read_chain 6 4294967295 $first 998999" '5 0 0 0 0 0 0'
+told "read_chain 5 4294967295 $first 998999" '1 0 0 0 0 0'
 
 # Jobs: 01's, and the limits of k, of the corner, of the tolerance and of the allowance; a byte that must be zero, also with a
 # wrong k.
