@@ -1,7 +1,7 @@
 #!/usr/bin/env python3
 """Makes folders to list, and their listings by rule.py.
 
-    listing.py list FOLDER             prints the listing of the job.dat, chain.dat and lay.dat in a folder
+    listing.py list FOLDER             prints the listing of the job.dat, chain.dat, scale.dat and lay.dat in a folder
     listing.py examples FOLDER         writes the folders of examples/ into a folder
     listing.py cases FOLDER            writes folders chosen to test something
     listing.py edges FOLDER            writes folders whose logs end near the edges of the program's buffers
@@ -11,7 +11,7 @@
     listing.py requests                prints the chosen folders as requests in the words of lay.c, one to a line
     listing.py answers                 answers the requests on standard input
 
-A folder that is written has the three files, or those that its case has, and in `listing` what must be printed for them.
+A folder that is written has the four files, or those that its case has, and in `listing` what must be printed for them.
 Searches are answered as search.py answers them.
 """
 import fcntl
@@ -20,7 +20,7 @@ import random
 import subprocess
 import sys
 from functools import lru_cache
-from itertools import chain, cycle, islice, product
+from itertools import chain, combinations, cycle, islice, product
 from math import inf, nextafter
 from typing import NamedTuple
 
@@ -32,14 +32,15 @@ import search
 from rule import EAST, NORTH
 
 flat = chain.from_iterable
-FILES = "job.dat", "chain.dat", "lay.dat"
+FILES = "job.dat", "chain.dat", "scale.dat", "lay.dat"
 
 
 class Folder(NamedTuple):
-    """The bytes of the three files; None for a missing file."""
+    """The bytes of the four files; None for a missing file."""
 
     job: bytes
     table: bytes
+    scale: bytes
     log: bytes
 
 
@@ -67,9 +68,9 @@ def job_of(question):
     return rule.job_bytes(question.job)
 
 
-def table_of(*questions):
-    """A table of the chains of search requests, numbered from 1."""
-    return b"".join(rule.chain_bytes(q.chain) for q in questions)
+def chains_of(*questions):
+    """A table of the chains of search requests, numbered from 1, and its side file."""
+    return b"".join(rule.chain_bytes(q.chain) for q in questions), records.scale_of(*(q.factor for q in questions))
 
 
 def numbered(*log):
@@ -79,14 +80,15 @@ def numbered(*log):
 
 P4 = search.P4
 FIX, GRID, HOLD = records.SOUND
-THREE = Folder(job_of(P4), table_of(P4), FIX + GRID + HOLD)
+THREE = Folder(job_of(P4), *chains_of(P4), FIX + GRID + HOLD)
 # P4 in a window of one cell, its first place: there is one place.
 ONE = P4._replace(k=0)
 REFUSED = records.log(kind=9)
 
 
 def three(**changes):
-    return THREE._replace(**changes)
+    """01's example with changes. Another table has the usual factors, unless it has a side file of its own."""
+    return THREE._replace(**{"scale": records.units(changes.get("table", THREE.table)), **changes})
 
 
 def by_job(**changes):
@@ -97,7 +99,7 @@ def by_job(**changes):
 def asking(*questions, log=None):
     """A folder for search requests of one job, each with a chain of its own; unless `log` is given, it has a record for each."""
     log = log or numbered(*(readings_record(i, q.wanted) for i, q in enumerate(questions, 1)))
-    return Folder(job_of(questions[0]), table_of(*questions), log)
+    return Folder(job_of(questions[0]), *chains_of(*questions), log)
 
 
 def double_crossing():
@@ -119,11 +121,12 @@ def double_crossing():
 
 
 def every_refusal():
-    """Chain 1 takes more visits than are allowed, chain 2 has the same readings at all cells, 3 is well placed, 4 is not sound."""
+    """Chain 1 takes more visits than are allowed, chain 2 has the same readings at all cells, 3 is well placed, 4 and 5 are not
+    sound, for a station and for the factor."""
     slow = P4._replace(corner=(29984, 39984), k=5, allowance=500)
     far = slow._replace(master=(30000, 900_000_000), a=(30000, 900_100_000), b=(31000, 900_000_000))
     good = slow._replace(master=(30000, 20000), a=(10000, 50000), b=(50000, 50000))
-    unsound = good._replace(b=good.a)
+    unsound, unscaled = good._replace(b=good.a), good._replace(factor=rule.LEAST_FACTOR - 1)
     seen = search.readings(good, (30003, 39991))
     log = (
         readings_record(3, seen),
@@ -133,15 +136,16 @@ def every_refusal():
         records.hold(third=records.MINUS),
         records.log(chain=3, first=records.NAN),
         records.grid(first=-0.01),
-        readings_record(5, seen),
+        readings_record(6, seen),
         readings_record(4, seen),
+        readings_record(5, seen),
         readings_record(3, (0, 0)),
         readings_record(2, (100_000, 0)),
         readings_record(1, P4.wanted),
         GRID,
         HOLD,
     )
-    return asking(slow, far, good, unsound, log=numbered(*log) + HOLD[:20])
+    return asking(slow, far, good, unsound, unscaled, log=numbered(*log) + HOLD[:20])
 
 
 def examples():
@@ -160,14 +164,22 @@ def lengths():
         yield f"table_of_{n}_bytes", three(table=(THREE.table * 32)[:n])
 
 
+    for table in THREE.table, records.PAIR, records.LONG[:384]:
+        chains = len(table) // 24
+        for n in *range(4 * chains + 6), 8 * chains, 1000:
+            scale = (records.units(table) * 300)[:n]
+            yield f"side_file_of_{n}_bytes_for_{chains}", three(table=table, scale=scale, log=THREE.log + records.log(chain=chains))
+
+
 def missing():
-    for gone in (0,), (1,), (2,), (0, 1), (0, 2), (1, 2), (0, 1, 2):
+    for gone in flat(combinations(range(4), many) for many in (1, 2, 3, 4)):
         names = "_".join(FILES[i].split(".")[0] for i in gone)
         yield f"no_{names}", Folder(*(None if i in gone else s for i, s in enumerate(THREE)))
 
 
 def jobs():
-    """Limits of a job, and several faults at once: the job is refused before the table, and after a refusal nothing is listed."""
+    """Limits of a job, and several faults at once: the job is refused before the table, the table before the side file, and after a
+    refusal nothing is listed."""
     yield "k_24", by_job(k=24)
     yield "k_25", by_job(k=25)
     yield "k_255", by_job(k=255)
@@ -186,6 +198,13 @@ def jobs():
     yield "bad_job_and_short_log", by_job(k=25)._replace(log=FIX[:31])
     yield "bad_table_and_short_log", three(table=b"1", log=FIX[:31])
     yield "bad_table_and_no_log", three(table=b"1", log=None)
+    for scale in b"", None, b"1", records.scale_of(rule.UNIT) * 2:
+        name = "no_side_file" if scale is None else f"side_file_of_{len(scale)}_bytes"
+        yield f"bad_job_and_table_and_{name}", by_job(k=25)._replace(table=b"1", scale=scale)
+        yield f"bad_job_and_{name}", by_job(k=25)._replace(scale=scale)
+        yield f"bad_table_and_{name}", three(table=THREE.table + b"1", scale=scale)
+        yield f"{name}_and_short_log", three(scale=scale, log=FIX[:31])
+        yield f"{name}_and_no_log", three(scale=scale, log=None)
 
 
 def tables():
@@ -203,6 +222,22 @@ def tables():
     for station in range(3):
         for name, place in ("east", (EAST + 1, 7)), ("north", (7, NORTH + 1)), ("same", records.FIRST[station - 1]):
             yield f"station_{station}_{name}", three(table=records.moved(records.FIRST, station, place))
+
+
+def factors():
+    """Factors at both ends of their range and out of it, in the chain that records name and in another; a chain that is unsound for
+    its stations as well; holds after these. Then the same place by its readings with each factor, and 002's points."""
+    asked = numbered(GRID, FIX, HOLD, records.log(chain=2), HOLD)
+    for factor in (*search.FACTORS, *search.NO_FACTORS):
+        for name, scale in ("first", (factor, rule.UNIT)), ("second", (rule.UNIT, factor)), ("both", (factor, factor)):
+            table = THREE.table + THREE.table
+            yield f"factor_{factor}_{name}", three(table=table, scale=records.scale_of(*scale), log=asked)
+        yield f"factor_{factor}_not_named", three(scale=records.scale_of(factor), log=GRID + HOLD)
+        yield f"factor_{factor}_no_record", three(scale=records.scale_of(factor), log=b"")
+        yield f"factor_{factor}_unsound", three(table=bytes(24), scale=records.scale_of(factor))
+    for factor in search.FACTORS:
+        r = search.own(ONE._replace(factor=factor), (30003, 39991))
+        yield f"by_factor_{factor}", asking(r, r._replace(factor=rule.UNIT))
 
 
 def holds():
@@ -289,7 +324,7 @@ def numbers():
     yield "every_byte", three(table=records.PAIR, log=b"".join(swept))
 
 
-CASES = lengths, missing, jobs, tables, holds, roundings, rooms, searches, numbers
+CASES = lengths, missing, jobs, tables, factors, holds, roundings, rooms, searches, numbers
 
 
 def cases():
@@ -386,7 +421,8 @@ def drawn_readings(draw, question, chains):
 def drawn_chain(draw, question):
     reach = draw.choice((40, 1_000, 100_000, 10**7, NORTH))
     near = on_chart(question.corner)
-    return question._replace(**{station: search.beside(draw, near, reach) for station in ("master", "a", "b")})
+    stations = {station: search.beside(draw, near, reach) for station in ("master", "a", "b")}
+    return question._replace(**stations, factor=search.drawn_factor(draw))
 
 
 def drawn_record(draw, fixes):
@@ -416,9 +452,9 @@ def drawn_folder(draw):
     draw.shuffle(chains)
     fixes = [(chains.index(question) + 1, question.wanted)] + [drawn_readings(draw, question, chains) for _ in range(3)]
     log = b"".join(drawn_record(draw, fixes) for _ in range(draw.choice((0, 1, 5, 20, 40))))
-    folder = Folder(job_of(question), table_of(*chains), log)
+    folder = Folder(job_of(question), *chains_of(*chains), log)
     if draw.random() < 0.2:
-        at = draw.randrange(3)
+        at = draw.randrange(4)
         folder = Folder(*(records.damaged(draw, s) if i == at else s for i, s in enumerate(folder)))
     if draw.random() < 0.1:
         folder = folder._replace(log=folder.log + bytes(draw.randrange(1, 32)))
@@ -455,8 +491,8 @@ def numbers_of(held):
 
 
 def request(folder, held=(0, 0, 0, 0), length=None, dirt=165):
-    job, table, log = (content or b"" for content in folder)
-    return records.in_words(("list", needed(log) if length is None else length, dirt, *held, job, table, log))
+    files = [content or b"" for content in folder]
+    return records.in_words(("list", needed(files[-1]) if length is None else length, dirt, *held, *files))
 
 
 def in_parts(folder):
@@ -484,8 +520,9 @@ def carried():
         part = held, 30001, 40000, rounded
         for log in logs:
             yield request(three(log=log), part)
-        for folder in by_job(k=25), three(table=b""), by_job(k=25)._replace(log=b""), three(table=b"", log=b""):
-            yield request(folder, part)
+        for refused in by_job(k=25), three(table=b""), three(scale=b""):
+            yield request(refused, part)
+            yield request(refused._replace(log=b""), part)
         yield request(THREE, part, length=needed(THREE.log) - 1)
         yield request(three(log=b""), part, length=needed(b"") - 1)
 
@@ -500,7 +537,7 @@ def requests():
     for folder in three(log=(GRID + HOLD) * 4), asking(ONE, log=NEAR_FIXES[0] + HOLD * 3 + NEAR_FIXES[1] + HOLD * 3 + GRID + HOLD):
         yield from in_halves(folder)
     yield from carried()
-    for folder in THREE, three(log=b""), three(log=THREE.log[:95]), by_job(k=25), three(table=b""):
+    for folder in THREE, three(log=b""), three(log=THREE.log[:95]), by_job(k=25), three(table=b""), three(scale=b""):
         for off in -5760, -1, 0, 1, 5760:
             for dirt in 0, 10, 255:
                 yield request(folder, length=max(0, needed(folder.log) + off), dirt=dirt)

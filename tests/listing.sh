@@ -1,7 +1,7 @@
 #!/usr/bin/env bash
 # Tests of laylist: what it prints for folders, compared byte by byte with document 01's listing and limits, with the last field that
-# 02's A1 adds, and with the rule's listing (listing.py); how it ends if a file cannot be read or its listing cannot be written; and
-# the examples, listed by bin/laylist. A seed other than the gate's may be given.
+# 02's A1 adds and the side file of its A3, and with the rule's listing (listing.py); how it ends if a file cannot be read or its
+# listing cannot be written; and the examples, listed by bin/laylist. A seed other than the gate's may be given.
 cd "$(dirname "$0")/.." && . tests/common.bash
 seed=${1:-20261115}
 folders=$(mktemp -d)
@@ -11,12 +11,16 @@ folder=$folders/folder printed=$folders/printed said=$folders/said
 # bytes HEXADECIMAL: the bytes themselves
 bytes() { printf "$(sed 's/[^ ][^ ]/\\x&/g; s/ //g' <<<"$1")"; }
 
-# put JOB TABLE LOG: makes the folder anew, with files of these bytes; a file given as `none` is missing
+# put JOB TABLE LOG [SCALE]: makes the folder anew, with files of these bytes; a file given as `none` is missing. Unless a side file
+# is given, it has the factor 1,000,000 for each chain of the table.
 put() {
-    local file
+    local file digits=${2// /} scale
+    printf -v scale '40420f00%.0s' $(seq $((${#digits} / 48)))
+    [ ${#digits} -ge 48 ] || scale=
+    set -- "$1" "$2" "${4-$scale}" "$3"
     rm -rf "$folder"
     mkdir "$folder"
-    for file in job chain lay; do
+    for file in job chain scale lay; do
         [ "$1" = none ] || bytes "$1" >"$folder/$file.dat"
         shift
     done
@@ -28,11 +32,11 @@ run() {
     (cd "$1" && program laylist) >"$printed" 2>"$said" || status=$?
 }
 
-# listed JOB TABLE LOG LINES: tests that a folder with these files has the listing LINES
+# listed JOB TABLE LOG LINES [SCALE]: tests that a folder with these files has the listing LINES
 listed() {
-    put "$1" "$2" "$3"
+    put "$1" "$2" "$3" "${@:5}"
     run "$folder"
-    pass_if "job $1, table $2, log $3: $(cat "$printed" "$said"), not $4" prints "$4"
+    pass_if "job $1, table $2, log $3, side file ${5-usual}: $(cat "$printed" "$said"), not $4" prints "$4"
 }
 
 # only_missing FOLDER: tests that nothing is told but notes of files that the folder does not have
@@ -107,15 +111,38 @@ listed "$job" "$sixteen 00" "$grid$hold" 'CHAIN REFUSED 1'
 listed "$job" "$sixteen$table" "$grid$hold" 'CHAIN REFUSED 1'
 listed "${job/ 01 / 19 }" "$table 00" "$grid$hold" 'JOB REFUSED 6'
 
+# Side files for one chain, of every length up to nine bytes, and for 16 chains, of one byte less, one more and four more. A bad job
+# and a bad table are reported before.
+scale=40420f00
+listed "$job" "$table" "$fix$grid$hold" 'SCALE REFUSED 1' ''
+for ((n = 2; n <= 18; n += 2)); do
+    answer='SCALE REFUSED 1' its_scale=$scale$scale$scale
+    [ $n -ne 8 ] || answer=$held
+    listed "$job" "$table" "$grid$hold" "$answer" "${its_scale:0:n}"
+done
+printf -v scales "$scale%.0s" {1..16}
+listed "$job" "$sixteen" "$grid$hold" "$held" "$scales"
+listed "$job" "$sixteen" "$grid$hold" 'SCALE REFUSED 1' "${scales%00}"
+listed "$job" "$sixteen" "$grid$hold" 'SCALE REFUSED 1' "${scales}00"
+listed "$job" "$sixteen" "$grid$hold" 'SCALE REFUSED 1' "$scales$scale"
+listed "$job" "$sixteen" '' 'SCALE REFUSED 1' "$scale"
+listed "$job" "$table" "${grid%??}" 'SCALE REFUSED 1' "${scale}00"
+listed "$job" "$table 00" "$grid$hold" 'CHAIN REFUSED 1' "${scale}00"
+listed "${job/ 01 / 19 }" "$table" "$grid$hold" 'JOB REFUSED 6' "${scale}00"
+listed "${job/ 01 / 19 }" "$table 00" "$grid$hold" 'JOB REFUSED 6' ''
+
 # Files that are missing: a note says so of each that is looked for.
 without() {
-    put "$2" "$3" "$4"
+    put "${@:2:3}" "${@:6}"
     run "$folder"
     pass_if "job $2, table $3, log $4: $(cat "$printed" "$said"), not $5" cmp -s "$printed" <(printf "${5:+%s\n}" "$5")
     pass_if "$1 is missing: $(cat "$said")" [ "$(<"$said")" = "laylist: note: $1 is missing, and counts as empty" ]
 }
 without job.dat none "$table" "$grid$hold" 'JOB REFUSED 1'
 without chain.dat "$job" none "$grid$hold" 'CHAIN REFUSED 1'
+without scale.dat "$job" "$table" "$grid$hold" 'SCALE REFUSED 1' none
+without scale.dat "$job" "$table" none 'SCALE REFUSED 1' none
+without chain.dat "$job" none "$grid$hold" 'CHAIN REFUSED 1' none
 without lay.dat "$job" "$table" none ''
 without job.dat none none none 'JOB REFUSED 1'
 
@@ -152,6 +179,27 @@ listed "$job" "00000000 00000000 00000000 00000000 00000000 409c0000 $table" "$g
     '2 GRID 1 0 30001 40000 1
 1 REFUSED 5 0
 1 FIX 2 5 30000 40000 30001 40001 0'
+
+# So does a factor that is out of range: 0, 998999, 1001001 and the largest number, in the first of two chains.
+for factor in 00000000 573e0f00 29460f00 ffffffff; do
+    listed "$job" "$table$table" "$grid$fix$hold${fix/01 01/01 02}" \
+        '2 GRID 1 0 30001 40000 1
+1 REFUSED 5 0
+3 REFUSED 11 0
+1 FIX 2 5 30000 40000 30001 40001 0' "$factor$scale"
+    listed "$job" "$table" "$grid$hold" "$held" $factor
+done
+
+# By the least factor, 999000, the ranges 50000, 40000 and 30000 are 50050, 40040 and 30030, and by the greatest, 1001000, they are
+# 49950, 39960 and 29970. So the place of 01's first record reads -100.10 m and -200.20 m, or -99.90 m and -199.80 m.
+least='01 01 0000 01000000 66666666660659c0 66666666660669c0 0000000000000000'
+greatest='01 01 0000 02000000 9a99999999f958c0 9a99999999f968c0 0000000000000000'
+listed "${job/ 01 / 00 }" "$table" "$least$greatest$fix" '1 FIX 1 1 30000 40000 1
+2 REFUSED 8 1
+1 REFUSED 8 1' 583e0f00
+listed "${job/ 01 / 00 }" "$table" "$least$greatest$fix" '1 REFUSED 8 1
+2 FIX 1 1 30000 40000 1
+1 REFUSED 8 1' 28460f00
 
 # A hold as the first record, after a grid record, after holds, after two places, after one place (k 0), after a refusal.
 listed "$job" "$table" "$hold" '3 REFUSED 11 0'
@@ -245,7 +293,7 @@ pass_if "a log of 100,000 records takes $many kB, one of 8,000 takes $few" [ $((
 tells() { [[ "$(<"$said")" == "laylist: $1: "?* ]] && [ "$(wc -l <"$said")" -eq 1 ]; }
 
 # What cannot be read in place of a file: a folder; and /proc/self/mem, as there is no memory at address 0.
-for file in job.dat chain.dat lay.dat; do
+for file in job.dat chain.dat scale.dat lay.dat; do
     for unreadable in mkdir 'ln -s /proc/self/mem'; do
         put "$job" "$table" "$fix$grid$hold"
         rm "$folder/$file"
@@ -256,12 +304,12 @@ for file in job.dat chain.dat lay.dat; do
     done
 done
 
-# A refused job is reported even if the table or the log cannot be read, and a refused table even if the log cannot.
-for bad in chain.dat:"${job/ 01 / 19 }":"$table":'JOB REFUSED 6' lay.dat:"${job/ 01 / 19 }":"$table":'JOB REFUSED 6' \
-    lay.dat:"$job":"$table 00":'CHAIN REFUSED 1'; do
-    IFS=: read -r file its_job its_table answer <<<"$bad"
+# A refused job, table or side file is reported even if a file after it cannot be read.
+for bad in {chain,scale,lay}.dat:"${job/ 01 / 19 }":"$table":$scale:'JOB REFUSED 6' \
+    {scale,lay}.dat:"$job":"$table 00":$scale:'CHAIN REFUSED 1' lay.dat:"$job":"$table"::'SCALE REFUSED 1'; do
+    IFS=: read -r file its_job its_table its_scale answer <<<"$bad"
     for unreadable in mkdir 'ln -s /proc/self/mem'; do
-        put "$its_job" "$its_table" "$fix"
+        put "$its_job" "$its_table" "$fix" "$its_scale"
         rm "$folder/$file"
         $unreadable "$folder/$file"
         run "$folder"
@@ -299,7 +347,7 @@ python3 tests/listing.py examples "$folders/examples"
 examples=$(ls "$folders/examples")
 pass_if 'every example is one of listing.py' [ "$(cd examples && ls -d */)" = "$(sed 's,$,/,' <<<"$examples")" ]
 for name in $examples; do
-    for file in job.dat chain.dat lay.dat listing; do
+    for file in job.dat chain.dat scale.dat lay.dat listing; do
         pass_if "examples/$name/$file" cmp "examples/$name/$file" "$folders/examples/$name/$file"
     done
     pass_if "bin/laylist examples/$name" lists "examples/$name/listing" "examples/$name"
@@ -312,6 +360,13 @@ pass_if 'the example of three records is 01'"'"'s' [ "$(<examples/three_records/
 pass_if 'the first command of README.md, and what it shows of it' [ "$(sed -n 's/^    //p' README.md | head -n 4)" = \
     "bin/laylist examples/three_records
 $(<examples/three_records/listing)" ]
+
+# A folder from before 02's A3, which has no side file, is refused as examples/README.md and docs/FORMATS.md say.
+cp -r examples/three_records "$folders/old"
+rm "$folders/old/scale.dat"
+by_bin "$folders/old"
+pass_if "bin/laylist of a folder without a side file: $(cat "$printed" "$said")" [ "$status $(<"$printed")" = '0 SCALE REFUSED 1' ]
+for page in examples/README.md docs/FORMATS.md; do pass_if "$page has SCALE REFUSED 1" grep -qF 'SCALE REFUSED 1' $page; done
 
 # bin/laylist FOLDER from another folder. That one has another example, which shows if it is listed by mistake; in it are folders
 # with the three records, under names that are easily misread.
