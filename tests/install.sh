@@ -35,17 +35,18 @@ names_neither() { ! grep -rlF -e "$repository" -e "${emulator[0]:-$toolchain}" "
 on_desk layjob 30000 40000 1 0 100
 pass_if "layjob on the desk: $(cat "$said")" prints 'job.dat: 1 job written, 1 there now; a search may make 100 visits'
 on_desk laychain <<<'0 0 30000 0 0 40000'
-pass_if "laychain on the desk: $(cat "$said")" prints 'chain.dat: 1 chain written, 1 there now'
+pass_if "laychain on the desk: $(cat "$said")" prints 'chain.dat: 1 chain written, 1 there now
+scale.dat: 1 factor written, 1 there now'
 on_desk laywrite <<<'1 1 1 -10000 -20000
 2 0 2 30001 40000
 3 0 3 0 0'
 pass_if "laywrite on the desk: $(cat "$said")" prints 'lay.dat: 3 records written, 3 there now'
-for file in job chain lay; do pass_if "$file.dat is that of 01's example" cmp "$work/$file.dat" "$example/$file.dat"; done
+for file in job chain scale lay; do pass_if "$file.dat is that of 01's example" cmp "$work/$file.dat" "$example/$file.dat"; done
 on_desk laylist
 pass_if "laylist on the desk: $(cat "$said")" prints "$(<"$example/listing")"
 on_desk layshow
 pass_if "layshow on the desk: $(cat "$said")" prints 'JOB 30000 40000 1 0 100
-CHAIN 1 0 0 30000 0 0 40000
+CHAIN 1 0 0 30000 0 0 40000 1000000
 LOG 1 1 1 -10000 -20000
 LOG 2 0 2 30001 40000
 LOG 3 0 3 0 0'

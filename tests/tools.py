@@ -24,8 +24,9 @@ sys.dont_write_bytecode = True
 import records
 import rule
 import search
-from records import INFINITY, MINUS, NAN, changed
+from records import INFINITY, MINUS, NAN, changed, scale_of, units
 from rule import EAST, NORTH, SIZE, Refusal, refuse
+from search import FACTORS, NO_FACTORS
 
 # The bytes of the longest line that is accepted, with its newline.
 LONGEST = 65_535
@@ -205,11 +206,15 @@ def job_bytes(line):
 
 
 def chain_bytes(before, line):
-    numbers = values(line, [LENGTH] * 6)
+    """The bytes of a chain and those of its factor."""
+    given = values(line, [LENGTH] * 6 + [NUMBER], spare=1)
+    numbers, factor = given[:6], given[6] if len(given) > 6 else rule.UNIT
     refuse(1, before >= 16)
     # which word is at fault where two stations are equal, is left open
     outside = [at + 1 for at, number in enumerate(numbers) if number > (EAST, NORTH)[at % 2]]
-    return blaming(line, {5: outside}, sound_bytes, rule.chain_of(numbers))
+    stations = blaming(line, {5: outside}, sound_bytes, rule.chain_of(numbers))
+    say(5, not rule.is_factor(factor), "a factor is 999000 to 1001000 millionths", {7: WORD.findall(line)[-1]})
+    return stations, rule.factor_bytes(factor)
 
 
 def sound_bytes(chain):
@@ -246,8 +251,9 @@ def laychain(run):
         return Outcome(run.files, refusals=lines.refusals, behind=[sum_of("laychain", lines)])
     chains = len(lines.accepted)
     refuse(1, not chains)
-    table = b"".join(lines.accepted.values())
-    return Outcome({**run.files, "chain.dat": table}, written("chain.dat", "chain", chains, chains))
+    table, scale = map(b"".join, zip(*lines.accepted.values()))
+    printed = written("chain.dat", "chain", chains, chains) + written("scale.dat", "factor", chains, chains)
+    return Outcome({**run.files, "chain.dat": table, "scale.dat": scale}, printed)
 
 
 def laywrite(run):
@@ -265,7 +271,7 @@ def laywrite(run):
 
 def without_chain(lines, table):
     """A note if records name a chain that the table does not have; a table that is refused has none."""
-    refusal, chains = rule.tried(rule.chains_in, table)
+    refusal, chains = rule.tried(rule.stations_in, table)
     there = 0 if refusal else len(chains)
     named = [at for at, s in lines.accepted.items() if s[0] == 1 and s[1] > there]
     if not named:
@@ -283,21 +289,38 @@ def missing(tool, run, names):
 
 def layexpect(run):
     line = line_of(run.arguments)
-    chain, *place = values(line, [NUMBER, LENGTH, LENGTH])
-    before = missing("layexpect", run, ["chain.dat"])
+    number, *place = values(line, [NUMBER, LENGTH, LENGTH])
+    table, scale = (run.files.get(name, b"") for name in FILES["layexpect"])
+    before = missing("layexpect", run, FILES["layexpect"])
     try:
-        found = expected_at(line, run.files.get("chain.dat", b""), chain, place)
+        found = expected_at(WORD.findall(line), table, scale, number, place)
     except Refusal as refusal:
         return Outcome(run.files, refusals=[told(0, refusal)], before=before)
     printed = text_of(expected_line(name, reading) for name, reading in zip("AB", found))
     return Outcome(run.files, printed, before=before)
 
 
-def expected_at(line, table, chain, place):
-    outside = [at + 2 for at, x in enumerate(place) if x > (EAST, NORTH)[at]]
-    # whether the chain's number is at fault where it is in the table but not sound, is left open
-    absent = [1] if not 1 <= chain <= len(table) // 24 else []
-    return blaming(line, {4: outside, 5: absent}, rule.expected, table, chain, place)
+def expected_at(words, table, scale, number, place):
+    check_chains(table, scale)
+    outside = {at: words[at - 1] for at, x, most in ((2, place[0], EAST), (3, place[1], NORTH)) if x > most}
+    if outside:
+        raise AtWords(4, outside)
+    return rule.readings(chain_named(words, table, scale, number), place)
+
+
+def check_chains(table, scale):
+    """The lengths of the table and of its side file."""
+    say(1, rule.tried(rule.stations_in, table)[0], "chain.dat was expected to hold 1 to 16 chains of 24 bytes")
+    say(1, rule.tried(rule.chains_in, table, scale)[0], "scale.dat was expected to hold 4 bytes for each chain of chain.dat")
+
+
+def chain_named(words, table, scale, number):
+    """The chain whose number is the first word, if it is in the table and sound."""
+    chains, named = rule.chains_in(table, scale), {1: words[0]}
+    say(5, not 1 <= number <= len(chains), "chain.dat has no chain of this number", named)
+    chain = chains[number - 1]
+    say(5, not rule.is_sound(chain), "this chain has a station out of range, two on one spot, or a factor out of range", named)
+    return chain
 
 
 def expected_line(name, reading):
@@ -317,13 +340,13 @@ MANY_VISITS = 100_000_000
 def layone(run):
     line = line_of(run.arguments)
     number, *wanted = values(line, [NUMBER, READING, READING])
-    table, job = (run.files.get(name, b"") for name in FILES["layone"])
+    *chains, job = (run.files.get(name, b"") for name in FILES["layone"])
     before = missing("layone", run, FILES["layone"])
     accepted, allowed = rule.tried(lambda: rule.job_in(job).allowance)
     if not accepted and allowed > MANY_VISITS:
         before.append(f"layone: note: job.dat allows more than {MANY_VISITS} visits: the answer may take minutes")
     try:
-        chain, asked = question(WORD.findall(line), table, job, number, wanted)
+        chain, asked = question(WORD.findall(line), *chains, job, number, wanted)
         refusal, answer, place, visits = rule.how_many(chain, wanted, asked)
         say(10, refusal == 10, "the visits that job.dat allows ended before this was decided")
     except Refusal as refusal:
@@ -338,17 +361,14 @@ def say(number, wrong, sentence, faults={}):
         raise AtWords(number, faults, sentence)
 
 
-def question(words, table, job, number, wanted):
+def question(words, table, scale, job, number, wanted):
     """The chain and the job that are asked about, if nothing is refused before a visit is made."""
-    say(1, rule.tried(rule.chains_in, table)[0], "chain.dat was expected to hold 1 to 16 chains of 24 bytes")
+    check_chains(table, scale)
     say(1, len(job) != 32, "job.dat was expected to hold one job of 32 bytes")
     say(2, any(rule.job_zeros(job)), "a byte of job.dat that must be zero is not")
     for at, reading in enumerate(wanted, 2):
         say(3, abs(reading) > SIZE, f"a reading is at most {SIZE} centimetres in size", {at: words[at - 1]})
-    chains, asked, named = rule.chains_in(table), rule.raw_job(job), {1: words[0]}
-    say(5, not 1 <= number <= len(chains), "chain.dat has no chain of this number", named)
-    chain = chains[number - 1]
-    say(5, not rule.is_sound(chain), "this chain of chain.dat has a station out of range, or two on one spot", named)
+    chain, asked = chain_named(words, table, scale, number), rule.raw_job(job)
     inside = rule.is_window(asked.corner, asked.k)
     say(6, not inside, "the window in job.dat has an exponent over 24, or cells out of range")
     say(7, asked.tolerance > 100_000, "the tolerance in job.dat is over 100000 centimetres")
@@ -361,9 +381,12 @@ def text_of(lines):
 
 def layshow(run):
     no_line(run.arguments)
-    job, table, log = (run.files.get(name, b"") for name in FILES["layshow"])
-    printed = text_of([job_line(job), *chain_lines(table), *map(log_line, rule.pieces(log, 32))])
-    return Outcome(run.files, printed, before=missing("layshow", run, FILES["layshow"]))
+    job, table, scale, log = (run.files.get(name, b"") for name in FILES["layshow"])
+    printed = text_of([job_line(job), *chain_lines(table, scale), *map(log_line, rule.pieces(log, 32))])
+    # of the side file of a table that is refused nothing is said
+    unread = ["scale.dat"] if rule.tried(rule.stations_in, table)[0] else []
+    looked_for = [name for name in FILES["layshow"] if name not in unread]
+    return Outcome(run.files, printed, before=missing("layshow", run, looked_for))
 
 
 def shown(words, refusal, s):
@@ -380,15 +403,21 @@ def job_line(s):
     return shown(["JOB", *job.corner, *job[1:]], refusal, s)
 
 
-def chain_lines(table):
-    refusal, chains = rule.tried(rule.chains_in, table)
+def chain_lines(table, scale):
+    """A line for each chain, with its factor. If the side file does not fit the table, they have none, and a line behind has it."""
+    refusal, chains = rule.tried(rule.stations_in, table)
     if refusal:
         return [shown(["CHAIN"], 1, table[:385])]
-    return [chain_line(*each) for each in zip(range(1, 17), chains, rule.pieces(table, 24))]
+    refusal, scaled = rule.tried(rule.chains_in, table, scale)
+    if refusal:
+        return [*chain_list(chains, table, lambda chain: []), shown(["SCALE"], 1, scale[:65])]
+    return chain_list(scaled, table, lambda chain: [chain.factor])
 
 
-def chain_line(number, chain, s):
-    return shown(["CHAIN", number, *rule.flat(rule.stations(chain))], 0 if rule.is_sound(chain) else 5, s)
+def chain_list(chains, table, last):
+    for number, chain, s in zip(range(1, 17), chains, rule.pieces(table, 24)):
+        words = ["CHAIN", number, *rule.flat(rule.stations(chain)), *last(chain)]
+        yield shown(words, 0 if rule.is_sound(chain) else 5, s)
 
 
 def log_line(s):
@@ -408,11 +437,11 @@ def in_centimetres(x):
 TOOLS = {tool.__name__: tool for tool in (layjob, laychain, laywrite, layexpect, layone, layshow)}
 FILES = {
     "layjob": ["job.dat"],
-    "laychain": ["chain.dat"],
+    "laychain": ["chain.dat", "scale.dat"],
     "laywrite": ["lay.dat"],
-    "layexpect": ["chain.dat"],
-    "layone": ["chain.dat", "job.dat"],
-    "layshow": ["job.dat", "chain.dat", "lay.dat"],
+    "layexpect": ["chain.dat", "scale.dat"],
+    "layone": ["chain.dat", "scale.dat", "job.dat"],
+    "layshow": ["job.dat", "chain.dat", "scale.dat", "lay.dat"],
 }
 
 
@@ -433,6 +462,7 @@ RECORDS = [1, 1, 1, -10000, -20000], [2, 0, 2, 30001, 40000], [3, 0, 3, 0, 0]
 THREE = {
     "job.dat": bytes.fromhex("30750000 409c0000 01 000000 00000000 6400000000000000 0000000000000000"),
     "chain.dat": bytes.fromhex("00000000 00000000 30750000 00000000 00000000 409c0000"),
+    "scale.dat": bytes.fromhex("40420f00"),
     "lay.dat": bytes.fromhex(
         "01 01 0000 01000000 00000000000059c0 00000000000069c0 0000000000000000"
         "02 00 0000 02000000 5c8fc2f528c07240 0000000000007940 0000000000000000"
@@ -450,6 +480,7 @@ def table_of(chains):
 OLD = {
     "job.dat": b"a job that is no job, and longer than one",
     "chain.dat": table_of([OUTER, OUTER]),
+    "scale.dat": scale_of(999_641, 1_000_001),
     "lay.dat": bytes(range(32)) * 3,
     "notes": b"a file that is none of the desk's\n",
 }
@@ -724,10 +755,31 @@ def chains():
         yield refused(to_table(lines(few), "chains that are not sound"))
     spoilt = [instead(CHAIN, at % 6, word) for at, word in enumerate(NO_WORDS + NO_NUMBERS + NO_READINGS)]
     short = [CHAIN[:n] for n in range(1, 6)] + [CHAIN + [0], CHAIN + [0] * 6]
-    both = [[0, 0, 0, 0, 0, b"x"], [b"x", 0, EAST + 1, 0, 0, 0]]
+    both = [[0, 0, 0, 0, 0, b"x"], [b"x", 0, EAST + 1, 0, 0, 0], [0, 0, EAST + 1, 0, 0, 0, b"x"]]
     for few in grouped([*spoilt, *short, *both], 16):
         yield refused(to_table(lines(few), "lines that are no chain"))
     yield to_table(lines([CHAIN, OUTER, CHAIN + [b"x"]]), "nothing is written", {})
+
+
+def factors():
+    """The seventh word: left out, in range, out of it by little and by much, no number; an eighth; beside stations at fault."""
+    good = [CHAIN + [factor] for factor in (*FACTORS, b"0999000", b"0" * 300 + b"1001000", b"0001000000")]
+    yield accepted(to_table(lines([CHAIN, *good, OUTER + [999_641], OUTER]), "factors"))
+    for given in (CHAIN + [factor] for factor in FACTORS):
+        yield same_as(to_table(line(in_metres(given, range(1, 7))), "metres and a factor"), to_table(line(given), ""))
+    yield same_as(to_table(line(CHAIN + [1_000_000]), "the usual factor"), to_table(line(CHAIN), ""))
+    for few in grouped([CHAIN + [factor] for factor in (*NO_FACTORS, *larger(999_000), *larger(1_000_000))], 16):
+        yield refused(to_table(lines(few), "factors out of range"))
+    no_factors = [b"0.9996", b"1.00", b"999641.00", b"1000000.", b"-999641", b"-1000000", b"+1000000"]
+    for few in grouped([CHAIN + [word] for word in (*no_factors, *NO_WORDS, *NO_NUMBERS, *METRES)], 16):
+        yield refused(to_table(lines(few), "words that are no factor"))
+    eight = [CHAIN + [1_000_000, word] for word in (0, 1_000_000, b"x", b"#")] + [CHAIN + [1_000_000, b"#", b"a", b"note"]]
+    unsound = instead(CHAIN, 4, EAST + 1), instead(CHAIN, 0, 30000), [0, 0, EAST + 1, 0, 0, 0]
+    wrong = [[*stations, factor] for stations in unsound for factor in (1_000_000, 998_999)]
+    yield refused(to_table(lines([*eight, *wrong, CHAIN[:2] + [1_000_000], CHAIN * 2]), "factors beside other faults"))
+    yield to_table(lines([CHAIN + [999_641], CHAIN + [1_001_001], CHAIN + [b"x"], CHAIN]), "some factors refused")
+    for files in {}, {"chain.dat": OLD["chain.dat"]}, {"scale.dat": OLD["scale.dat"]}, {"scale.dat": b"x" * 1000}:
+        yield accepted(to_table(lines([CHAIN + [999_641], CHAIN]), "over half a pair of files", files))
 
 
 # Logs
@@ -900,8 +952,10 @@ def expecting(values, why, files=THREE):
     return Run("layexpect", words(values), files=files, why=why)
 
 
-def of_chains(*chains):
-    return {"chain.dat": table_of(chains)}
+def of_chains(*chains, factors=None):
+    """A table and its side file, with the usual factors unless others are given."""
+    table = table_of(chains)
+    return {"chain.dat": table, "scale.dat": units(table) if factors is None else scale_of(*factors)}
 
 
 def expected():
@@ -938,25 +992,50 @@ def expected_tables():
         yield expecting([chain, 30000, 40000], "a chain that is not sound beside one that is", pair)
     for chain in unsound, instead(CHAIN, 0, EAST + 1), instead(CHAIN, 3, NORTH + 1), [0, 0, 7, 7, 7, 7], [7, 0, 1, 1, 7, 0]:
         yield expecting([1, 30000, 40000], "a chain that is not sound", of_chains(chain))
-    many = of_chains(*([i, 2 * i, 30000 + i, i, 7 * i, 40000 + i] for i in range(1, 18)))["chain.dat"]
+    many = table_of([i, 2 * i, 30000 + i, i, 7 * i, 40000 + i] for i in range(1, 18))
+    factors = scale_of(*range(999_000, 1_001_100, 123))
     for chain in 1, 2, 15, 16, 17:
-        yield expecting([chain, 30000, 40000], "one of 16 chains", {"chain.dat": many[:384]})
+        yield expecting([chain, 30000, 40000], "one of 16 chains", {"chain.dat": many[:384], "scale.dat": factors[:64]})
     for length in 0, 1, 23, 24, 25, 383, 384, 385, 408:
-        yield expecting([1, 30000, 40000], f"a table of {length} bytes", {"chain.dat": many[:length]})
+        yield expecting([1, 30000, 40000], f"a table of {length} bytes", folder_of(chain=many[:length]))
+    for chains in 1, 2, 16:
+        for length in *range(4 * chains + 6), 1000:
+            files = {"chain.dat": many[: 24 * chains], "scale.dat": (factors * 20)[:length]}
+            yield expecting([chains, 30000, 40000], f"a side file of {length} bytes for {chains} chains", files)
     yield expecting([1, 30000, 40000], "no table", {})
-    yield expecting([1, EAST + 1, 0], "1 before 4", {"chain.dat": many[:25]})
+    yield expecting([1, 30000, 40000], "no table", folder_of(chain=None))
+    yield expecting([1, 30000, 40000], "no side file", folder_of(scale=None))
+    yield expecting([1, EAST + 1, 0], "1 before 4", folder_of(chain=many[:25]))
+    yield expecting([0, EAST + 1, 0], "1 before 4", folder_of(scale=b""))
     yield expecting([1, b"x", 0], "12 before 1", {})
     yield expecting([0, EAST + 1, 0], "4 before 5")
     yield expecting([1, 0, NORTH + 1], "4 before 5", of_chains(unsound))
     yield expecting([0, 0, b"-1"], "12 before 5")
+    yield expecting([1, EAST + 1, 0], "4 before 5", of_chains(CHAIN, factors=[0]))
+
+
+def expected_factors():
+    """By factors in range the places of 01 and others, near and far; by one out of range none, unless it is another chain's."""
+    for factor in FACTORS:
+        for place in [30000, 40000], [30001, 40000], [30000, 40001], [1, 1], [EAST, NORTH], [0, 0]:
+            yield accepted(expecting([2, *place], "by a factor", of_chains(OUTER, CHAIN, factors=[0, factor])))
+        yield expecting([1, 0, 0], "readings about 1,000,000,000", of_chains([0, 0, 44_721, NORTH, 1, 0], factors=[factor]))
+    for files in (of_chains(CHAIN, CHAIN, factors=[factor, rule.UNIT]) for factor in NO_FACTORS):
+        yield refused_once(expecting([1, 30000, 40000], "a factor out of range", files))
+        yield accepted(expecting([2, 30000, 40000], "a factor that does not matter", files))
+    for r, _, corner, *_ in search.CROSSINGS:
+        files = of_chains(rule.flat(rule.stations(r.chain)), factors=[r.factor])
+        yield accepted(expecting([1, *corner], "the corners of known windows", files))
 
 
 # How many places
 
 
 def folder_of(**files):
-    """Files are given by the stem of their names. A file not given is 01's; one given as None is missing."""
-    named = THREE | {f"{name}.dat": s for name, s in files.items()}
+    """Files are given by the stem of their names. A file not given is 01's, but the side file of another table has the usual
+    factors; one given as None is missing."""
+    usual = {"scale.dat": units(files.get("chain") or THREE["chain.dat"])}
+    named = THREE | usual | {f"{name}.dat": s for name, s in files.items()}
     return {name: s for name, s in named.items() if s is not None}
 
 
@@ -989,8 +1068,9 @@ def asked():
     for r, wanted, corner, k, _, visits in search.CROSSINGS:
         for allowance in visits, visits - 1, 2 * MANY_VISITS:
             job, table = records.job(*corner, k=k, allowance=allowance), rule.chain_bytes(r.chain)
-            yield asking([1, *wanted], "crossings", chain=table, job=job)
-            yield asking(in_metres([2, *wanted], [2, 3]), "crossings in metres", chain=THREE["chain.dat"] + table, job=job)
+            yield asking([1, *wanted], "crossings", chain=table, scale=scale_of(r.factor), job=job)
+            pair = {"chain": THREE["chain.dat"] + table, "scale": scale_of(0, r.factor)}
+            yield asking(in_metres([2, *wanted], [2, 3]), "crossings in metres", **pair, job=job)
     for x in SIZE, -SIZE, SIZE + 1, -SIZE - 1, b"-0", b"-0.00", b"10000000.00", b"-10000000.00", b"10000000.01", b"-10000000.01":
         yield asking([1, x, -20000], "readings at their limit")
         yield asking([1, -10000, x], "readings at their limit")
@@ -1029,6 +1109,15 @@ def asked_tables():
         yield asking([number, -10000, -20000], "one of 16 chains", chain=many[:384], job=records.job(k=4, tolerance=9, allowance=500))
     for length in 0, 1, 23, 24, 25, 383, 384, 385, 408, 70_000:
         yield asking(WANTED, f"a table of {length} bytes", chain=many[:length])
+    for chains in 1, 2, 16:
+        for length in *range(4 * chains + 6), 70_000:
+            scale = (scale_of(rule.UNIT) * 20_000)[:length]
+            yield asking(WANTED, f"a side file of {length} bytes for {chains} chains", chain=many[: 24 * chains], scale=scale)
+    for factor in (*FACTORS, *NO_FACTORS):
+        for number in 1, 2:
+            pair = {"chain": table_of([CHAIN, CHAIN]), "scale": scale_of(factor, rule.UNIT)}
+            yield asking([number, -10000, -20000], "factors", **pair)
+            yield asking([number, -10010, -20020], "the readings of the least factor", **pair)
     for length in 0, 1, 31, 33, 64, 100_000:
         yield refused_once(asking(WANTED, f"a job of {length} bytes", job=(THREE["job.dat"] * 4_000)[:length]))
     for at in 9, 10, 11, *range(24, 32):
@@ -1041,7 +1130,7 @@ def asked_tables():
         *({"tolerance": t} for t in (100_000, 100_001, 2**32 - 1)),
     ):
         yield asking([1, SIZE, SIZE], "jobs at their limits", job=records.job(**changes))
-    for gone in ["chain"], ["job"], ["chain", "job"], ["chain", "job", "lay"]:
+    for gone in ["chain"], ["scale"], ["job"], ["chain", "scale"], ["scale", "job"], ["chain", "scale", "job", "lay"]:
         for number, a in (1, -10000), (2, SIZE + 1), (b"x", -10000):
             yield refused_once(asking([number, a, -20000], "files that are missing", **dict.fromkeys(gone)))
             yield refused_once(asking([number, a, -20000], "files that are empty", **dict.fromkeys(gone, b"")))
@@ -1049,14 +1138,17 @@ def asked_tables():
     yield refused_once(asking(WANTED, "no job, and a table of 25 bytes", job=None, chain=many[:25]))
 
 
-def faulty(number=1, a=-10000, b=-20000, table=THREE["chain.dat"], length=32, **job):
+def faulty(number=1, a=-10000, b=-20000, table=THREE["chain.dat"], scale=THREE["scale.dat"], length=32, **job):
     """01's question with something wrong in it."""
-    return asking([number, a, b], f"things that are wrong: {job}", chain=table, job=(records.job(**job) + bytes(9))[:length])
+    files = {"chain": table, "scale": scale, "job": (records.job(**job) + bytes(9))[:length]}
+    return asking([number, a, b], f"things that are wrong: {job}", **files)
 
 
 FAULTS = (
     {"a": b"1.5"},
     {"table": THREE["chain.dat"] + b"\0"},
+    {"scale": THREE["scale.dat"][:3]},
+    {"scale": THREE["scale.dat"] + b"\0"},
     {"length": 31},
     {"length": 33},
     {"zeros": (0, 1, 0)},
@@ -1065,6 +1157,7 @@ FAULTS = (
     {"b": SIZE + 1},
     {"number": 2},
     {"table": table_of([[0] * 6])},
+    {"scale": scale_of(998_999)},
     {"k": 25},
     {"easting": EAST},
     {"tolerance": 100_001},
@@ -1121,6 +1214,25 @@ def shown_tables():
         yield showing(f"a table of {length} bytes", chain=many[:length])
 
 
+def shown_scales():
+    """Factors in range and out of it, also of chains that are not sound; side files that do not fit the table, by every length
+    about the one that does, and of tables that are refused."""
+    every = FACTORS + NO_FACTORS
+    for at in range(0, len(every), 7):
+        few = every[at : at + 7]
+        for chain in CHAIN, OUTER, [0] * 6, instead(CHAIN, 2, EAST + 1):
+            yield showing("factors", chain=table_of([chain] * len(few)), scale=scale_of(*few))
+    many = table_of([[0] * 6] + [[i, 2 * i, 30000 + i, i, 7 * i, 40000 + i] for i in range(1, 17)])
+    for chains in 1, 2, 16:
+        for length in *range(4 * chains + 6), 65, 66, 70_000:
+            scale = (bytes(range(1, 256)) * 300)[:length]
+            yield showing(f"a side file of {length} bytes for {chains} chains", chain=many[-24 * chains :], scale=scale)
+            yield showing(f"a side file of {length} bytes, a chain not sound", chain=many[: 24 * chains], scale=scale)
+    for scale in b"", b"x", THREE["scale.dat"], None:
+        for table in b"", many[:25], many, None:
+            yield showing("a side file of a table that is refused", chain=table, scale=scale)
+
+
 def as_record(kind, first, second, chain=0, number=7, **others):
     """A log record; its numbers are floats, or whole numbers that are bit patterns."""
     return records.log(kind, chain, number, first, second, **others)
@@ -1169,7 +1281,7 @@ def shown_logs():
     for length in 65_504, 65_535, 65_536, 65_537, 65_567, 65_568, 131_072, 131_073, 192_000:
         yield showing(f"a log of {length} bytes", lay=mixed[:length])
     yield showing("a log of the longest lines", lay=b"\xff" * 131_080)
-    for missing in ["job"], ["chain"], ["lay"], ["job", "chain"], ["job", "chain", "lay"]:
+    for missing in ["job"], ["chain"], ["scale"], ["lay"], ["job", "chain"], ["scale", "lay"], ["job", "chain", "scale", "lay"]:
         yield showing("files that are missing", **dict.fromkeys(missing))
         yield showing("files that are empty", **dict.fromkeys(missing, b""))
 
@@ -1180,12 +1292,12 @@ def cases():
     yield from arguments()
     yield from counts()
     yield from (*jobs(), *bad_jobs())
-    yield from (*tables(), *chains())
+    yield from (*tables(), *chains(), *factors())
     yield from logs()
     yield from (*blanks(), *long_lines(), *edges(), *long_texts())
-    yield from (*expected(), *expected_tables())
+    yield from (*expected(), *expected_tables(), *expected_factors())
     yield from (*asked(), *asked_words(), *asked_tables(), *asked_faults())
-    yield from (*shown_jobs(), *shown_tables(), *shown_logs())
+    yield from (*shown_jobs(), *shown_tables(), *shown_scales(), *shown_logs())
 
 
 # Runs at random
@@ -1212,11 +1324,21 @@ def drawn_place(draw, wild=0.0):
     return [drawn(draw, EAST, wild), drawn(draw, NORTH, wild)]
 
 
-def drawn_chain(draw, wild):
+def drawn_stations(draw, wild):
     places = [drawn_place(draw, wild) for _ in range(3)]
     if draw.random() < wild:
         places[draw.randrange(3)] = places[draw.randrange(3)]
     return sum(places, [])
+
+
+def drawn_factor(draw, wild):
+    """With the chance `wild`, one out of range or at its ends."""
+    return draw.choice(FACTORS + NO_FACTORS) if draw.random() < wild else search.drawn_factor(draw)
+
+
+def drawn_chain(draw, wild):
+    """The numbers of a line for a table, with a factor or without one."""
+    return drawn_stations(draw, wild) + [drawn_factor(draw, wild)][: draw.randint(0, 1)]
 
 
 def drawn_record(draw, wild):
@@ -1265,7 +1387,7 @@ def drawn_text(draw, values_of, bytes_of, most, lengths):
 
 
 def drawn_table(draw, wild=0.3):
-    return table_of([number % 2**32 for number in drawn_chain(draw, wild)] for _ in range(draw.randint(1, 16)))
+    return table_of([number % 2**32 for number in drawn_stations(draw, wild)] for _ in range(draw.randint(1, 16)))
 
 
 def drawn_bytes(draw):
@@ -1286,7 +1408,9 @@ def drawn_files(draw):
     east, north, *others = (number % 2**bits for number, bits in zip(drawn_job(draw, 0.2), (32, 32, 8, 32, 64)))
     job = rule.job_bytes(rule.Job((east, north), *others))
     log = b"".join(drawn_bytes(draw) for _ in range(draw.randint(0, 60)))
-    return as_found(draw, {"job.dat": job, "chain.dat": drawn_table(draw), "lay.dat": log})
+    table = drawn_table(draw)
+    scale = scale_of(*(drawn_factor(draw, 0.2) for _ in range(len(table) // 24)))
+    return as_found(draw, {"job.dat": job, "chain.dat": table, "scale.dat": scale, "lay.dat": log})
 
 
 def as_found(draw, files):
@@ -1324,7 +1448,8 @@ def drawn_question(draw, wild):
     ample = draw.choice((MANY_VISITS, MANY_VISITS + 1, 2**64 - 1)) if ends and not wild else 2000
     job = r.job._replace(allowance=draw.choice((max(0, decided - 1), decided, decided + 1, ample, ample)))
     number = drawn(draw, 17, wild) if draw.random() < wild else len(others) // 24 + 1
-    files = {"job.dat": rule.job_bytes(job), "chain.dat": others + rule.chain_bytes(r.chain), "lay.dat": b""}
+    table, scale = others + rule.chain_bytes(r.chain), units(others) + rule.factor_bytes(r.factor)
+    files = {"job.dat": rule.job_bytes(job), "chain.dat": table, "scale.dat": scale, "lay.dat": b""}
     files = as_found(draw, files) if wild else files
     return Run("layone", drawn_arguments(draw, [number, *r.wanted], wild, [2, 3]), files=files)
 

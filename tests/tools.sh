@@ -8,7 +8,9 @@ seed=${1:-20261115}
 folders=$(mktemp -d)
 trap 'rm -rf "$folders"' EXIT
 folder=$folders/folder printed=$folders/printed said=$folders/said
-files=(chain.dat job.dat lay.dat)
+files=(chain.dat job.dat lay.dat scale.dat)
+one_chain='chain.dat: 1 chain written, 1 there now
+scale.dat: 1 factor written, 1 there now'
 records='1 1 1 -10000 -20000
 2 0 2 30001 40000
 3 0 3 0 0'
@@ -52,8 +54,8 @@ give layjob 30000 40000 1 0 100
 pass_if "01's job: $(head -n 3 "$said")" prints 'job.dat: 1 job written, 1 there now; a search may make 100 visits'
 pass_if "01's job, written" holds job.dat
 give laychain 0 0 30000 0 0 40000
-pass_if "01's chain: $(head -n 3 "$said")" prints 'chain.dat: 1 chain written, 1 there now'
-pass_if "01's chain, written" holds chain.dat job.dat
+pass_if "01's chain: $(head -n 3 "$said")" prints "$one_chain"
+pass_if "01's chain, written" holds chain.dat job.dat scale.dat
 give laywrite "$records"
 pass_if "01's log: $(head -n 3 "$said")" prints 'lay.dat: 3 records written, 3 there now'
 pass_if "01's log, written" holds "${files[@]}"
@@ -63,7 +65,7 @@ pass_if "01's listing from text: $(head -n 9 "$printed" "$said")" prints "$(<"$e
 # It is shown as docs/FORMATS.md shows it, and the readings at 01's places are 01's. The last word of each says whether its bytes are
 # rounded when they are read.
 shown='JOB 30000 40000 1 0 100
-CHAIN 1 0 0 30000 0 0 40000
+CHAIN 1 0 0 30000 0 0 40000 1000000
 LOG 1 1 1 -10000 -20000
 LOG 2 0 2 30001 40000
 LOG 3 0 3 0 0'
@@ -81,10 +83,71 @@ done <<'END'
 END
 pass_if 'the files stay' holds "${files[@]}"
 
+# By a factor: that of 999641 millionths, typed as the seventh word, is d9400f00 in the side file. At (30000, 40000) the ranges
+# 50000, 40000 and 30000 are then 50017, 40014 and 30010, so the readings are -10003 and -20007; the whole files are shown, and
+# typed again they are the same.
+fresh "${files[@]}"
+give laychain 0 0 30000 0 0 40000 999641
+pass_if "a chain with its factor: $(head -n 3 "$said")" prints "$one_chain"
+pass_if 'the table is the same' cmp "$folder/chain.dat" "$example/chain.dat"
+pass_if 'the side file is another' cmp "$folder/scale.dat" <(printf '\xd9\x40\x0f\x00')
+give layshow
+pass_if "a factor, shown: $(head -n 9 "$printed" "$said")" prints "${shown/1000000/999641}"
+give layexpect 1 30000 40000
+pass_if "readings by a factor: $(head -n 9 "$printed" "$said")" prints 'A -10003 -100.03 52b81e85eb0159c0 1
+B -20007 -200.07 0ad7a3703d0269c0 1'
+give layone 1 -10003 -20007
+pass_if "a question by a factor: $(head -n 9 "$printed" "$said")" prints 'SEVERAL 5'
+give layone 1 -10000 -20000
+pass_if "another by a factor: $(head -n 9 "$printed" "$said")" prints 'NONE 5'
+
+# shown_chains LINES: that layshow prints these of the chains and the side file, and nothing but a note
+shown_chains() { give layshow && accepted && [ "$(grep -E '^(CHAIN|SCALE)' "$printed")" = "$1" ]; }
+
+# A side file that does not fit is shown by its bytes, at most 65 of them, and the chains without a factor; a factor out of range is
+# refused with 5; of the side file of a refused table nothing is said.
+bytes_24=0000000000000000307500000000000000000000409c0000
+while IFS=: read -r count scale lines; do
+    fresh job.dat lay.dat
+    for ((n = 0; n < count; n++)); do cat "$example/chain.dat"; done >"$folder/chain.dat"
+    [ "$scale" = none ] || printf "$(sed 's/../\\x&/g' <<<"$scale")" >"$folder/scale.dat"
+    pass_if "$count chains and the side file $scale: $(head -n 9 "$printed" "$said")" shown_chains "$(printf "${lines# }")"
+done <<END
+1:40420f00: CHAIN 1 0 0 30000 0 0 40000 1000000
+1:583e0f00: CHAIN 1 0 0 30000 0 0 40000 999000
+1:28460f00: CHAIN 1 0 0 30000 0 0 40000 1001000
+1:573e0f00: CHAIN 1 0 0 30000 0 0 40000 998999 REFUSED 5 $bytes_24
+1:29460f00: CHAIN 1 0 0 30000 0 0 40000 1001001 REFUSED 5 $bytes_24
+1:00000000: CHAIN 1 0 0 30000 0 0 40000 0 REFUSED 5 $bytes_24
+1:ffffffff: CHAIN 1 0 0 30000 0 0 40000 4294967295 REFUSED 5 $bytes_24
+2:40420f00573e0f00: CHAIN 1 0 0 30000 0 0 40000 1000000\nCHAIN 2 0 0 30000 0 0 40000 998999 REFUSED 5 $bytes_24
+1:none: CHAIN 1 0 0 30000 0 0 40000\nSCALE REFUSED 1
+1:: CHAIN 1 0 0 30000 0 0 40000\nSCALE REFUSED 1
+1:40420f: CHAIN 1 0 0 30000 0 0 40000\nSCALE REFUSED 1 40420f
+1:40420f0041: CHAIN 1 0 0 30000 0 0 40000\nSCALE REFUSED 1 40420f0041
+2:40420f00: CHAIN 1 0 0 30000 0 0 40000\nCHAIN 2 0 0 30000 0 0 40000\nSCALE REFUSED 1 40420f00
+1:$(printf %0140d 7): CHAIN 1 0 0 30000 0 0 40000\nSCALE REFUSED 1 $(printf %0130d 0)
+0:40420f00: CHAIN REFUSED 1
+0:none: CHAIN REFUSED 1
+END
+
+# A folder from before there were factors is mended by the command that the documents have. Its chains then have the factor
+# 1,000,000.
+while IFS=: read -r page command; do
+    fresh chain.dat job.dat lay.dat
+    run laylist
+    pass_if "a folder without a side file: $(cat "$printed" "$said")" [ "$(<"$printed")" = 'SCALE REFUSED 1' ]
+    status=0
+    (cd "$folder" && PATH=$PATH:$repository/bin bash -c "$command") >"$printed" 2>"$said" || status=$?
+    pass_if "$page: the command that mends it: $(cat "$printed" "$said")" [ "$status $(<"$printed")" = "0 $one_chain" ]
+    pass_if "$page: it is mended" holds "${files[@]}"
+done < <(grep -E '^    layshow \|.* laychain$' examples/README.md docs/FORMATS.md)
+pass_if 'both pages have the command' [ "$(grep -lE '^    layshow \|.* laychain$' examples/README.md docs/FORMATS.md | wc -l)" -eq 2 ]
+
 # How many places there are, by 01's cases: after the words of a job, the readings, in centimetres or in metres. P4, also with just enough
 # visits; P5; P8; P9; the first cell of P4's window alone; P2; the master's place, with three cells to visit after it. Nothing changes.
 while IFS=: read -r job readings line; do
-    fresh chain.dat
+    fresh chain.dat scale.dat
     run layjob $job
     cp "$folder/job.dat" "$folders/asked"
     give layone 1 $readings
@@ -103,7 +166,7 @@ END
 
 # More than 100,000,000 visits: a note, before the answer. Here that does not take long.
 for allowance in 100000000 100000001; do
-    fresh chain.dat
+    fresh chain.dat scale.dat
     run layjob 30000 40000 1 0 $allowance
     give layone 1 -10000 -20000
     pass_if "layone with $allowance visits: $(cat "$said")" [ "$(<"$printed")" = 'SEVERAL 5' ]
@@ -173,7 +236,23 @@ laychain 0 0 30000 0 0 0: 5
 laychain 0 0 30000 0 30000 0: 5
 laychain 0 0 0 0 0 x: 12
 laychain 0 0 30000 0 0: 12
-laychain 0 0 30000 0 0 40000 1: 12
+laychain 0 0 30000 0 0 40000 1: 5
+laychain 0 0 30000 0 0 40000 999000: 0
+laychain 0 0 30000 0 0 40000 1001000: 0
+laychain 0 0 30000 0 0 40000 0001000000: 0
+laychain 0 0 30000 0 0 1000000: 0
+laychain 0 0 30000 0 0 40000 0: 5
+laychain 0 0 30000 0 0 40000 998999: 5
+laychain 0 0 30000 0 0 40000 1001001: 5
+laychain 0 0 30000 0 0 40000 4295967296: 5
+laychain 0 0 30000 0 0 40000 18446744073710551616: 5
+laychain 0 0 30000 0 0 40000 0.9996: 12
+laychain 0 0 30000 0 0 40000 1000000.00: 12
+laychain 0 0 30000 0 0 40000 -1000000: 12
+laychain 0 0 30000 0 0 40000 x: 12
+laychain 0 0 30000 0 0 40000 1000000 1: 12
+laychain 0 0 0 0 0 40000 998999: 5
+laychain 0 0 0 0 0 40000 x: 12
 laychain 1000000.00 10000000.00 0.00 10000000.00 1000000.00 0.00: 0
 laychain 1000000.01 0 30000 0 0 40000: 5
 laychain 0 0 300.00 10000000.01 0 40000: 5
@@ -297,7 +376,7 @@ shown_again() {
         sed -n 's/^CHAIN [0-9]* //p' "$printed" | program laychain
         sed -n 's/^LOG //p' "$printed" | program laywrite
     ) >"$folders/written" 2>"$said"
-    [ ! -s "$said" ] && [ "$(wc -l <"$folders/written")" -eq 3 ] && diff -r "$folder" "$again"
+    [ ! -s "$said" ] && [ "$(wc -l <"$folders/written")" -eq 4 ] && diff -r "$folder" "$again"
 }
 for name in double_crossing three_records; do
     fresh
@@ -307,7 +386,7 @@ done
 fresh
 run layjob 83222785 983222785 24 100000 18446744073709551615
 pass_if "the largest job: $(head -n 3 "$said")" ended_well
-run laychain < <(for i in {1..16}; do echo $i $((i * i)) $((100000000 - i)) $i $((7 * i)) $((1000000000 - i)); done)
+run laychain < <(for i in {1..16}; do echo $i $((i * i)) $((100000000 - i)) $i $((7 * i)) $((1000000000 - i)) $((999000 + 125 * i)); done)
 pass_if "the largest table: $(head -n 3 "$said")" ended_well
 run laywrite < <(for i in {0..4999}; do echo $((1 + i % 3)) $((1 + i % 16)) $((i * 858993)) $((i * 19991)) $((i * 199999)); done)
 pass_if "a log of 5,000 records: $(head -n 3 "$said")" ended_well
@@ -324,6 +403,9 @@ for tool in "${tools[@]}"; do
     pass_if "$tool --help with others after it" cmp -s "$printed" "$folders/$tool.help"
     pass_if "$tool --help does nothing else" holds
 done
+
+pass_if 'laylist --help names scale.dat' grep -qF scale.dat "$folders/laylist.help"
+pass_if 'laychain --help explains the factor' grep -qi factor "$folders/laychain.help"
 
 # That of laylist and of layone has the form of each line that docs/FORMATS.md has: after the tool, how many, and how they begin.
 while read -r tool count first; do
@@ -345,11 +427,11 @@ pieces() {
         sleep 0.05
     done
 }
-fresh chain.dat job.dat
+fresh chain.dat job.dat scale.dat
 run laywrite < <(pieces '1 1 1 -100' '00 -20000' $'\n2 0 2 3' $'0001 40000\n3 0 3 0 0' $'\n')
 pass_if "a log in pieces: $(head -n 3 "$said")" holds "${files[@]}"
 fresh job.dat lay.dat
-run laychain < <(pieces '0 0 300' '00 0 0 4000' '0' $'\n')
+run laychain < <(pieces '0 0 300' '00 0 0 4000' '0 10000' '0' $'0\n')
 pass_if "a table in pieces: $(head -n 3 "$said")" holds "${files[@]}"
 
 # Files that cannot be read or written. A folder in place of one is reported, nothing is printed for it, and nothing else changes.
@@ -366,12 +448,16 @@ while read -r file mark words; do
 done <<'END'
 job.dat . layjob 30000 40000 1 0 100
 chain.dat . laychain 0 0 30000 0 0 40000
+scale.dat . laychain 0 0 30000 0 0 40000
 lay.dat . laywrite 3 0 3 0 0
 chain.dat . layexpect 1 30000 40000
+scale.dat . layexpect 1 30000 40000
 chain.dat . layone 1 -10000 -20000
+scale.dat . layone 1 -10000 -20000
 job.dat . layone 1 -10000 -20000
 job.dat JOB layshow
 chain.dat CHAIN layshow
+scale.dat SCALE layshow
 lay.dat LOG layshow
 END
 
@@ -383,10 +469,13 @@ while read -r file words; do
     pass_if "$words, with memory as $file, is reported: $(head -n 3 "$said")" reports "$file"
 done <<'END'
 chain.dat layexpect 1 30000 40000
+scale.dat layexpect 1 30000 40000
 chain.dat layone 1 -10000 -20000
+scale.dat layone 1 -10000 -20000
 job.dat layone 1 -10000 -20000
 job.dat layshow
 chain.dat layshow
+scale.dat layshow
 lay.dat layshow
 END
 
@@ -404,7 +493,7 @@ done
 fresh "${files[@]}"
 (cd "$folder" && program laywrite 2>&- <<<'4 0 0 0 0') || true
 pass_if 'a line refused without standard error' holds "${files[@]}"
-fresh chain.dat job.dat
+fresh chain.dat job.dat scale.dat
 (cd "$folder" && program laywrite 2>&- <<<"$records") >"$printed" || true
 pass_if 'lines accepted without standard error' holds "${files[@]}"
 
@@ -469,7 +558,7 @@ fresh
 by_bin layjob 30000 40000 1 0 100
 pass_if "bin/layjob: $(head -n 3 "$said")" prints 'job.dat: 1 job written, 1 there now; a search may make 100 visits'
 by_bin laychain <<<'0 0 30000 0 0 40000'
-pass_if "bin/laychain: $(head -n 3 "$said")" prints 'chain.dat: 1 chain written, 1 there now'
+pass_if "bin/laychain: $(head -n 3 "$said")" prints "$one_chain"
 by_bin laywrite <<<"$records"
 pass_if "bin/laywrite: $(head -n 3 "$said")" prints 'lay.dat: 3 records written, 3 there now'
 pass_if 'the files made by bin/' holds "${files[@]}"
@@ -522,7 +611,7 @@ lay.dat laywrite 3 0 3 0 0
 END
 # A note leaves the status 0; visits that end too soon are a refusal.
 for allowance in 200000000:0 4:1; do
-    fresh chain.dat
+    fresh chain.dat scale.dat
     run layjob 30000 40000 1 0 ${allowance%:*}
     by_bin layone 1 -10000 -20000
     pass_if "bin/layone with ${allowance%:*} visits ends with $status: $(head -n 3 "$said")" [ "$status" -eq ${allowance#*:} ]
