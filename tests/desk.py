@@ -3,6 +3,7 @@
 
     desk.py faults FOLDER FAULTS LOADER...     killed, out of space or failing at each of their calls (faults.c)
     desk.py writers FOLDER FAULTS LOADER...    others that write the same file at the same time
+    desk.py readers FOLDER FAULTS LOADER...    others that read a table and its side file while these are written
     desk.py keyboard FOLDER FAULTS LOADER...   text that comes slowly, by a pipe or typed at a terminal
     desk.py search FOLDER FAULTS LOADER...     a search that does not end
 
@@ -136,17 +137,26 @@ def wants(run, files):
     return tools.outcome(run._replace(files=files))
 
 
+def files_of(run):
+    """The files that a run writes, in the order in which their fresh ones are made."""
+    return tools.FILES[run.tool]
+
+
 def file_of(run):
-    return tools.FILES[run.tool][0]
+    return files_of(run)[0]
+
+
+def fresh_of(run):
+    return [f"{name}.new" for name in files_of(run)]
 
 
 def without(files, *names):
     return {name: content for name, content in files.items() if name not in names}
 
 
-def waiting(run):
+def waiting(run, name=None):
     """What is said where the fresh file is there: once while it is waited for, and then."""
-    tool, name = run.tool, file_of(run)
+    tool, name = run.tool, name or file_of(run)
     return (
         f"{tool}: note: {name}.new is there: waiting for the tool that is writing {name}; if none is running, remove {name}.new\n"
         f"{tool}: {name}: {name}.new is there: another tool is writing {name}, or was stopped while it did; {name} is whole. "
@@ -154,17 +164,34 @@ def waiting(run):
     ).encode()
 
 
+def waits_for(run, name, said):
+    """That this is said for a fresh file of that name. Whether a side file is whole is not always so, and left open."""
+    if name == file_of(run):
+        return said == waiting(run)
+    note, reason = waiting(run, name).splitlines()
+    start, end = reason.split(f"; {name} is whole. ".encode())
+    told = said.splitlines()
+    return len(told) == 2 and told[0] == note and told[1].startswith(start) and told[1].endswith(end)
+
+
 def is_said(run, said):
     """That each line is a note, or names the tool and a file that the user knows, with a reason."""
-    name = re.escape(file_of(run))
-    line = re.compile(rf"{run.tool}: (note|{name}|chain\.dat|standard input|standard output): [^ ].*".encode())
-    scratch = re.compile(rf"{name}\.(?!new\b)[A-Za-z0-9]".encode())
+    names = "|".join(map(re.escape, files_of(run)))
+    line = re.compile(rf"{run.tool}: (note|{names}|chain\.dat|standard input|standard output): [^ ].*".encode())
+    scratch = re.compile(rf"({names})\.(?!new\b)[A-Za-z0-9]".encode())
     return all(line.fullmatch(one) and not scratch.search(one) for one in said.splitlines())
 
 
 def says_written(run, came):
     """That a run could not confirm, and said that it wrote."""
-    return f"{run.tool}: note: {file_of(run)} is written all the same".encode() in came.said.splitlines()
+    names = "|".join(map(re.escape, files_of(run)))
+    note = re.compile(rf"{run.tool}: note: .*({names}) .*written all the same".encode())
+    return any(note.fullmatch(one) for one in came.said.splitlines())
+
+
+def says_again(came):
+    """That a run said that the side file is not there, and that it must be run again."""
+    return any(b"scale.dat" in one and b"again" in one for one in came.said.splitlines())
 
 
 def without_notes(run, said):
@@ -183,15 +210,19 @@ def log_of(first, many):
     return b"".join(tools.record_bytes(0, line) for line in records(first, many).splitlines())
 
 
-SIXTY = {"chain.dat": THREE["chain.dat"], "lay.dat": log_of(1, 60)}
+SIXTY = {**without(THREE, "job.dat"), "lay.dat": log_of(1, 60)}
 # longer than the 65,536 bytes that are read at a time
-LONG = {"chain.dat": THREE["chain.dat"], "lay.dat": log_of(1, 2100)}
-NEW_JOB, NEW_TABLE = tools.words([30001, 40007, 3, 5, 77]), tools.lines([OUTER, CHAIN])
+LONG = {**SIXTY, "lay.dat": log_of(1, 2100)}
+NEW_JOB, NEW_TABLE = tools.words([30001, 40007, 3, 5, 77]), tools.lines([OUTER + [999_641], CHAIN + [1_000_500]])
 WRITES = {
     "a job": Run("layjob", NEW_JOB),
     "a job in place of another": Run("layjob", NEW_JOB, files=THREE),
     "a table": Run("laychain", text=NEW_TABLE),
     "a table in place of another": Run("laychain", text=NEW_TABLE, files=THREE),
+    "a table in place of one as long": Run("laychain", text=tools.line(OUTER + [999_641]), files=THREE),
+    "other factors for a table": Run("laychain", text=tools.line(CHAIN + [999_641]), files=THREE),
+    "a table without a side file": Run("laychain", text=tools.line(OUTER + [999_641]), files=without(THREE, "scale.dat")),
+    "a side file without a table": Run("laychain", text=tools.line(OUTER + [999_641]), files=without(THREE, "chain.dat")),
     "a log": Run("laywrite", text=records(1, 3), files=without(SIXTY, "lay.dat")),
     "a log of 60 records": Run("laywrite", text=records(61, 5), files=SIXTY),
     "a log of 2,100 records": Run("laywrite", text=records(2101, 3), files=LONG),
@@ -209,36 +240,44 @@ def faults_of(call):
         yield "EACCES"
 
 
+def is_parted(now, old, new):
+    """That of a table and its side file, None for a missing one, the second is missing and the first is the old or the new one."""
+    return len(now) == 2 and now[1] is None and now[0] in (old[0], new[0])
+
+
 def is_whole(what, desk, run, came, files):
-    """That the file is the old one or the new one, with its mode, and the new one if the run said so, or said nothing else."""
-    name, wanted = file_of(run), wants(run, run.files)
-    old, new = run.files.get(name), wanted.files[name]
-    check(f"{what}: {name} is neither the old one nor the new one", files.get(name) in (old, new))
-    check(f"{what}: there is {sorted(files)}", without(files, name, f"{name}.new") == without(run.files, name))
+    """That the files are the old ones or the new ones, with their modes, and the new ones if the run said so, or said nothing else.
+    A side file may be missing, which every tool refuses; it is never there beside a table that it does not belong to."""
+    names, wanted = files_of(run), wants(run, run.files)
+    old, new, now = ([each.get(name) for name in names] for each in (run.files, wanted.files, files))
+    check(f"{what}: {names} are neither the old ones nor the new ones", now in (old, new) or is_parted(now, old, new))
+    check(f"{what}: there is {sorted(files)}", without(files, *names, *fresh_of(run)) == without(run.files, *names))
     check(f"{what}: it printed {came.printed!r}", wanted.printed.startswith(came.printed))
-    if old is not None and name in files:
+    for name in files.keys() & run.files.keys() & set(names):
         check(f"{what}: {name} has the mode {desk.mode(name):o}", desk.mode(name) == MODE)
     if came.printed == wanted.printed:
-        check(f"{what}: it is confirmed, and not written", files.get(name) == new)
+        check(f"{what}: it is confirmed, and not written", now == new)
     if came.status < 0:
         return
     said = without_notes(run, came.said)
-    check(f"{what}: {name}.new is left", f"{name}.new" not in files)
+    check(f"{what}: a fresh file is left: {sorted(files)}", not files.keys() & set(fresh_of(run)))
     check(f"{what}: it ended with {came.status}", came.status == 0)
     check(f"{what}: it said {came.said!r}", is_said(run, came.said))
     if not said:
-        check(f"{what}: not a word, and not written", files.get(name) == new)
+        check(f"{what}: not a word, and not written", now == new)
         check(f"{what}: not a word, and not confirmed", came.printed == wanted.printed)
     elif old != new:
-        check(f"{what}: of {name} it said {came.said!r}", says_written(run, came) == (files.get(name) == new))
+        check(f"{what}: of {names} it said {came.said!r}", says_written(run, came) == (now == new))
+        check(f"{what}: without a side file it said {came.said!r}", now in (old, new) or says_again(came))
 
 
 def goes_on(what, desk, run, files):
     """What the next run does. A fresh file that was left behind keeps it from writing, until that is removed."""
-    name = file_of(run)
-    if f"{name}.new" in files:
+    for name in files_of(run):
+        if f"{name}.new" not in files:
+            continue
         came = desk.run(run, awake=1)
-        check(f"{what}: the next run said {came.said!r}", came.said == waiting(run) and came.printed == b"")
+        check(f"{what}: the next run said {came.said!r}", waits_for(run, name, came.said) and came.printed == b"")
         check(f"{what}: the next run changed something", desk.files() == files)
         (desk.work / f"{name}.new").unlink(missing_ok=True)
         files = without(files, f"{name}.new")
@@ -271,7 +310,7 @@ def unread(desk):
     for name, run in READS.items():
         desk.put(run.files)
         whole = desk.run(run)
-        line = re.compile(rf"{run.tool}: (job\.dat|chain\.dat|lay\.dat|standard output): [^ ].*\n".encode())
+        line = re.compile(rf"{run.tool}: ((job|chain|scale|lay)\.dat|standard output): [^ ].*\n".encode())
         for at, call in enumerate(whole.calls, 1):
             for fault in "EIO", "EACCES", "full", "half":
                 came = desk.run(run, at=at, do=fault)
@@ -304,10 +343,15 @@ def without_scratch(desk, came):
 
 
 def is_stored(run, calls):
-    """That the fresh file is stored after the last write to it and before it is renamed, and the folder after that."""
-    at = calls.index(f"rename {file_of(run)}.new") if f"rename {file_of(run)}.new" in calls else 0
-    before = [call.split()[0] for call in reversed(calls[:at])]
-    return "fsync" in before[: before.index("write")] and "fsync" in " ".join(calls[at:]).partition("open .")[2] if at else False
+    """That every fresh file is stored, after the last write, before the first file is removed or replaced; that a side file, if
+    there is one, is removed first, then the fresh files get their names, and then the folder is stored."""
+    steps = [f"unlink {name}" for name in files_of(run)[1:] if name in run.files] + [f"rename {name}" for name in fresh_of(run)]
+    at = [calls.index(step) for step in steps if step in calls]
+    if len(at) < len(steps) or at != sorted(at):
+        return False
+    before = [call.split()[0] for call in reversed(calls[: at[0]])]
+    stored = "fsync" in before[: before.index("write")] and before.count("fsync") >= len(fresh_of(run))
+    return stored and "fsync" in " ".join(calls[at[-1] :]).partition("open .")[2]
 
 
 def faulty(what, desk, run, at, fault):
@@ -344,7 +388,7 @@ class Pair(NamedTuple):
 SIXTY_MORE = Run("laywrite", text=records(2001, 60))
 PAIRS = {
     "two jobs": Pair(Run("layjob", NEW_JOB, files=THREE), Run("layjob", tools.words([7, 8, 9, 10, 11]))),
-    "two tables": Pair(Run("laychain", text=NEW_TABLE, files=THREE), Run("laychain", text=tools.lines([OUTER] * 3))),
+    "two tables": Pair(Run("laychain", text=NEW_TABLE, files=THREE), Run("laychain", text=tools.lines([OUTER + [1_000_999]] * 3))),
     "two new logs": Pair(Run("laywrite", text=records(1001, 3), files=without(SIXTY, "lay.dat")), SIXTY_MORE),
     "two logs of 60 records": Pair(Run("laywrite", text=records(1001, 5), files=SIXTY), SIXTY_MORE),
 }
@@ -382,12 +426,12 @@ def all_kept(what, desk, start, *runs):
 
 
 def calls_of(desk, run):
-    """The calls of a run, and between which two of them, from 1, its fresh file is there: from the first of them up to the last."""
+    """The calls of a run, and between which two of them, from 1, a fresh file is there: from the first of them up to the last."""
     desk.put(run.files)
-    calls, name = desk.run(run).calls, file_of(run)
-    made = [at for at, call in enumerate(calls, 1) if call == f"open {name}.new"]
-    gone = [at for at, call in enumerate(calls, 1) if call == f"rename {name}.new"]
-    check(f"{run.tool} makes {name}.new and renames it: {calls}", made and gone)
+    calls, fresh = desk.run(run).calls, fresh_of(run)
+    made = [at for at, call in enumerate(calls, 1) if call == f"open {fresh[0]}"]
+    gone = [at for at, call in enumerate(calls, 1) if call == f"rename {fresh[-1]}"]
+    check(f"{run.tool} makes {fresh} and renames them: {calls}", made and gone)
     return calls, range(made[-1] + 1, gone[-1] + 1) if made and gone else range(0)
 
 
@@ -409,18 +453,25 @@ def stopped(desk):
 
 
 def removed(desk):
-    """The same while A's fresh file is there, which somebody removes."""
+    """The same while A's fresh files are there, which somebody removes. Who is stopped just before it removes a side file then
+    removes that of B: it says so, and no tool takes the table alone."""
     for name, (a, b) in PAIRS.items():
         calls, there = calls_of(desk, a)
         for at in there:
             desk.put(a.files)
             process = desk.start(a, at=at, do="stop")
             until_stopped(process)
-            (desk.work / f"{file_of(a)}.new").unlink(missing_ok=True)
+            for fresh in fresh_of(a):
+                (desk.work / fresh).unlink(missing_ok=True)
             came = desk.run(b)
-            what = f"{name}, A's fresh file removed at call {at}, {calls[at - 1]}"
+            what = f"{name}, A's fresh files removed at call {at}, {calls[at - 1]}"
             check(f"{what}: B said {came.said!r}", is_confirmed(came))
-            all_kept(what, desk, a.files, (a, resumed(desk, process)), (b, came))
+            ended, left = resumed(desk, process), desk.files()
+            if calls[at - 1] == "unlink scale.dat" and "scale.dat" not in left:
+                table = without(wants(b, a.files).files, "scale.dat")
+                check(f"{what}: A said {ended.said!r}, and left {sorted(left)}", says_again(ended) and left == table)
+            else:
+                all_kept(what, desk, a.files, (a, ended), (b, came))
 
 
 def replaced(desk):
@@ -527,6 +578,7 @@ def waits(desk):
         if run.tool != "layjob":
             gives_up(f"{name}, a fresh file at the end", desk, run, files, 600, False)
     gives_up("a dangling link as the fresh file", desk, run, files, 50, True, lambda path: path.symlink_to("nowhere"))
+    waits_beside(desk, PAIRS["two tables"].b, files)
     printed, said = locked.communicate(timeout=PATIENCE)
     check(f"bin/layjob with a fresh file there: {said!r}", said == waiting(Run("layjob")) and printed == b"")
     check(f"bin/layjob with a fresh file there ended with {locked.returncode}", locked.returncode == 1)
@@ -559,6 +611,27 @@ def gives_up(what, desk, run, files, tries, at_start, make=Path.touch):
     check(f"{what}: {len(slept)} times {set(slept)}", set(slept) == {"nanosleep 100000000"} and tries - 1 <= len(slept) <= tries)
     check(f"{what}: it said {came.said!r}", came.said == waiting(run) and came.printed == b"")
     check(f"{what}: it left {sorted(desk.files())}", without(desk.files(), fresh.name) == files and not desk.files()[fresh.name])
+
+
+def waits_beside(desk, run, files):
+    """A fresh side file of another's, which is there from the start or comes before the end: it is waited for, and at last the run
+    leaves everything as it was, its own fresh table too."""
+    for at_start in True, False:
+        desk.put(files)
+        fresh = desk.work / "scale.dat.new"
+        reading, writing = os.pipe()
+        if at_start:
+            fresh.touch()
+        process = desk.start(run, stdin=reading, awake=1)
+        os.close(reading)
+        until_reading(process)
+        fresh.touch()
+        ended_with(writing, run.text)
+        came = desk.ended(process)
+        slept = [call for call in came.calls if call.startswith("nanosleep ")]
+        check(f"a fresh side file: {len(slept)} times {set(slept)}", set(slept) == {"nanosleep 100000000"} and len(slept) >= 49)
+        check(f"a fresh side file: it said {came.said!r}", waits_for(run, "scale.dat", came.said) and came.printed == b"")
+        check(f"a fresh side file: there is {sorted(desk.files())}", desk.files() == {**files, "scale.dat.new": b""})
 
 
 WRITERS, TURNS = 8, 20
@@ -600,6 +673,128 @@ def writes(desk, writer, came):
 
 def writers(desk):
     for test in stopped, removed, replaced, cut_short, held_open, waits, together:
+        test(desk)
+
+
+# Readers beside a table that is written
+
+# Two tables as long as each other, stations and factor. What is asked about a place has another answer by each, and by the table of
+# one with the factor of the other.
+BEFORE = [5_000_000, 5_000_000, 12_000_000, 5_000_000, 5_000_000, 12_000_000], 999_641
+AFTER = [5_000_003, 5_000_001, 12_000_000, 5_000_002, 4_999_998, 12_000_000], 999_643
+PLACE, WINDOW = (8_000_000, 9_000_000), rule.Job((7_999_000, 8_999_000), 11, 0, 10**6)
+SEEN = rule.readings(rule.chain_of(*BEFORE), PLACE)
+READERS = (
+    Run("layshow"),
+    Run("layexpect", tools.words([1, *PLACE])),
+    Run("layone", tools.words([1, *SEEN])),
+    Run("laylist"),
+)
+
+
+def folder_of(stations, *factor):
+    """The files with this table and its factor; without one the side file is missing."""
+    table = {"job.dat": rule.job_bytes(WINDOW), "chain.dat": tools.table_of([stations])}
+    log = {"lay.dat": tools.record_bytes(0, tools.line([1, 1, 1, *SEEN])[:-1])}
+    return table | log | ({"scale.dat": tools.scale_of(*factor)} if factor else {})
+
+
+def table_text(stations, factor):
+    return tools.line([*stations, factor])
+
+
+def answer_of(run, files):
+    """What a reader prints and says of these files."""
+    names = tools.FILES["layshow"]
+    if run.tool == "laylist":
+        listing = tools.text_of(line for line, _ in rule.listing(*(files.get(name, b"") for name in names)))
+        return listing, tools.text_of(tools.missing(run.tool, run._replace(files=files), names))
+    wanted = wants(run, files)
+    refusals = [f"{run.tool}: REFUSED {each.number}: {each.sentence}" for each in wanted.refusals]
+    return wanted.printed, tools.text_of([*wanted.before, *refusals])
+
+
+def overtaken(desk):
+    """A reader is stopped at each of its calls while the table is replaced. It prints what one of the two tables gives, or says
+    that the table was changed and prints nothing."""
+    write = Run("laychain", text=table_text(*AFTER))
+    for run in READERS:
+        old, new = (answer_of(run, folder_of(*each)) for each in (BEFORE, AFTER))
+        mixed = [answer_of(run, folder_of(one[0], other[1])) for one, other in ((BEFORE, AFTER), (AFTER, BEFORE))]
+        changed = b"", f"{run.tool}: chain.dat: this file was changed while it was read; try again\n".encode()
+        check(f"{run.tool}: a mixed pair gives another answer", len({old, new, *mixed}) == 4)
+        desk.put(folder_of(*BEFORE))
+        calls, answers = desk.run(run).calls, []
+        for at, call in enumerate(calls, 1):
+            desk.put(folder_of(*BEFORE))
+            process = desk.start(run, at=at, do="stop")
+            until_stopped(process)
+            came, ended = desk.run(write), resumed(desk, process)
+            what = f"{run.tool}, the table replaced at call {at}, {call}"
+            answers.append((ended.printed, ended.said))
+            check(f"{what}: {came.said!r}", is_confirmed(came))
+            check(f"{what}: {answers[-1]}", answers[-1] in (old, new, changed) and ended.status == 0)
+        check(f"{run.tool} before, while and after the table is replaced: {answers}", {old, new, changed} <= set(answers))
+
+
+def beside_a_writer(desk):
+    """Readers while laychain is stopped at each of its calls: they take the old pair, or the new one, or refuse a table alone."""
+    write, came = Run("laychain", text=table_text(*AFTER), files=folder_of(*BEFORE)), []
+    calls, _ = calls_of(desk, write)
+    old, new = ([folder_of(*each)[name] for name in files_of(write)] for each in (BEFORE, AFTER))
+    for at, call in enumerate(calls, 1):
+        desk.put(write.files)
+        process = desk.start(write, at=at, do="stop")
+        until_stopped(process)
+        files = without(desk.files(), *fresh_of(write))
+        now = [files.get(name) for name in files_of(write)]
+        what = f"laychain stopped at call {at}, {call}"
+        check(f"{what}: not the old pair, nor the new one", now in (old, new) or is_parted(now, old, new))
+        for run in READERS:
+            ended = desk.run(run)
+            check(f"{what}: {run.tool} {ended.printed!r}, {ended.said!r}", (ended.printed, ended.said) == answer_of(run, files))
+        came.append(now)
+        check(f"{what}: it goes on", is_confirmed(resumed(desk, process)) and desk.files() == folder_of(*AFTER))
+    alone = [[table, None] in came for table, _ in (old, new)]
+    check("the side file is missing for a while, beside the old table and the new one", all(alone))
+
+
+def shifted(turn):
+    """A table of its own for each turn: its factor follows from its first easting."""
+    (easting, *others), _ = BEFORE
+    return [easting + turn, *others], 999_000 + turn
+
+
+def replaces(desk, turns, came):
+    for turn in turns:
+        came.append(desk.run(Run("laychain", text=table_text(*shifted(turn)))))
+
+
+def looking_on(desk):
+    """layshow, while two others write tables: it shows a table with its own factor, or without any."""
+    desk.put(folder_of(*shifted(0)))
+    came, seen = [], []
+    writers = [threading.Thread(target=replaces, args=(desk, range(first, 60, 2), came)) for first in (1, 2)]
+    for thread in writers:
+        thread.start()
+    while any(thread.is_alive() for thread in writers):
+        seen.append(desk.run(Run("layshow")))
+    own = re.compile(rb"CHAIN 1 (\d+)( \d+){5}(?: (\d+))?\n(SCALE REFUSED 1\n)?")
+    for each in seen:
+        found = own.search(each.printed)
+        if found and found[3]:
+            check(f"layshow saw {found[0]!r}", int(found[3]) - 999_000 == int(found[1]) - BEFORE[0][0] and not found[4])
+        else:
+            check(f"layshow saw {each.printed!r}, {each.said!r}", found and found[4] if each.printed else b"try again" in each.said)
+    check(f"{len(seen)} looks", len(seen) > 10)
+    unwritten = [each.said for each in came if not is_confirmed(each)]
+    check(f"of {len(came)} runs these wrote nothing: {unwritten}", len(came) == 59 and not unwritten)
+    left = desk.files()
+    check("the pair that is left is one of theirs", any(left == folder_of(*shifted(turn)) for turn in range(1, 60)))
+
+
+def readers(desk):
+    for test in overtaken, beside_a_writer, looking_on:
         test(desk)
 
 
@@ -683,7 +878,7 @@ def told_at_once(desk):
         desk.put(SIXTY)
         typing = Typing(desk, command, terminal)
         typing.type(GOOD[tool])
-        for line, at in (b"x\n", 2), (b"# a note\n\n1 1\n", 5), (b"1 1 1 0 0 0 0\n", 6):
+        for line, at in (b"x\n", 2), (b"# a note\n\n1 1\n", 5), (b"1 1 1 0 0 0 0 0\n", 6):
             typing.type(line)
             told = typing.hears(f"{tool}: line {at} REFUSED 12: ".encode())
             check(f"{words}: line {at} is not told before the next is typed, but {typing.said!r}", told)
@@ -788,11 +983,11 @@ def keyboard(desk):
 # A search that does not end
 
 # With stations so close together every reading is -1, 0 or 1. Where 5 is wanted, no cell matches and every square of two cells or more
-# is divided, as 5 differs by at most 2s + 2 from all: in a window of 2^24 by 2^24 that is months of visits.
+# is divided, as 5 differs by at most 2s + 4 from all: in a window of 2^24 by 2^24 that is months of visits.
 CLOSE, WIDE = [0, 0, 1, 0, 0, 1], [5_000_000, 5_000_000, 12_000_000, 5_000_000, 5_000_000, 12_000_000]
 FOUND = rule.readings(rule.chain_of(WIDE), (8_000_000, 9_000_000))
 ENDLESS = {
-    "chain.dat": tools.table_of([CLOSE, WIDE]),
+    **tools.of_chains(CLOSE, WIDE),
     "lay.dat": b"".join(
         tools.record_bytes(0, tools.line(record)[:-1])
         for record in ([2, 0, 1, 30001, 40000], [1, 2, 2, *FOUND], [3, 0, 3, 0, 0], [1, 1, 4, 5, 5], [2, 0, 5, 30001, 40000])
@@ -862,7 +1057,8 @@ def search(desk):
     question(desk)
     log = rule.pieces(ENDLESS["lay.dat"], 32)
     short = endless_job(10**6)
-    before = tools.text_of(line for line, _ in rule.listing(short, ENDLESS["chain.dat"], b"".join(log[:3])))
+    chains = ENDLESS["chain.dat"], ENDLESS["scale.dat"]
+    before = tools.text_of(line for line, _ in rule.listing(short, *chains, b"".join(log[:3])))
     for allowance in 2**64 - 1, 2**63, 10**12:
         text, goes_on = listed(desk, allowance)
         check(f"while a search of {allowance} visits runs, there is {text!r}", goes_on and text == before)
@@ -873,7 +1069,8 @@ def search(desk):
 
 
 def main(verb, *rest):
-    {"faults": faults, "writers": writers, "keyboard": keyboard, "search": search}[verb](Desk(*rest))
+    tests = {"faults": faults, "writers": writers, "readers": readers, "keyboard": keyboard, "search": search}
+    tests[verb](Desk(*rest))
     end()
 
 

@@ -9,10 +9,11 @@ folders=$(mktemp -d)
 trap 'rm -rf "$folders"' EXIT
 chmod 755 "$folders"
 folder=$folders/folder printed=$folders/printed said=$folders/said before=$folders/before
-files=(chain.dat job.dat lay.dat)
+files=(chain.dat job.dat lay.dat scale.dat)
 tools=(layjob laychain laywrite layexpect layone layshow laylist)
 writes='job.dat layjob 30001 40000 1 0 100
 chain.dat laychain 1 0 30000 0 0 40000
+scale.dat laychain 0 0 30000 0 0 40000 999641
 lay.dat laywrite 3 0 4 0 0'
 
 # The library of faults has every call by which a program reaches a file; else a program would make some that no fault is tried at.
@@ -31,7 +32,7 @@ held() {
     mkdir "$folders/$1"
     checks=$(python3 tests/desk.py "$1" "$folders/$1" "$folders/faults.so" "${loader[@]}") && passed=$((passed + checks))
 }
-for verb in faults writers keyboard search; do pass_if "$verb" held $verb; done
+for verb in faults writers readers keyboard search; do pass_if "$verb" held $verb; done
 
 # run TOOL ARGUMENTS...: runs it in the folder, by bin/ if `by` says so, for ten seconds at most; in `status` how it ended
 run() {
@@ -103,13 +104,17 @@ while read -r file tool words; do
     by=bin give $tool $words
     pass_if "bin/$tool ends with 1" [ "$status" -eq 1 ]
 done <<<"$writes"
-for tool in laychain laywrite; do
-    place 'protected file' "$([ $tool = laychain ] && echo chain.dat || echo lay.dat)"
+while read -r tool file; do
+    place 'protected file' $file
     mkfifo "$folders/typed"
     (cd "$folder" && timeout 10 "${loader[@]}" "$repository/target/bin/$tool" <>"$folders/typed") >"$printed" 2>"$said" || true
     rm "$folders/typed"
-    pass_if "$tool says so before anything is typed: $(cat "$said")" grep -qF "$protected" "$said"
-done
+    pass_if "$tool says so of $file before anything is typed: $(cat "$said")" says "$tool: $file: $protected"
+done <<'END'
+laychain chain.dat
+laychain scale.dat
+laywrite lay.dat
+END
 
 # A tool that reads follows links, and refuses what is not a file.
 while read -r file mark tool words; do
@@ -140,13 +145,17 @@ while read -r file mark tool words; do
     done
 done <<'END'
 chain.dat . layexpect 1 30000 40000
+scale.dat . layexpect 1 30000 40000
 chain.dat . layone 1 -10000 -20000
+scale.dat . layone 1 -10000 -20000
 job.dat . layone 1 -10000 -20000
 job.dat JOB layshow
 chain.dat CHAIN layshow
+scale.dat SCALE layshow
 lay.dat LOG layshow
 job.dat . laylist
 chain.dat . laylist
+scale.dat . laylist
 lay.dat . laylist
 END
 
@@ -258,7 +267,14 @@ layjob 30000 40000 1 100001 100|7|word 4, `100001`
 layjob 30000 40000 1 1000.01 100|7|word 4, `1000.01`
 laychain 0 0 30000 0 0|12|word 6 is missing
 laychain 0|12|word 2 is missing
-laychain 0 0 30000 0 0 40000 1|12|word 7, `1`
+laychain 0 0 30000 0 0 40000 0.9996|12|word 7, `0.9996`
+laychain 0 0 30000 0 0 40000 -1000000|12|word 7, `-1000000`
+laychain 0 0 30000 0 0 40000 1000000 1|12|word 8, `1`
+laychain 0 0 30000 0 0 40000 1|5|word 7, `1`
+laychain 0 0 30000 0 0 40000 998999|5|word 7, `998999`
+laychain 0 0 30000 0 0 40000 1001001|5|word 7, `1001001`
+laychain 0 0 30000 0 0 40000 18446744073710551616|5|word 7, `18446744073710551616`
+laychain 0 0 100000001 0 0 40000 998999|5|word 3, `100000001`
 laychain 0 0 3.00.00 0 0 40000|12|word 3, `3.00.00`
 laychain 0 0 30000 -1.00 0 40000|12|word 4, `-1.00`
 laychain 0 0 30000 0 0 40000 # A and B|12|word 7, `#`
@@ -346,6 +362,23 @@ done
 give layone 1 -10000 -20000 0
 pass_if "a fourth word: $(cat "$said")" says 'layone: REFUSED 12: word 4, `0`: a question has three words'
 
+# laychain says of a seventh word what a factor is, and of an eighth how many there are.
+while IFS='|' read -r word sentence; do
+    give laychain 0 0 30000 0 0 40000 $word
+    pass_if "a factor, $word: $(told_sentence)" [ "$(told_sentence)" = "$sentence" ]
+done <<'END'
+0.9996|the factor is a number in digits alone
+x|the factor is a number in digits alone
+0|a factor is 999000 to 1001000 millionths
+998999|a factor is 999000 to 1001000 millionths
+1001001|a factor is 999000 to 1001000 millionths
+1000000 0|a chain has six words, or seven with its factor
+END
+
+# Two stations on one spot and a factor out of range: the leftmost word at fault is named, which is not the factor.
+give laychain 0 0 0 0 0 40000 998999
+pass_if "a spot before a factor: $(cat "$said")" grep -qE '^laychain: line 1 REFUSED 5: word [1-6], ' "$said"
+
 # What is written is told on standard output, with what is there now.
 fresh
 give layjob 300.00 400.00 1 0.00
@@ -359,10 +392,12 @@ pass_if "01's job" cmp -s "$folder/job.dat" "$example/job.dat"
 give layjob 30000 40000 1 0 18446744073709551615
 pass_if "the largest allowance: $(cat "$said")" prints "$may 18446744073709551615 visits"
 give laychain 0.00 0 300.00 0 0 400.00
-pass_if "a chain: $(cat "$said")" prints 'chain.dat: 1 chain written, 1 there now'
+pass_if "a chain: $(cat "$said")" prints $'chain.dat: 1 chain written, 1 there now\nscale.dat: 1 factor written, 1 there now'
 pass_if "01's chain in metres" cmp -s "$folder/chain.dat" "$example/chain.dat"
-run laychain <<<$'0 0 30000 0 0 40000\n\n# another\n1 0 30000 0 0 40000'
-pass_if "two chains: $(cat "$said")" prints 'chain.dat: 2 chains written, 2 there now'
+pass_if 'its factor' cmp -s "$folder/scale.dat" "$example/scale.dat"
+run laychain <<<$'0 0 30000 0 0 40000\n\n# another\n1 0 30000 0 0 40000 999641'
+pass_if "two chains: $(cat "$said")" prints $'chain.dat: 2 chains written, 2 there now\nscale.dat: 2 factors written, 2 there now'
+pass_if 'their factors' [ "$(od -An -v -t x1 "$folder/scale.dat" | tr -d ' \n')" = 40420f00d9400f00 ]
 run laywrite <<<$'# 01\n1 1 1 -100.00 -200.00\n2 0 2 300.01 400.00\n\n3 0 3 0.00 -0.00'
 pass_if "three records: $(cat "$said")" prints 'lay.dat: 3 records written, 3 there now'
 pass_if "01's log in metres" cmp -s "$folder/lay.dat" "$example/lay.dat"
@@ -387,7 +422,7 @@ while read -r file tool words; do
         (cd "$folder" && echo $words | bash -c "\"$repository/bin/$tool\" $arguments $redirection") 2>"$said" || status=$?
         pass_if "$tool with $redirection ends with 1" [ "$status" -eq 1 ]
         pass_if "$tool with $redirection: $(cat "$said")" grep -q "^$tool: standard output: ." "$said"
-        pass_if "$tool with $redirection: $(cat "$said")" grep -qx "$tool: note: $file is written all the same" "$said"
+        pass_if "$tool with $redirection: $(cat "$said")" grep -qxE "$tool: note: .*$file .*written all the same" "$said"
         pass_if "$tool with $redirection: written" [ -n "$(cmp "$folder/$file" "$example/$file" 2>&1)" ]
     done
 done <<<"$writes"
@@ -423,11 +458,12 @@ done <<'END'
 2 0 1 0 0\n|0|
 END
 fresh
-for missing in job.dat chain.dat lay.dat; do
+for missing in job.dat chain.dat scale.dat lay.dat; do
     by=bin run laylist
     case $missing in
     job.dat) list='JOB REFUSED 1' ;;
     chain.dat) list='CHAIN REFUSED 1' ;;
+    scale.dat) list='SCALE REFUSED 1' ;;
     *) list= ;;
     esac
     pass_if "laylist without $missing: $(cat "$said")" says "laylist: note: $missing is missing, and counts as empty"
@@ -448,8 +484,22 @@ pass_if 'which is refused' grep -q '^layexpect: REFUSED 1: ' "$said"
 pass_if 'and it ends with 1' [ "$status" -eq 1 ]
 by=bin give layone 1 -10000 -20000
 pass_if "layone without files: $(cat "$said")" says 'layone: note: chain.dat is missing, and counts as empty' \
-    'layone: note: job.dat is missing, and counts as empty' 'layone: REFUSED 1: chain.dat was expected to hold 1 to 16 chains of 24 bytes'
+    'layone: note: scale.dat is missing, and counts as empty' 'layone: note: job.dat is missing, and counts as empty' \
+    'layone: REFUSED 1: chain.dat was expected to hold 1 to 16 chains of 24 bytes'
 pass_if 'and it ends with 1' [ "$status" -eq 1 ]
+
+# Without its side file, as in a folder from before there were factors, a table is of no use to any of them.
+fresh chain.dat job.dat lay.dat
+for words in 'layexpect 1 30000 40000' 'layone 1 -10000 -20000'; do
+    by=bin give $words
+    tool=${words%% *}
+    pass_if "$tool without a side file: $(cat "$said")" says "$tool: note: scale.dat is missing, and counts as empty" \
+        "$tool: REFUSED 1: scale.dat was expected to hold 4 bytes for each chain of chain.dat"
+    pass_if "$tool without a side file ends with $status" [ "$status" -eq 1 ]
+done
+by=bin give layshow
+pass_if "layshow without a side file: $(cat "$said")" says 'layshow: note: scale.dat is missing, and counts as empty'
+pass_if "layshow without a side file ends with $status" [ "$status" -eq 0 ]
 
 # What the help says of the allowance.
 run layjob --help
