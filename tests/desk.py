@@ -574,11 +574,13 @@ def waits(desk):
         check(f"{name}: while it waits, it says {said!r}", said == note)
         check(f"{name}: at the end it has said {came.said!r}", came.said == note and is_confirmed(came))
         check(f"{name}: it has written", desk.files() == wants(run, files).files)
-        gives_up(f"{name}, a fresh file from the start", desk, run, files, 50, True)
+        gives_up(f"{name}, a fresh file from the start", desk, run, files, (50,), True)
         if run.tool != "layjob":
-            gives_up(f"{name}, a fresh file at the end", desk, run, files, 600, False)
-    gives_up("a dangling link as the fresh file", desk, run, files, 50, True, lambda path: path.symlink_to("nowhere"))
-    waits_beside(desk, PAIRS["two tables"].b, files)
+            gives_up(f"{name}, a fresh file at the end", desk, run, files, (600,), False)
+    gives_up("a dangling link as the fresh file", desk, run, files, (50,), True, lambda path: path.symlink_to("nowhere"))
+    # when a side file is first looked for, is left open
+    for tries, at_start in ((50, 600), True), ((600,), False):
+        gives_up("a fresh side file", desk, PAIRS["two tables"].b, files, tries, at_start, name="scale.dat")
     printed, said = locked.communicate(timeout=PATIENCE)
     check(f"bin/layjob with a fresh file there: {said!r}", said == waiting(Run("layjob")) and printed == b"")
     check(f"bin/layjob with a fresh file there ended with {locked.returncode}", locked.returncode == 1)
@@ -593,9 +595,10 @@ def by_script(desk):
     return subprocess.Popen(command, stdin=subprocess.DEVNULL, stdout=subprocess.PIPE, stderr=subprocess.PIPE, cwd=folder)
 
 
-def gives_up(what, desk, run, files, tries, at_start, make=Path.touch):
-    """That a run tries so often, 100 ms after each other, and then leaves everything as it was."""
-    fresh = desk.work / f"{file_of(run)}.new"
+def gives_up(what, desk, run, files, tries, at_start, make=Path.touch, name=None):
+    """That a run tries so often, or one of these, 100 ms after each other, and then leaves everything as it was."""
+    name = name or file_of(run)
+    fresh = desk.work / f"{name}.new"
     desk.put(files)
     if at_start:
         make(fresh)
@@ -608,30 +611,10 @@ def gives_up(what, desk, run, files, tries, at_start, make=Path.touch):
     ended_with(writing, run.text)
     came = desk.ended(process)
     slept = [call for call in came.calls if call.startswith("nanosleep ")]
-    check(f"{what}: {len(slept)} times {set(slept)}", set(slept) == {"nanosleep 100000000"} and tries - 1 <= len(slept) <= tries)
-    check(f"{what}: it said {came.said!r}", came.said == waiting(run) and came.printed == b"")
+    often = any(many - 1 <= len(slept) <= many for many in tries)
+    check(f"{what}: {len(slept)} times {set(slept)}", set(slept) == {"nanosleep 100000000"} and often)
+    check(f"{what}: it said {came.said!r}", waits_for(run, name, came.said) and came.printed == b"")
     check(f"{what}: it left {sorted(desk.files())}", without(desk.files(), fresh.name) == files and not desk.files()[fresh.name])
-
-
-def waits_beside(desk, run, files):
-    """A fresh side file of another's, which is there from the start or comes before the end: it is waited for, and at last the run
-    leaves everything as it was, its own fresh table too."""
-    for at_start in True, False:
-        desk.put(files)
-        fresh = desk.work / "scale.dat.new"
-        reading, writing = os.pipe()
-        if at_start:
-            fresh.touch()
-        process = desk.start(run, stdin=reading, awake=1)
-        os.close(reading)
-        until_reading(process)
-        fresh.touch()
-        ended_with(writing, run.text)
-        came = desk.ended(process)
-        slept = [call for call in came.calls if call.startswith("nanosleep ")]
-        check(f"a fresh side file: {len(slept)} times {set(slept)}", set(slept) == {"nanosleep 100000000"} and len(slept) >= 49)
-        check(f"a fresh side file: it said {came.said!r}", waits_for(run, "scale.dat", came.said) and came.printed == b"")
-        check(f"a fresh side file: there is {sorted(desk.files())}", desk.files() == {**files, "scale.dat.new": b""})
 
 
 WRITERS, TURNS = 8, 20
@@ -640,7 +623,7 @@ WRITERS, TURNS = 8, 20
 def together(desk):
     """Eight writers, twenty runs each, while layshow looks on. The log has the runs that were confirmed, each as a whole and once, and
     each said how many records there were then; and whenever layshow looked, it had whole runs."""
-    desk.put({"chain.dat": THREE["chain.dat"], "job.dat": THREE["job.dat"]})
+    desk.put(without(THREE, "lay.dat"))
     came, seen = [], []
     writers = [threading.Thread(target=writes, args=(desk, writer, came)) for writer in range(WRITERS)]
     for thread in writers:
@@ -692,7 +675,7 @@ READERS = (
 )
 
 
-def folder_of(stations, *factor):
+def folder_with(stations, *factor):
     """The files with this table and its factor; without one the side file is missing."""
     table = {"job.dat": rule.job_bytes(WINDOW), "chain.dat": tools.table_of([stations])}
     log = {"lay.dat": tools.record_bytes(0, tools.line([1, 1, 1, *SEEN])[:-1])}
@@ -719,14 +702,14 @@ def overtaken(desk):
     that the table was changed and prints nothing."""
     write = Run("laychain", text=table_text(*AFTER))
     for run in READERS:
-        old, new = (answer_of(run, folder_of(*each)) for each in (BEFORE, AFTER))
-        mixed = [answer_of(run, folder_of(one[0], other[1])) for one, other in ((BEFORE, AFTER), (AFTER, BEFORE))]
+        old, new = (answer_of(run, folder_with(*each)) for each in (BEFORE, AFTER))
+        mixed = [answer_of(run, folder_with(one[0], other[1])) for one, other in ((BEFORE, AFTER), (AFTER, BEFORE))]
         changed = b"", f"{run.tool}: chain.dat: this file was changed while it was read; try again\n".encode()
         check(f"{run.tool}: a mixed pair gives another answer", len({old, new, *mixed}) == 4)
-        desk.put(folder_of(*BEFORE))
+        desk.put(folder_with(*BEFORE))
         calls, answers = desk.run(run).calls, []
         for at, call in enumerate(calls, 1):
-            desk.put(folder_of(*BEFORE))
+            desk.put(folder_with(*BEFORE))
             process = desk.start(run, at=at, do="stop")
             until_stopped(process)
             came, ended = desk.run(write), resumed(desk, process)
@@ -739,9 +722,9 @@ def overtaken(desk):
 
 def beside_a_writer(desk):
     """Readers while laychain is stopped at each of its calls: they take the old pair, or the new one, or refuse a table alone."""
-    write, came = Run("laychain", text=table_text(*AFTER), files=folder_of(*BEFORE)), []
+    write, came = Run("laychain", text=table_text(*AFTER), files=folder_with(*BEFORE)), []
     calls, _ = calls_of(desk, write)
-    old, new = ([folder_of(*each)[name] for name in files_of(write)] for each in (BEFORE, AFTER))
+    old, new = ([folder_with(*each)[name] for name in files_of(write)] for each in (BEFORE, AFTER))
     for at, call in enumerate(calls, 1):
         desk.put(write.files)
         process = desk.start(write, at=at, do="stop")
@@ -754,7 +737,7 @@ def beside_a_writer(desk):
             ended = desk.run(run)
             check(f"{what}: {run.tool} {ended.printed!r}, {ended.said!r}", (ended.printed, ended.said) == answer_of(run, files))
         came.append(now)
-        check(f"{what}: it goes on", is_confirmed(resumed(desk, process)) and desk.files() == folder_of(*AFTER))
+        check(f"{what}: it goes on", is_confirmed(resumed(desk, process)) and desk.files() == folder_with(*AFTER))
     alone = [[table, None] in came for table, _ in (old, new)]
     check("the side file is missing for a while, beside the old table and the new one", all(alone))
 
@@ -772,7 +755,7 @@ def replaces(desk, turns, came):
 
 def looking_on(desk):
     """layshow, while two others write tables: it shows a table with its own factor, or without any."""
-    desk.put(folder_of(*shifted(0)))
+    desk.put(folder_with(*shifted(0)))
     came, seen = [], []
     writers = [threading.Thread(target=replaces, args=(desk, range(first, 60, 2), came)) for first in (1, 2)]
     for thread in writers:
@@ -790,7 +773,7 @@ def looking_on(desk):
     unwritten = [each.said for each in came if not is_confirmed(each)]
     check(f"of {len(came)} runs these wrote nothing: {unwritten}", len(came) == 59 and not unwritten)
     left = desk.files()
-    check("the pair that is left is one of theirs", any(left == folder_of(*shifted(turn)) for turn in range(1, 60)))
+    check("the pair that is left is one of theirs", any(left == folder_with(*shifted(turn)) for turn in range(1, 60)))
 
 
 def readers(desk):
