@@ -226,7 +226,7 @@ def tables():
 
 def factors():
     """Factors at both ends of their range and out of it, in the chain that records name and in another; a chain that is unsound for
-    its stations as well; holds after these. Then the same place by its readings with each factor, and 002's points."""
+    its stations as well; holds after these. Then the same place by its readings with each factor."""
     asked = numbered(GRID, FIX, HOLD, records.log(chain=2), HOLD)
     for factor in (*search.FACTORS, *search.NO_FACTORS):
         for name, scale in ("first", (factor, rule.UNIT)), ("second", (rule.UNIT, factor)), ("both", (factor, factor)):

@@ -305,7 +305,8 @@ def expected_at(words, table, scale, number, place):
     outside = {at: words[at - 1] for at, x, most in ((2, place[0], EAST), (3, place[1], NORTH)) if x > most}
     if outside:
         raise AtWords(4, outside)
-    return rule.readings(chain_named(words, table, scale, number), place)
+    chain_named(words, table, scale, number)
+    return rule.expected(table, scale, number, place)
 
 
 def check_chains(table, scale):
