@@ -159,7 +159,7 @@ def waiting(run, name=None):
     tool, name = run.tool, name or file_of(run)
     return (
         f"{tool}: note: {name}.new is there: waiting for the tool that is writing {name}; if none is running, remove {name}.new\n"
-        f"{tool}: {name}: {name}.new is there: another tool is writing {name}, or was stopped while it did; {name} is whole. "
+        f"{tool}: {name}: {name}.new is there: another tool is writing {name}, or was stopped while it did; {name}, if it is there, is whole. "
         f"If none is running, remove {name}.new and start again\n"
     ).encode()
 
@@ -169,7 +169,7 @@ def waits_for(run, name, said):
     if name == file_of(run):
         return said == waiting(run)
     note, reason = waiting(run, name).splitlines()
-    start, end = reason.split(f"; {name} is whole. ".encode())
+    start, end = reason.split(f"; {name}, if it is there, is whole. ".encode())
     told = said.splitlines()
     return len(told) == 2 and told[0] == note and told[1].startswith(start) and told[1].endswith(end)
 

@@ -89,13 +89,15 @@ placed-in s at width text written fits long made =
 
 -- The answer, the table and the side file if there is no place for a chain, and if there is one.
 pub no-place : (table scale : List ℕ) (before : ℕ) (c : Chain) → length table ≡ chainBytes * mostChains → length scale ≡ factorBytes * mostChains → mostChains ≤ before →
-    (verdict.Refused 1 ≡ lineVerdict before (parsed.Chain c)) × (table ≡ tableWith table before (parsed.Chain c)) × (scale ≡ scaleWith scale before (parsed.Chain c))
+    (verdict.Refused 1 ≡ lineVerdict before (parsed.Chain c)) × ((table ≡ tableWith table before (parsed.Chain c)) × (scale ≡ scaleWith scale before (parsed.Chain c)))
 unfolding lineVerdict verdictOf
 no-place table scale before c size side many =
     let none : ltb before mostChains ≡ false = le-ltb before mostChains many in (
       ap (λ (t : Bool). verdictOf (unless t 1 (chainRefusalOf chainBytes c))) (sym none),
-      nothing-promised table (chainBytes * before) (chainBufferOf chainBytes c) (omega (arith, chain-same-length chainBytes c)) .1,
-      nothing-promised scale (factorBytes * before) (factorBufferOf factorBytes (c .factor)) (omega (arith, factor-same-length factorBytes (c .factor))) .1,
+      (
+        nothing-promised table (chainBytes * before) (chainBufferOf chainBytes c) (omega (arith, chain-same-length chainBytes c)) .1,
+        nothing-promised scale (factorBytes * before) (factorBufferOf factorBytes (c .factor)) (omega (arith, factor-same-length factorBytes (c .factor))) .1,
+      ),
     )
 
 pub chain-placed : (table : List ℕ) (before : ℕ) (c : Chain) (bytes r : ℕ) (written : List ℕ) → length table ≡ chainBytes * mostChains → before < mostChains →

@@ -1,7 +1,8 @@
-// Prints the readings expected at a place for a chain of chain.dat in the folder that it is run in. Its three arguments are the
-// chain's number and the place. What is refused or fails is reported on standard error; then no readings are printed.
+// Prints the readings expected at a place for a chain of chain.dat, with its factor from scale.dat, in the folder that it is run in. Its
+// three arguments are the chain's number and the place. What is refused or fails is reported on standard error; then no readings are printed.
 use chart::Place;
 use files::Filled;
+use files::Opened;
 use files::Words;
 use parsing::Form;
 use parsing::ParsedQuestion;
@@ -14,7 +15,8 @@ fn main() {
     let words = files::arguments(
         b"layexpect",
         &mut line,
-        b"layexpect CHAIN E N prints the readings expected at a place, for a chain of chain.dat in this folder.
+        b"layexpect CHAIN E N prints the readings expected at a place, for a chain of chain.dat, with its scale
+factor from scale.dat, in this folder.
 
   CHAIN  the chain's number in the table, 1 to 16
   E N    easting and northing of the place, 0 to 100000000 and 0 to 1000000000, in centimetres
@@ -58,15 +60,27 @@ fn other_form(line: &[u8]) {
 fn answer(line: &[u8], chain: u32, place: Place) {
     // One byte more than the longest table, so that a file that is too long is noticed.
     let mut table = [0u8; records::TABLE_BYTES + 1];
-    let Filled::Bytes(n) = files::start(b"layexpect", b"chain.dat", &mut table) else {
+    let file = files::open(b"layexpect", b"chain.dat");
+    let Filled::Bytes(n) = files::start_of(file, b"layexpect", b"chain.dat", &mut table) else {
         return;
     };
-    print_expected(line, &table[0..n], chain, place);
+    with_scale(line, &table[0..n], file, chain, place);
 }
 
-fn print_expected(line: &[u8], table: &[u8], chain: u32, place: Place) {
+// `file` is the table's: it must still be there when the side file has been read, since the two belong together.
+fn with_scale(line: &[u8], table: &[u8], file: Opened, chain: u32, place: Place) {
+    let mut scale = [0u8; records::SCALE_BYTES + 1];
+    let Filled::Bytes(n) = files::start(b"layexpect", b"scale.dat", &mut scale) else {
+        return;
+    };
+    if files::is_still(b"layexpect", b"chain.dat", file) {
+        print_expected(line, table, &scale[0..n], chain, place);
+    }
+}
+
+fn print_expected(line: &[u8], table: &[u8], scale: &[u8], chain: u32, place: Place) {
     let mut out = [0u8; shown::LINE_ROOM];
-    match shown::expected(&mut out, table, chain, place) {
+    match shown::expected(&mut out, table, scale, chain, place) {
         Line::Text(n) => print(&out[0..n]),
         Line::Refused(number) => refuse(line, table, chain, place, number),
     }
@@ -80,17 +94,24 @@ fn refuse(line: &[u8], table: &[u8], chain: u32, place: Place, number: u32) {
     match number {
         4 => refuse_place(line, parsing::place_fault(place)),
         5 => refuse_chain(line, table, chain),
-        _ => refuse_table(number),
+        _ => refuse_length(table),
     }
 }
 
-fn refuse_table(number: u32) {
-    files::refused(
-        b"layexpect",
-        0,
-        number,
-        b"chain.dat was expected to hold 1 to 16 chains of 24 bytes",
-    );
+// The table is tested first.
+fn refuse_length(table: &[u8]) {
+    match records::chain_count(table) {
+        ChainCount::Refused(_) => {
+            refused_file(b"chain.dat was expected to hold 1 to 16 chains of 24 bytes")
+        }
+        ChainCount::Chains(_) => {
+            refused_file(b"scale.dat was expected to hold 4 bytes for each chain of chain.dat")
+        }
+    }
+}
+
+fn refused_file(sentence: &[u8]) {
+    files::refused(b"layexpect", 0, 1, sentence);
 }
 
 fn refuse_place(line: &[u8], fault: usize) {
@@ -110,7 +131,7 @@ fn refuse_chain(line: &[u8], table: &[u8], chain: u32) {
             line,
             5,
             0,
-            b"this chain of chain.dat has a station out of range, or two on one spot",
+            b"this chain has a station out of range, two on one spot, or a factor out of range",
         );
         return;
     }

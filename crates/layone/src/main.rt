@@ -1,7 +1,8 @@
-// Prints whether two readings allow no place, one or several, by chain.dat and job.dat in the folder that it is run in. Its three
-// arguments are the chain's number and the readings. What is refused or fails is reported on standard error; then no line is
+// Prints whether two readings allow no place, one or several, by chain.dat, scale.dat and job.dat in the folder that it is run in. Its
+// three arguments are the chain's number and the readings. What is refused or fails is reported on standard error; then no line is
 // printed.
 use files::Filled;
+use files::Opened;
 use files::Words;
 use parsing::Form;
 use parsing::ParsedReadings;
@@ -18,8 +19,8 @@ fn main() {
     let words = files::arguments(
         b"layone",
         &mut line,
-        b"layone CHAIN A B says whether two readings allow no place, one or several, by chain.dat and job.dat in
-this folder.
+        b"layone CHAIN A B says whether two readings allow no place, one or several, by chain.dat, scale.dat and
+job.dat in this folder.
 
   CHAIN  the chain's number in the table, 1 to 16
   A B    the readings of slaves A and B, at most 1000000000 in size, in centimetres in digits alone,
@@ -67,17 +68,33 @@ fn other_form(line: &[u8]) {
 }
 
 fn answer(line: &[u8], chain: u32, a: i64, b: i64) {
-    // One byte more than the longest table and than a job, so that a file that is too long is noticed.
+    // One byte more than the longest table, so that a file that is too long is noticed.
     let mut table = [0u8; records::TABLE_BYTES + 1];
-    let Filled::Bytes(n) = files::start(b"layone", b"chain.dat", &mut table) else {
+    let file = files::open(b"layone", b"chain.dat");
+    let Filled::Bytes(n) = files::start_of(file, b"layone", b"chain.dat", &mut table) else {
         return;
     };
+    with_scale(line, &table[0..n], file, chain, a, b);
+}
+
+// `file` is the table's: it must still be there when the side file has been read, since the two belong together.
+fn with_scale(line: &[u8], table: &[u8], file: Opened, chain: u32, a: i64, b: i64) {
+    let mut scale = [0u8; records::SCALE_BYTES + 1];
+    let Filled::Bytes(n) = files::start(b"layone", b"scale.dat", &mut scale) else {
+        return;
+    };
+    if files::is_still(b"layone", b"chain.dat", file) {
+        with_job(line, table, &scale[0..n], chain, a, b);
+    }
+}
+
+fn with_job(line: &[u8], table: &[u8], scale: &[u8], chain: u32, a: i64, b: i64) {
     let mut job = [0u8; records::JOB_BYTES + 1];
-    let Filled::Bytes(m) = files::start(b"layone", b"job.dat", &mut job) else {
+    let Filled::Bytes(n) = files::start(b"layone", b"job.dat", &mut job) else {
         return;
     };
-    announce(&job[0..m]);
-    print_answer(line, &table[0..n], &job[0..m], chain, a, b);
+    announce(&job[0..n]);
+    print_answer(line, table, scale, &job[0..n], chain, a, b);
 }
 
 fn announce(job: &[u8]) {
@@ -92,10 +109,19 @@ fn announce(job: &[u8]) {
     }
 }
 
-fn print_answer(line: &[u8], table: &[u8], job: &[u8], chain: u32, a: i64, b: i64) {
+fn print_answer(
+    line: &[u8],
+    table: &[u8],
+    scale: &[u8],
+    job: &[u8],
+    chain: u32,
+    a: i64,
+    b: i64,
+) {
     let mut out = [0u8; shown::LINE_ROOM];
-    match shown::how_many(&mut out, table, job, chain, a, b) {
+    match shown::how_many(&mut out, table, scale, job, chain, a, b) {
         Line::Text(n) => print(&out[0..n]),
+        Line::Refused(1) => refuse_length(table, scale),
         Line::Refused(number) => refuse(line, table, chain, a, number),
     }
 }
@@ -106,7 +132,6 @@ fn print(text: &[u8]) {
 
 fn refuse(line: &[u8], table: &[u8], chain: u32, a: i64, number: u32) {
     match number {
-        1 => refuse_length(table),
         2 => refused(2, b"a byte of job.dat that must be zero is not"),
         3 => refuse_reading(line, a),
         5 => refuse_chain(line, table, chain),
@@ -122,15 +147,23 @@ fn refuse(line: &[u8], table: &[u8], chain: u32, a: i64, number: u32) {
     }
 }
 
-// The table is tested first.
-fn refuse_length(table: &[u8]) {
-    match records::chain_count(table) {
-        ChainCount::Refused(number) => refused(
-            number,
+// The table is tested first, then the side file.
+fn refuse_length(table: &[u8], scale: &[u8]) {
+    let ChainCount::Chains(n) = records::chain_count(table) else {
+        refused(
+            1,
             b"chain.dat was expected to hold 1 to 16 chains of 24 bytes",
-        ),
-        ChainCount::Chains(_) => refused(1, b"job.dat was expected to hold one job of 32 bytes"),
+        );
+        return;
+    };
+    if records::is_scale(n, scale) {
+        refused(1, b"job.dat was expected to hold one job of 32 bytes");
+        return;
     }
+    refused(
+        1,
+        b"scale.dat was expected to hold 4 bytes for each chain of chain.dat",
+    );
 }
 
 fn refuse_reading(line: &[u8], a: i64) {
@@ -160,7 +193,7 @@ fn refuse_chain(line: &[u8], table: &[u8], chain: u32) {
             line,
             5,
             0,
-            b"this chain of chain.dat has a station out of range, or two on one spot",
+            b"this chain has a station out of range, two on one spot, or a factor out of range",
         );
         return;
     }
