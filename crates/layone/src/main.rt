@@ -121,8 +121,7 @@ fn print_answer(
     let mut out = [0u8; shown::LINE_ROOM];
     match shown::how_many(&mut out, table, scale, job, chain, a, b) {
         Line::Text(n) => print(&out[0..n]),
-        Line::Refused(1) => refuse_length(table, scale),
-        Line::Refused(number) => refuse(line, table, chain, a, number),
+        Line::Refused(number) => refuse(line, table, scale, chain, a, number),
     }
 }
 
@@ -130,8 +129,9 @@ fn print(text: &[u8]) {
     files::print(b"layone", text);
 }
 
-fn refuse(line: &[u8], table: &[u8], chain: u32, a: i64, number: u32) {
+fn refuse(line: &[u8], table: &[u8], scale: &[u8], chain: u32, a: i64, number: u32) {
     match number {
+        1 => refuse_length(table, scale),
         2 => refused(2, b"a byte of job.dat that must be zero is not"),
         3 => refuse_reading(line, a),
         5 => refuse_chain(line, table, chain),

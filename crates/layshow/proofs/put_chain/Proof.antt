@@ -38,7 +38,7 @@ same-length c = search needs
 returns : tie.Need-returns
 returns c =
     let call = c .before .before .before in
-    let start = call .before .before .before .before in
+    let start = call .before .before .before .before .before in
     line-put (start .args .out .now) (start .args .at) _ (start .pre) _ (call .chain .ensures .0) (call .chain .ensures .1) (call .chain .kept .0) (c .after .ensures)
 
 pub put-chain-spec : {M : Type 1} → statement M

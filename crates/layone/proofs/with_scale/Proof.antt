@@ -1,0 +1,76 @@
+-- `layone::with_scale` passes on only the bytes of the side file that were read.
+use mathlib.Core.Path.{ap}
+use native.Mathlib.Omega.{arith}
+use Rattle.files.specs.Answers.{filledBytes}
+use borrow.Author.Needs.{needs}
+use Rattle.layone.proofs.with_scale.Statement.{statement}
+use Rattle.layone.proofs.with_scale.Tie as tie
+
+slice-aggregate-start : tie.Need-slice-aggregate-start
+slice-aggregate-start c = search needs
+
+slice-aggregate-start-2 : tie.Need-slice-aggregate-start-2
+slice-aggregate-start-2 c = search needs
+
+slice-aggregate-start-3 : tie.Need-slice-aggregate-start-3
+slice-aggregate-start-3 c = search needs
+
+start-requires : tie.Need-start-requires
+start-requires c κs = search needs
+
+enum-known-n : tie.Need-enum-known-n
+enum-known-n c = search needs
+
+enum-told : tie.Need-enum-told
+enum-told c = search needs
+
+returns : tie.Need-returns
+returns c = search needs
+
+slice-aggregate-is-still : tie.Need-slice-aggregate-is-still
+slice-aggregate-is-still c = search needs
+
+slice-aggregate-is-still-2 : tie.Need-slice-aggregate-is-still-2
+slice-aggregate-is-still-2 c = search needs
+
+is-still-requires : tie.Need-is-still-requires
+is-still-requires c κs = search needs
+
+sub-with-job : tie.Need-sub-with-job
+sub-with-job c = search needs
+
+part-with-job-start : tie.Need-part-with-job-start
+part-with-job-start c = search needs
+
+part-with-job-end : tie.Need-part-with-job-end
+part-with-job-end c = omega (arith, ap filledBytes (c .before .before .before .before .before .before .n .given .1))
+
+with-job-requires : tie.Need-with-job-requires
+with-job-requires c κs = search needs
+
+returns-2 : tie.Need-returns-2
+returns-2 c = search needs
+
+returns-3 : tie.Need-returns-3
+returns-3 c = search needs
+
+pub with-scale-spec : {M : Type 1} → statement M
+with-scale-spec =
+    tie.close
+    (tie.spec
+    slice-aggregate-start
+    slice-aggregate-start-2
+    slice-aggregate-start-3
+    start-requires
+    enum-known-n
+    enum-told
+    returns
+    slice-aggregate-is-still
+    slice-aggregate-is-still-2
+    is-still-requires
+    sub-with-job
+    part-with-job-start
+    part-with-job-end
+    with-job-requires
+    returns-2
+    returns-3)
