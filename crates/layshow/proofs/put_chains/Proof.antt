@@ -8,21 +8,22 @@ use Rattle.records.specs.ChainTables.{chainBytes}
 use Rattle.records.proofs.Pieces.{chain-width}
 use Rattle.text.proofs.PutLaws.{put-length}
 use Rattle.shown.specs.Lines.{chainLine}
+use Rattle.layshow.specs.Walks.{chainsRoom}
 use Rattle.layshow.proofs.WalkLaws.{ShownTo, shown-none, next-room, shown-more, shown-all}
 use Rattle.layshow.proofs.put_chains.Statement.{statement}
 use Rattle.layshow.proofs.put_chains.Tie as tie
 
 abbrev Inv-loop : tie.InvT-loop
-Inv-loop out₀ at table end₀ done₀ number₀ out end done number =
-    (done ≤ length table) × ((number ≤ done + 1) × ShownTo chainLine chainBytes at table out₀ done number out end)
+Inv-loop out₀ at scale table end₀ done₀ number₀ out end done number =
+    (done ≤ length table) × ((number ≤ done + 1) × ShownTo (chainLine scale) chainBytes at (at + chainsRoom) table out₀ done number out end)
 
 abbrev μ-loop : tie.MeasureT-loop
-μ-loop out₀ at table end₀ done₀ number₀ out end done number = length table - done
+μ-loop out₀ at scale table end₀ done₀ number₀ out end done number = length table - done
 
 loop-holds : tie.Need-loop-holds Inv-loop μ-loop
 loop-holds c =
-    let start = c .before .before in
-    (search needs, (search needs, shown-none (omega (arith, start .pre .0, start .pre .1))))
+    let start = c .before .before .before in
+    (search needs, (search needs, shown-none (omega (arith, start .pre .1)) (start .pre .0)))
 
 piece-end-requires : tie.Need-piece-end-requires Inv-loop μ-loop
 piece-end-requires c κs = search needs
@@ -66,7 +67,7 @@ same-length c = put-length (c .before .loop .inv .1 .1 .lines .put)
 returns : tie.Need-returns Inv-loop μ-loop
 returns c =
     let loop = c .before in
-    shown-all chain-width (loop .loop .inv .1 .1) (search needs)
+    (shown-all chain-width (loop .loop .inv .1 .1) (search needs), omega (arith, loop .loop .inv .1 .1 .room))
 
 pub put-chains-spec : {M : Type 1} → statement M
 put-chains-spec =

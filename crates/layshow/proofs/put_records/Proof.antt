@@ -14,14 +14,14 @@ use Rattle.layshow.proofs.put_records.Tie as tie
 
 abbrev Inv-loop : tie.InvT-loop
 Inv-loop out₀ log end₀ done₀ out end done =
-    (done ≤ length log) × ((number : ℕ) × ShownTo recordLineAt logBytes 0 log out₀ done number out end)
+    (done ≤ length log) × ((number : ℕ) × ShownTo recordLineAt logBytes 0 (length out₀) log out₀ done number out end)
 
 abbrev μ-loop : tie.MeasureT-loop
 μ-loop out₀ log end₀ done₀ out end done = length log - done
 
 loop-holds : tie.Need-loop-holds Inv-loop μ-loop
 loop-holds c =
-    (search needs, (1, shown-none (omega (arith, c .before .before .pre))))
+    (search needs, (1, shown-none (omega (arith, c .before .before .pre)) (omega arith)))
 
 piece-end-requires : tie.Need-piece-end-requires Inv-loop μ-loop
 piece-end-requires c κs = search needs
