@@ -21,16 +21,21 @@ pub range-is-distance : (c : Chain) (p station : Place) → c .factor ≡ unitFa
 range-is-distance c p station one =
     range-is-on-ground c p station ∙ ap (λ f. onGround f (distanceOf p station)) one ∙ ground-is-grid (distanceOf p station)
 
--- Then a reading is a difference of distances, and the readings of a place are one for each slave.
-reading-is : (c : Chain) (slave p : Place) → c .factor ≡ unitFactor → readingOf c slave p ≡ subℕ (distanceOf p slave) (distanceOf p (c .master))
+-- Two ways to make a reading for each slave are the same if they are the same for every slave.
+each-same : (f g : Place → ℤ) → ((slave : Place) → f slave ≡ g slave) → (slaves : List Place) → map f slaves ≡ map g slaves
+each-same f g same [] = refl
+each-same f g same (slave ∷ slaves) = ap₂ (λ (r : ℤ) (rs : List ℤ). r ∷ rs) (same slave) (each-same f g same slaves)
+
+-- The readings of a place are the differences of its ranges, one for each slave.
+reading-is : (c : Chain) (slave p : Place) → readingOf c slave p ≡ subℕ (rangeOf c p slave) (rangeOf c p (c .master))
 unfolding readingOf
-reading-is c slave p one = ap₂ subℕ (range-is-distance c p slave one) (range-is-distance c p (c .master) one)
+reading-is c slave p = refl
 
-each-is : (c : Chain) (slaves : List Place) (p : Place) → c .factor ≡ unitFactor →
-    map (λ slave. readingOf c slave p) slaves ≡ map (λ slave. subℕ (distanceOf p slave) (distanceOf p (c .master))) slaves
-each-is c [] p one = refl
-each-is c (slave ∷ slaves) p one = ap₂ (λ (r : ℤ) (rs : List ℤ). r ∷ rs) (reading-is c slave p one) (each-is c slaves p one)
+pub readings-are : (c : Chain) (p : Place) → readingsOf c p ≡ map (λ slave. subℕ (rangeOf c p slave) (rangeOf c p (c .master))) (slavesOf c)
+readings-are c p = each-same _ _ (λ slave. reading-is c slave p) (slavesOf c)
 
-pub readings-are : (c : Chain) (p : Place) → c .factor ≡ unitFactor →
+-- With the factor 1 they are the differences of its distances.
+pub readings-unscaled : (c : Chain) (p : Place) → c .factor ≡ unitFactor →
     readingsOf c p ≡ map (λ slave. subℕ (distanceOf p slave) (distanceOf p (c .master))) (slavesOf c)
-readings-are c p one = each-is c (slavesOf c) p one
+readings-unscaled c p one =
+    each-same _ _ (λ slave. reading-is c slave p ∙ ap₂ subℕ (range-is-distance c p slave one) (range-is-distance c p (c .master) one)) (slavesOf c)

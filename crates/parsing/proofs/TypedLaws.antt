@@ -1,10 +1,11 @@
 -- A number written as its digits, and a whole number written with its sign, is a word that is read as the same number, and as
 -- the same number of centimetres; so are the numbers of a line. Such a line is not passed over.
-use Prim.Native.Nat.{ℕ, zero, suc, _^_, _<_}
+use Prim.Native.Nat.{ℕ, zero, suc, _^_, _≤_, _<_}
 use mathlib.Core.Path.{_≡_, refl, sym, ap, _∙_}
 use mathlib.Core.Bool.{true, false, _||_}
 use mathlib.Core.List.{List, [], _∷_, _++_, map}
 use native.Mathlib.Omega.{arith}
+use native.Mathlib.Nat.{le-of-eq}
 use borrow.Author.Tests.{ne-eqb, lt-ltb}
 use lib.Dec.{eqb}
 use lib.IntN.{ℤ, pos, negsuc, natAbs}
@@ -45,6 +46,10 @@ unfolding isTaken
 digits-allowance-taken n h =
     rw (ne-eqb (length (digitsOf n)) 0 (λ e. omega (arith, e, digits-some n)), digits-number n, reads-back n, lt-ltb n (2 ^ 64) h)
 
+pub digits-factor-taken : (n : ℕ) → isTaken taken.Factor (digitsOf n) ≡ true
+unfolding isTaken
+digits-factor-taken n = rw (ne-eqb (length (digitsOf n)) 0 (λ e. omega (arith, e, digits-some n)), digits-number n)
+
 pub digits-length-taken : (n : ℕ) → isTaken taken.Length (digitsOf n) ≡ true
 unfolding isTaken
 digits-length-taken n = digits-length n
@@ -77,7 +82,7 @@ whole-back z =
     ∙ whole-sign z
 
 -- Numbers written as text are words.
-digits-words : (ns : List ℕ) → EachIsWord (map digitsOf ns)
+pub digits-words : (ns : List ℕ) → EachIsWord (map digitsOf ns)
 digits-words [] = tt
 digits-words (n ∷ ns) = (digits-word n, digits-words ns)
 
@@ -107,24 +112,24 @@ digits-there [] i h = absurd (omega (arith, h))
 digits-there (n ∷ ns) zero h = refl
 digits-there (n ∷ ns) (suc i) h = digits-there ns i (omega (arith, h))
 
--- Words are a line of a form, if there are as many as it has and each may stand at its place; so is the text of numbers.
-none-after : (ws : List (List ℕ)) → eqb (length (getD ws (length ws) [])) 0 ≡ true
-none-after [] = refl
-none-after (w ∷ ws) = none-after ws
+-- Words are a line of a form, if there are no more than it has and each may stand at its place, also those that are missing; so is the
+-- text of numbers.
+none-after : (ws : List (List ℕ)) (n : ℕ) → length ws ≤ n → eqb (length (getD ws n [])) 0 ≡ true
+none-after [] n h = refl
+none-after (w ∷ ws) zero h = absurd (omega (arith, h))
+none-after (w ∷ ws) (suc n) h = none-after ws n (omega (arith, h))
 
-pub words-form : (f : Form) (ws : List (List ℕ)) → EachIsWord ws → length ws ≡ wordsOf f →
+pub words-form : (f : Form) (ws : List (List ℕ)) → EachIsWord ws → length ws ≤ wordsOf f →
     ((i : ℕ) → i < wordsOf f → isTaken (takenFor f i) (getD ws i []) ≡ true) → isForm f (spacedWords ws) ≡ true
 words-form f ws each-word size each =
     form-of f (spacedWords ws) (λ i l. ap (isTaken (takenFor f i)) (words-back ws each-word i) ∙ each i l)
-    (ap (λ (n : ℕ). eqb (length (wordAt n (spacedWords ws))) 0) (sym size)
-    ∙ ap (λ (w : List ℕ). eqb (length w) 0) (words-back ws each-word (length ws))
-    ∙ none-after ws)
+    (ap (λ (w : List ℕ). eqb (length w) 0) (words-back ws each-word (wordsOf f)) ∙ none-after ws (wordsOf f) size)
 
 pub figures-form : (f : Form) (ns : List ℕ) → length ns ≡ wordsOf f →
     ((i : ℕ) → i < wordsOf f → isTaken (takenFor f i) (digitsOf (getD ns i 0)) ≡ true) → isForm f (figuresText ns) ≡ true
 figures-form f ns size each =
     ap (isForm f) (figures-spaced ns)
-    ∙ words-form f (map digitsOf ns) (digits-words ns) (length-map ns digitsOf ∙ size)
+    ∙ words-form f (map digitsOf ns) (digits-words ns) (le-of-eq (length-map ns digitsOf ∙ size))
     (λ i l. ap (isTaken (takenFor f i)) (digits-there ns i (omega (arith, l, size))) ∙ each i l)
 
 pub figures-some : (ns : List ℕ) (i : ℕ) → i < length ns → noWord i (figuresText ns) ≡ false

@@ -82,7 +82,7 @@ table-length [] = refl
 table-length (c ∷ cs) =
     omega (arith, length-append (chainBufferOf chainBytes c) (tableOf cs), chain-same-length chainBytes c, table-length cs)
 
-scale-length : (cs : List Chain) → length (scaleOf cs) ≡ factorBytes * length cs
+pub scale-length : (cs : List Chain) → length (scaleOf cs) ≡ factorBytes * length cs
 unfolding scaleOf
 scale-length [] = refl
 scale-length (c ∷ cs) =
@@ -110,7 +110,7 @@ factor-first f rest good =
     ap (λ (s : List ℕ). fieldAt factorBytes (s ++ rest) 0) (factor-written factorBytes f (factor-accepted factorBytes f refl good))
     ∙ value-bytes 4 f (omega (arith, factor-says f good .1))
 
-factor-back : (cs : List Chain) (i : ℕ) (other : Chain) → allSound cs ≡ true → i < length cs →
+pub factor-back : (cs : List Chain) (i : ℕ) (other : Chain) → allSound cs ≡ true → i < length cs →
     fieldAt factorBytes (scaleOf cs) (factorBytes * i) ≡ getD cs i other .factor
 unfolding scaleOf allSound
 factor-back [] i other sound h = absurd (omega arith)

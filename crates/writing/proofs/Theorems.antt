@@ -1,7 +1,7 @@
 -- Demand 2, the writers: what they accept is read back, and a refused write leaves zeros.
 -- `write`, `write_chain`, `write_factor` and `write_job` are proved to answer by the definitions; these theorems say what the definitions
 -- guarantee.
-use Prim.Native.Nat.{ℕ, _-_, _^_, _≤_, _<_}
+use Prim.Native.Nat.{ℕ, _-_, _*_, _^_, _≤_, _<_}
 use mathlib.Core.Path.{_≡_, refl, sym, ap, _∙_, subst⁻¹}
 use mathlib.Core.Bool.{true}
 use mathlib.Core.List.{List, [], _∷_}
@@ -11,7 +11,7 @@ use lib.IntN.{pos}
 use lib.Ieee.{toBits}
 use lib.ListN.{length, getD, replicate}
 use borrow.Author.Tests.{le-leb}
-use Rattle.fields.specs.Fields.{bytesOf}
+use Rattle.fields.specs.Fields.{bytesOf, fieldAt}
 use Rattle.metres.specs.Metres.{metresOf, lengthFigures}
 use Rattle.chart.specs.declared.Chain.{Chain}
 use Rattle.chart.specs.Chains.{isSound}
@@ -41,7 +41,7 @@ use Rattle.writing.proofs.ChainWriteLaws.{chain-accepted, chain-zero}
 use Rattle.writing.proofs.FactorWriteLaws.{factor-accepted, factor-zero}
 use Rattle.writing.proofs.JobWriteLaws.{job-accepted, job-passed, job-written, job-zero}
 use Rattle.writing.proofs.ReadBack.{raw-back, entry-back}
-use Rattle.writing.proofs.TableBack.{chain-back, sound-there, chains-there, is-table, is-scale}
+use Rattle.writing.proofs.TableBack.{scale-length, factor-back, chain-back, sound-there, chains-there, is-table, is-scale}
 use Rattle.writing.proofs.JobBack.{job-back}
 
 -- What the writer accepts is read back: the same kind, chain number, line number and centimetres.
@@ -101,6 +101,11 @@ chains-read-back cs number other sound few first last =
     (subst⁻¹ (λ (n : ℕ). oneTo n number ≡ true) (chains-there cs) (and-both (le-leb 1 number first) (le-leb number (length cs) last)))
     (ap isSound same ∙ sound-there cs (number - 1) other sound (omega arith))
     ∙ ap named.Chain same
+
+-- The side file has the factor of each of them, four bytes for each.
+pub factors-read-back : (cs : List Chain) (number : ℕ) (other : Chain) → allSound cs ≡ true → 1 ≤ number → number ≤ length cs →
+    (length (scaleOf cs) ≡ factorBytes * length cs) × (fieldAt factorBytes (scaleOf cs) (factorBytes * (number - 1)) ≡ getD cs (number - 1) other .factor)
+factors-read-back cs number other sound first last = (scale-length cs, factor-back cs (number - 1) other sound (omega arith))
 
 -- The writer of jobs accepts every allowed window, with a tolerance up to 100,000 and any allowance.
 pub window-written : (j : Job) → isWindow (j .window) ≡ true → j .tolerance ≤ mostTolerance → jobRefusalOf jobBytes j ≡ 0
