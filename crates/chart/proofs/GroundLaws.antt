@@ -59,4 +59,4 @@ unfolding onGround
 ground-small f d e small =
     div-lt-iff-lt-mul {y = 2 ^ 31} (factor-some f e) .1
     (let wide : 2 ^ 31 * leastFactor ≤ 2 ^ 31 * f = mul-le-mul (le-refl (2 ^ 31)) (factor-says f e .0) in
-     let l : d * unitFactor < 2 ^ 31 * f = omega (arith, wide) in l)
+    let l : d * unitFactor < 2 ^ 31 * f = omega (arith, wide) in l)

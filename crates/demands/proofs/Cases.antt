@@ -4,6 +4,7 @@ use lib.Ieee.{ofInt, div}
 use Rattle.squares.specs.Root.{root}
 use Rattle.metres.specs.Metres.{centimetresOf, wholeFigures}
 use Rattle.chart.specs.Places.{inRange, samePlace, distanceOf}
+use Rattle.chart.specs.Factors.{isFactor, onGround}
 use Rattle.chart.specs.Chains.{isSound}
 use Rattle.chart.specs.Readings.{rangeOf, readingOf, differ, within, expectedAt, figuresOf}
 use Rattle.search.specs.Windows.{isWindow}
@@ -14,5 +15,5 @@ use Rattle.demands.specs.Cases.{pCases, answerTo, answersTo, answersIn}
 
 -- To every case of the table the definitions answer what 01 says.
 pub as-01-says : answersTo pCases ≡ answersIn pCases
-unfolding answersTo answersIn answerTo figuresOf expectedAt wholeFigures centimetresOf div ofInt searchFigures searchOf ended visit visited cell noneTooLarge isWindow within differ readingOf rangeOf distanceOf isSound inRange samePlace root
+unfolding answersTo answersIn answerTo figuresOf expectedAt wholeFigures centimetresOf div ofInt searchFigures searchOf ended visit visited cell noneTooLarge isWindow within differ readingOf rangeOf onGround distanceOf isSound isFactor inRange samePlace root
 as-01-says = refl

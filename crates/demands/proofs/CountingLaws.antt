@@ -24,6 +24,7 @@ use Rattle.search.proofs.Order.{matching-rises}
 use Rattle.search.proofs.Outcomes.{Ending}
 use Rattle.search.proofs.Outcomes as end
 use Rattle.search.proofs.Telling.{unmatched}
+use Rattle.chart.proofs.ChainLaws.{factor-allowed}
 use Rattle.search.proofs.CountLaws.{Counting, early, none, one, several, out, decided, deciding-few}
 use Rattle.records.specs.Refusals.{isAmong}
 use Rattle.demands.specs.Numbers.{NoneOr, manyRefusal, manyVisits}
@@ -199,7 +200,7 @@ module _ (q : Question) (w : Window) where
   by-end _ (end.done a most) e =
       let ms = matchingIn (q .rule) w in
       let d = decidingVisits (q .rule) w ms in
-      let few = le-leb d (q .limits .allowance) (le-trans (deciding-few (q .rule) w) most) in
+      let few = le-leb d (q .limits .allowance) (le-trans (deciding-few (q .rule) w (factor-allowed _ (a .chain))) most) in
       subst⁻¹ (λ (m : HowMany). Agrees m (gone ms (visitsIn (q .rule) w)))
       (decided (q .rule) w (q .limits .allowance) a ∙ rw few)
       (same-cells ms d (visitsIn (q .rule) w) (all-needed ms))

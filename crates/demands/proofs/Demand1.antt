@@ -34,27 +34,30 @@ use Rattle.records.specs.declared.JobAnswer.the-variants as answer
 use Rattle.records.specs.Bytes.{byteAt}
 use Rattle.records.specs.LogRecords.{rawRecordOf, logRecordOf, logEntryOf}
 use Rattle.records.specs.Marks.{isRoundedIn, markedEntryOf}
-use Rattle.records.specs.ChainTables.{chainCountOf, rawChainOf, chainOf}
+use Rattle.records.specs.ChainTables.{chainCountOf, rawChainOf, chainOf, scaledCountOf}
 use Rattle.records.specs.Jobs.{formedJobOf, jobOf}
 use Rattle.records.specs.Refusals.{rawRefusal, logRefusal, entryRefusal, countRefusal, chainRefusal, jobRefusal, isAmong}
-use Rattle.records.proofs.Theorems.{raw-refusals, log-refusals, entry-refusals, count-refusals, chain-refusals, job-refusals}
+use Rattle.records.proofs.Theorems.{raw-refusals, log-refusals, entry-refusals, count-refusals, chain-refusals, job-refusals, scaled-refusals}
 use Rattle.writing.specs.declared.Draft.{Draft}
 use Rattle.writing.specs.Writing.{refusalOf, bufferOf}
 use Rattle.writing.specs.ChainWriting.{chainRefusalOf, chainBufferOf}
 use Rattle.writing.specs.JobWriting.{jobRefusalOf, jobBufferOf}
-use Rattle.writing.proofs.Theorems.{write-refusals, refused-write-zeros, chain-write-refusals, refused-chain-zeros, job-write-refusals, refused-job-zeros}
+use Rattle.writing.proofs.Theorems.{write-refusals, refused-write-zeros, chain-write-refusals, refused-chain-zeros, job-write-refusals, refused-job-zeros, factor-write-refusals, refused-factor-zeros}
+use Rattle.writing.specs.FactorWriting.{factorRefusalOf, factorBufferOf}
 use Rattle.listing.specs.declared.Carried.{Carried}
 use Rattle.listing.specs.declared.Carried.the-variants as carried
 use Rattle.listing.specs.Answers.{Refused, answerOf}
 use Rattle.text.specs.Texts.{spaced, bytesIn}
 use Rattle.listing.specs.Listings.{Part, listingOf, hasListingRoom, listedIn, bufferWith}
-use Rattle.listing.proofs.Theorems.{job-first, then-chain}
+use Rattle.listing.proofs.Theorems.{job-first, then-chain, then-scale}
 use Rattle.chart.specs.Places.{placeOf}
-use Rattle.lay.specs.Figures.{jobBy, chainBy, chainTold, chainWritten, stationsTold, expectedTold, searchTold, askedIn, recordFigures, countFigures, jobAnswered, heldFigures, listedFigures}
+use Rattle.lay.specs.Figures.{jobBy, chainBy, chainTold, chainWritten, stationsTold, expectedTold, searchTold, askedIn, recordFigures, countFigures, jobAnswered, heldFigures, listedFigures, factorTold}
 use Rattle.demands.specs.Numbers.{recordRefusal, listedRefusal, NoneOr, Refuses, Leaves, SearchIsTold, ManyIsTold}
 use Rattle.demands.proofs.NumberLaws.{some-number, whole-number, whole-marked, length-number, readings-number, listed-number, search-number, refused-lists, refused-early, answered-lists, room-kept, list-length, job-good, answer-number}
-use Rattle.demands.proofs.LibraryLaws.{record-told, marks-told, count-told, chain-told, stations-counted, bytes-counted, stations-told, expected-told, job-told, listing-told, search-told, many-told}
-use Rattle.demands.proofs.NeverLaws.{raw-never, log-never, entry-never, count-never, chain-never, job-never, answer-never}
+use Rattle.demands.proofs.LibraryLaws.{record-told, marks-told, count-told, chain-told, stations-counted, bytes-counted, stations-told, expected-told, job-told, listing-told, search-told, many-told, no-factor}
+use Rattle.demands.proofs.NeverLaws.{raw-never, log-never, entry-never, count-never, chain-never, job-never, answer-never, scaled-never}
+use Rattle.fields.specs.Fields.{fieldAt}
+use borrow.Author.Tests.{ne-eqb}
 
 -- A number of metres gives its whole centimetres; or it is refused with 3, and gives 0 centimetres and the mark `Equal`.
 pub metres-read : (x : Float) →
@@ -82,11 +85,20 @@ pub log-record-read : (s : List ℕ) →
     × NoneOr (1 ∷ 2 ∷ 3 ∷ 4 ∷ []) (entryRefusal (logEntryOf s))
 log-record-read s = (raw-refusals s, log-refusals s, entry-refusals s)
 
--- Any bytes, read as a station table, give the count of its chains, or refusal 1. Any chain number gives a sound chain of the
--- table, or refusal 1 or 5.
-pub table-read : (s : List ℕ) (number : ℕ) →
-    NoneOr (1 ∷ []) (countRefusal (chainCountOf s)) × NoneOr (1 ∷ 5 ∷ []) (chainRefusal (chainOf s number))
-table-read s number = (count-refusals s, chain-refusals s number)
+-- Any bytes, read as a station table, give the count of its chains, or refusal 1; so do any two, read as a table and its side file. Any
+-- chain number gives a sound chain of the two, or refusal 1 or 5.
+pub table-read : (s scale : List ℕ) (number : ℕ) →
+    NoneOr (1 ∷ []) (countRefusal (chainCountOf s))
+    × NoneOr (1 ∷ []) (countRefusal (scaledCountOf s scale))
+    × NoneOr (1 ∷ 5 ∷ []) (chainRefusal (chainOf s scale number))
+table-read s scale number = (count-refusals s, scaled-refusals s scale, chain-refusals s scale number)
+
+-- A factor matters only where its chain is named: if two side files fit the table and have the same factor for a chain, this chain is
+-- the same, whatever their other factors are.
+pub factor-alone : (s scale other : List ℕ) (number : ℕ) →
+    length scale ≡ length other → fieldAt 4 scale (4 * (number - 1)) ≡ fieldAt 4 other (4 * (number - 1)) → chainOf s scale number ≡ chainOf s other number
+unfolding chainOf
+factor-alone s scale other number long same = rw (long, same)
 
 -- Any bytes, read as a job, are accepted, or refused with 1, 2, 6 or 7.
 pub job-read : (s : List ℕ) → NoneOr (1 ∷ 2 ∷ 6 ∷ 7 ∷ []) (jobRefusal (jobOf s))
@@ -98,12 +110,17 @@ pub record-written : (bytes : ℕ) (d : Draft) →
     × (Refuses (refusalOf bytes d) → bufferOf bytes d ≡ replicate bytes 0)
 record-written bytes d = (write-refusals bytes d, refused-write-zeros bytes d)
 
--- A chain is written, or refused with 1 or 5; a job is written, or refused with 1, 6 or 7. A refusal leaves the whole buffer
--- zero, whatever its length.
+-- A chain and a factor are each written, or refused with 1 or 5; a job is written, or refused with 1, 6 or 7. A refusal leaves
+-- the whole buffer zero, whatever its length.
 pub chain-written : (bytes : ℕ) (c : Chain) →
     NoneOr (1 ∷ 5 ∷ []) (chainRefusalOf bytes c)
     × (Refuses (chainRefusalOf bytes c) → chainBufferOf bytes c ≡ replicate bytes 0)
 chain-written bytes c = (chain-write-refusals bytes c, refused-chain-zeros bytes c)
+
+pub factor-written : (bytes f : ℕ) →
+    NoneOr (1 ∷ 5 ∷ []) (factorRefusalOf bytes f)
+    × (Refuses (factorRefusalOf bytes f) → factorBufferOf bytes f ≡ replicate bytes 0)
+factor-written bytes f = (factor-write-refusals bytes f, refused-factor-zeros bytes f)
 
 pub job-written : (bytes : ℕ) (j : Job) →
     NoneOr (1 ∷ 6 ∷ 7 ∷ []) (jobRefusalOf bytes j)
@@ -145,56 +162,63 @@ places-listed c readings w tolerance allowance entries e =
       list-length entries (searchOf q w .places) (omega (arith, room-kept q w)),
     )
 
--- Any bytes as a record of a log, with an accepted job, any table, and any place or none carried from the record before, give
+-- Any bytes as a record of a log, with an accepted job, any table and side file, and any place or none carried from the record before, give
 -- places, or refusal 1, 2, 3, 4, 5, 8, 9, 10 or 11. Refusals 6 and 7 never come, since the job was accepted.
-pub record-answered : (job table s : List ℕ) (j : Job) (before : Carried) → jobOf job ≡ answer.Job j →
-    NoneOr (1 ∷ 2 ∷ 3 ∷ 4 ∷ 5 ∷ 8 ∷ 9 ∷ 10 ∷ 11 ∷ []) (recordRefusal (answerOf j table before s))
+pub record-answered : (job table scale s : List ℕ) (j : Job) (before : Carried) → jobOf job ≡ answer.Job j →
+    NoneOr (1 ∷ 2 ∷ 3 ∷ 4 ∷ 5 ∷ 8 ∷ 9 ∷ 10 ∷ 11 ∷ []) (recordRefusal (answerOf j table scale before s))
 unfolding answerOf
-record-answered job table s j before accepted =
+record-answered job table scale s j before accepted =
     let good = job-good job j accepted in
-    answer-number j (good .0) (good .1) (chainOf table (byteAt s 1)) before (isRoundedIn s) (logEntryOf s) (chain-refusals table (byteAt s 1)) (entry-refusals s)
+    answer-number j (good .0) (good .1) (chainOf table scale (byteAt s 1)) before (isRoundedIn s) (logEntryOf s) (chain-refusals table scale (byteAt s 1)) (entry-refusals s)
 
 -- No refusal has the number 0, since 0 means that nothing is refused. So every refusal has one of the numbers above.
-pub no-refusal-is-0 : (s table : List ℕ) (number visits : ℕ) (j : Job) (before : Carried) →
+pub no-refusal-is-0 : (s table scale : List ℕ) (number visits : ℕ) (j : Job) (before : Carried) →
     (rawRecordOf s ≡ raw.Refused 0 → ⊥)
     × (logRecordOf s ≡ log.Refused 0 → ⊥)
     × (logEntryOf s ≡ entry.Refused 0 → ⊥)
     × (chainCountOf s ≡ count.Refused 0 → ⊥)
-    × (chainOf s number ≡ named.Refused 0 → ⊥)
+    × (scaledCountOf s scale ≡ count.Refused 0 → ⊥)
+    × (chainOf s scale number ≡ named.Refused 0 → ⊥)
     × (jobOf s ≡ answer.Refused 0 → ⊥)
-    × (answerOf j table before s ≡ Refused 0 visits → ⊥)
+    × (answerOf j table scale before s ≡ Refused 0 visits → ⊥)
 unfolding answerOf
-no-refusal-is-0 s table number visits j before = (
+no-refusal-is-0 s table scale number visits j before = (
   raw-never s,
   log-never s,
   entry-never s,
   count-never s,
-  chain-never s number,
+  scaled-never s scale,
+  chain-never s scale number,
   job-never s,
-  answer-never visits j (chainOf table (byteAt s 1)) before (isRoundedIn s) (logEntryOf s) (chain-never table (byteAt s 1)) (entry-never s),
+  answer-never visits j (chainOf table scale (byteAt s 1)) before (isRoundedIn s) (logEntryOf s) (chain-never table scale (byteAt s 1)) (entry-never s),
 )
 
 -- For a refused job the program prints only `JOB REFUSED` and the number, which is 1, 2, 6 or 7. For an accepted job and a
--- refused table it prints only `CHAIN REFUSED` and the number, which is 1.
-pub job-refused : (job table log : List ℕ) (number : ℕ) → jobOf job ≡ answer.Refused number →
+-- refused table it prints only `CHAIN REFUSED` and the number, which is 1. If both are accepted and the side file does not fit the
+-- table, it prints only `SCALE REFUSED 1`.
+pub job-refused : (job table scale log : List ℕ) (number : ℕ) → jobOf job ≡ answer.Refused number →
     (isAmong number (1 ∷ 2 ∷ 6 ∷ 7 ∷ []) ≡ true)
-    × (listingOf job table log ≡ bytesIn "JOB REFUSED" ++ (spaced number ++ bytesIn "\n"))
+    × (listingOf job table scale log ≡ bytesIn "JOB REFUSED" ++ (spaced number ++ bytesIn "\n"))
 unfolding jobRefusal
-job-refused job table log number e = (
+job-refused job table scale log number e = (
   some-number number (1 ∷ 2 ∷ 6 ∷ 7 ∷ []) (subst (λ (a : JobAnswer). NoneOr (1 ∷ 2 ∷ 6 ∷ 7 ∷ []) (jobRefusal a)) e (job-refusals job))
       (λ z. job-never job (e ∙ ap answer.Refused z)),
-  job-first job table log number e,
+  job-first job table scale log number e,
 )
 
-pub table-refused : (job table log : List ℕ) (j : Job) (number : ℕ) → jobOf job ≡ answer.Job j → chainCountOf table ≡ count.Refused number →
+pub table-refused : (job table scale log : List ℕ) (j : Job) (number : ℕ) → jobOf job ≡ answer.Job j → chainCountOf table ≡ count.Refused number →
     (isAmong number (1 ∷ []) ≡ true)
-    × (listingOf job table log ≡ bytesIn "CHAIN REFUSED" ++ (spaced number ++ bytesIn "\n"))
+    × (listingOf job table scale log ≡ bytesIn "CHAIN REFUSED" ++ (spaced number ++ bytesIn "\n"))
 unfolding countRefusal
-table-refused job table log j number good e = (
+table-refused job table scale log j number good e = (
   some-number number (1 ∷ []) (subst (λ (a : ChainCount). NoneOr (1 ∷ []) (countRefusal a)) e (count-refusals table))
       (λ z. count-never table (e ∙ ap count.Refused z)),
-  then-chain job table log j number good e,
+  then-chain job table scale log j number good e,
 )
+
+pub scale-refused : (job table scale log : List ℕ) (j : Job) (n : ℕ) → jobOf job ≡ answer.Job j → chainCountOf table ≡ count.Chains n →
+    (length scale ≡ 4 * n → ⊥) → listingOf job table scale log ≡ bytesIn "SCALE REFUSED 1\n"
+scale-refused job table scale log j n good known unfit = then-scale job table scale log j n good known (ne-eqb _ _ unfit)
 
 -- A listing is put into a buffer; or it is refused with 9, if the buffer has too little room, and the buffer stays as it was.
 pub listing-answered : (out log : List ℕ) (p : Part) →
@@ -216,43 +240,45 @@ record-figures-told s =
     let marks = marks-told (rawRecordOf s) (logRecordOf s) in
     (told .0, λ some. (told .1 some, marks some .0, marks some .1))
 
--- A table: after 1 the count is 0. A chain read from a table, and a chain written from its stations: after 1 or 5 all its
--- bytes are 0.
-pub table-figures-told : (s stations : List ℕ) (number bytes : ℕ) →
+-- A table: after 1 the count is 0. A chain read from a table and its side file: after 1 or 5 all its bytes are 0, and so is its factor. A
+-- chain written from its stations and its factor: after 1 or 5 all its bytes are 0.
+pub table-figures-told : (s scale stations : List ℕ) (number bytes factor : ℕ) →
     let f = countFigures (chainCountOf s) in
-    let g = chainTold bytes s number in
-    let w = chainWritten bytes stations in
+    let g = chainTold bytes s scale number in
+    let w = chainWritten bytes stations factor in
     (NoneOr (1 ∷ []) (f .refusal) × (Refuses (f .refusal) → f .count ≡ 0))
-    × (NoneOr (1 ∷ 5 ∷ []) (g .refusal) × (Refuses (g .refusal) → g .holds ≡ replicate bytes 0))
+    × (NoneOr (1 ∷ 5 ∷ []) (g .refusal) × (Refuses (g .refusal) → (g .holds ≡ replicate bytes 0) × (factorTold bytes s scale number ≡ 0)))
     × (NoneOr (1 ∷ 5 ∷ []) (w .refusal) × (Refuses (w .refusal) → w .holds ≡ replicate bytes 0))
-table-figures-told s stations number bytes = (
-  count-told (chainCountOf s) (1 ∷ []) (count-refusals s),
-  chain-told bytes (chainOf s number) (chain-refusals s number),
-  chain-told bytes (chainBy stations) (stations-counted stations),
-)
+table-figures-told s scale stations number bytes factor =
+    let g = chain-told bytes (chainOf s scale number) (chain-refusals s scale number) in (
+      count-told (chainCountOf s) (1 ∷ []) (count-refusals s),
+      (g .0, λ some. (g .1 some, no-factor _ (chainOf s scale number) some)),
+      chain-told bytes (chainBy stations factor) (stations-counted stations factor),
+    )
 
--- A chain of any bytes: after 1 or 5 the numbers of its stations are all 0; after 1, 4 or 5 the readings expected at a place
+-- A chain of any bytes and any factor: after 1 or 5 the numbers of its stations are all 0; after 1, 4 or 5 the readings expected at a place
 -- are all 0.
-pub chain-figures-told : (chain : List ℕ) (entries e n : ℕ) →
-    let s = stationsTold entries chain in
-    let x = expectedTold entries chain e n in
+pub chain-figures-told : (chain : List ℕ) (factor entries e n : ℕ) →
+    let s = stationsTold entries chain factor in
+    let x = expectedTold entries chain factor e n in
     (NoneOr (1 ∷ 5 ∷ []) (s .refusal) × (Refuses (s .refusal) → s .holds ≡ replicate entries 0))
     × (NoneOr (1 ∷ 4 ∷ 5 ∷ []) (x .refusal) × (Refuses (x .refusal) → x .holds ≡ replicate entries (pos 0)))
-chain-figures-told chain entries e n = (
-  stations-told entries (rawChainOf chain) (bytes-counted chain),
-  expected-told entries (rawChainOf chain) (placeOf e n) (bytes-counted chain),
+chain-figures-told chain factor entries e n = (
+  stations-told entries (rawChainOf chain factor) (bytes-counted chain factor),
+  expected-told entries (rawChainOf chain factor) (placeOf e n) (bytes-counted chain factor),
 )
 
--- A search by the bytes of a chain and of a job: refusal 1 or 2 if the bytes or the count of readings are wrong, else what
--- the search answers. After a refusal the list is zeros and the count is 0.
-pub search-figures-told : (chain : List ℕ) (readings : List ℤ) (job : List ℕ) (entries : ℕ) →
-    SearchIsTold entries (searchTold chain readings job entries)
-search-figures-told chain readings job entries = search-told chain readings job entries (λ q w. search-answered q w entries)
+-- A search by the bytes of a chain, its factor, and the bytes of a job: refusal 1 or 2 if the bytes or the count of readings are
+-- wrong, else what the search answers. After a refusal the list is zeros and the count is 0.
+pub search-figures-told : (chain : List ℕ) (factor : ℕ) (readings : List ℤ) (job : List ℕ) (entries : ℕ) →
+    SearchIsTold entries (searchTold chain factor readings job entries)
+search-figures-told chain factor readings job entries = search-told chain factor readings job entries (λ q w. search-answered q w entries)
 
--- How many places there are, by the bytes of a chain and of a job: refusal 1 or 2 if the bytes or the count of readings are wrong,
--- else what the question answers, which is never 8 or 9. After a refusal the answer is none of the three, and the place is zeros.
-pub how-many-figures-told : (chain : List ℕ) (readings : List ℤ) (job : List ℕ) → ManyIsTold (askedIn (rawChainOf chain) readings (formedJobOf job))
-how-many-figures-told chain readings job = many-told chain readings job
+-- How many places there are, by the bytes of a chain, its factor, and the bytes of a job: refusal 1 or 2 if the bytes or the
+-- count of readings are wrong, else what the question answers, which is never 8 or 9. After a refusal the answer is none of the
+-- three, and the place is zeros.
+pub how-many-figures-told : (chain : List ℕ) (factor : ℕ) (readings : List ℤ) (job : List ℕ) → ManyIsTold (askedIn (rawChainOf chain factor) readings (formedJobOf job))
+how-many-figures-told chain factor readings job = many-told chain factor readings job
 
 -- A job: after 1, 2, 6 or 7 window, tolerance and allowance are all 0.
 pub job-figures-told : (s : List ℕ) →

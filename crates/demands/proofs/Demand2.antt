@@ -7,7 +7,7 @@ use mathlib.Core.Logic.{_↔_}
 use mathlib.Core.Bool.{Bool, true, false}
 use mathlib.Core.List.{List, [], _∷_, _++_, map}
 use native.Mathlib.Omega.{arith}
-use borrow.Author.Tests.{leb-true}
+use borrow.Author.Tests.{leb-true, le-leb}
 use lib.Dec.{T}
 use lib.IntN.{ℤ, pos, natAbs, subℕ, _*ℤ_}
 use lib.Signed.{_<ℤ_}
@@ -31,10 +31,14 @@ use Rattle.metres.proofs.PatternLaws.{number-back}
 use Rattle.chart.specs.declared.Place.{Place}
 use Rattle.chart.specs.declared.Chain.{Chain}
 use Rattle.chart.specs.Places.{inRange, squaredDistance, distanceOf}
-use Rattle.chart.specs.Chains.{slavesOf, isSound}
-use Rattle.chart.specs.Readings.{Expects, NoneFor, expectedAt}
-use Rattle.chart.proofs.RangeLaws.{readings-are}
+use Rattle.chart.specs.Chains.{slavesOf, isSound, allInRange, noTwoEqual, stationsOf}
+use Rattle.chart.specs.Readings.{Expects, NoneFor, expectedAt, rangeOf, readingsOf}
+use Rattle.chart.proofs.RangeLaws.{readings-are, range-is-distance, range-is-on-ground, readings-unscaled}
 use Rattle.chart.proofs.ReadingLaws.{expected-out, expected-unsound, expected-readings}
+use Rattle.chart.specs.Factors.{isFactor}
+use Rattle.chart.proofs.PlaceLaws.{and-both, both}
+use Rattle.chart.proofs.ChainLaws.{factor-allowed}
+use Rattle.chart.proofs.GroundLaws.{factor-says, factor-some, ground-high, ground-low, ground-only, says-factor}
 use Rattle.search.specs.declared.Window.{Window}
 use Rattle.search.specs.Windows.{isWindow, IsCellIn}
 use Rattle.search.specs.Questions.{ruleOf, questionOf}
@@ -55,7 +59,8 @@ use Rattle.writing.specs.declared.Draft.{Draft}
 use Rattle.writing.specs.Writing.{refusalOf, usedOf, bufferOf, rawFor, entryFor}
 use Rattle.writing.specs.ChainWriting.{chainRefusalOf, chainBufferOf, allSound, tableOf}
 use Rattle.writing.specs.JobWriting.{jobRefusalOf, jobBufferOf}
-use Rattle.writing.proofs.Theorems.{reads-back, chains-written, chains-counted, chains-read-back, window-written, job-reads-back}
+use Rattle.writing.proofs.Theorems.{reads-back, chains-written, chains-counted, chains-read-back, window-written, job-reads-back, factors-read-back, factors-written}
+use Rattle.writing.specs.FactorWriting.{factorRefusalOf, scaleOf}
 use Rattle.text.specs.Texts.{digitsOf, spaced, figuresText, bytesIn}
 use Rattle.parsing.specs.declared.ParsedJob.the-variants as parsed-job
 use Rattle.parsing.specs.declared.ParsedChain.the-variants as parsed-chain
@@ -78,7 +83,7 @@ use Rattle.demands.specs.Roundings.{EachExact, IsOwn, lastBytes}
 use Rattle.demands.specs.Finding.{EachSmall}
 use Rattle.demands.proofs.NumberLaws.{job-good}
 use Rattle.demands.proofs.WritingLaws.{hyperbolic-accepted, grid-accepted, hold-accepted, chain-byte}
-use Rattle.demands.proofs.TextLaws.{job-line-shown, job-typed-again, chain-line-shown, chain-typed-again, is-digit, metres-says, record-line-shown, metres-line, record-typed-again}
+use Rattle.demands.proofs.TextLaws.{job-line-shown, job-typed-again, chain-line-shown, chain-typed-again, is-digit, metres-says, record-line-shown, metres-line, record-typed-again, chain-accepted-sound, chain-typed-short}
 use Rattle.demands.proofs.MetresLaws.{chain-in-metres, job-in-metres}
 use Rattle.demands.proofs.QuestionLaws.{expected-as-typed, counted-as-typed}
 use Rattle.demands.proofs.RoundingLaws.{own-field, hold-as-before}
@@ -97,18 +102,54 @@ distance-is-root p q = (
   λ d low high. root-unique (squaredDistance p q) d (record { low = low; high = high }),
 )
 
--- For a place in range and a sound chain, the reading of each slave is the distance to the slave minus the distance to the
--- master, each distance cut to a whole number first. A place out of range is refused with 4, whatever the chain; then an
--- unsound chain is refused with 5.
+-- The range from a place to a station of a sound chain with the factor f is the whole part of (the distance times 1,000,000 divided by
+-- f): f times the range is at most a million times the distance, f times the next number is more, and no other number has both
+-- properties.
+pub range-is-quotient : (c : Chain) (p station : Place) → isSound c ≡ true →
+    let f = c .factor in
+    let d = distanceOf p station in
+    (rangeOf c p station * f ≤ d * 1_000_000)
+    × (d * 1_000_000 < (rangeOf c p station + 1) * f)
+    × ((r : ℕ) → r * f ≤ d * 1_000_000 → d * 1_000_000 < (r + 1) * f → r ≡ rangeOf c p station)
+range-is-quotient c p station sound =
+    let same = range-is-on-ground c p station in
+    let d = distanceOf p station in (
+      subst⁻¹ (λ (r : ℕ). r * c .factor ≤ d * 1_000_000) same (ground-low (c .factor) d),
+      subst⁻¹ (λ (r : ℕ). d * 1_000_000 < (r + 1) * c .factor) same (ground-high (c .factor) d (factor-some (c .factor) (factor-allowed c sound))),
+      λ r low high. ground-only (c .factor) d r low high ∙ sym same,
+    )
+
+-- With the factor 1,000,000 every range is the distance, and the readings of a place are the differences of its distances: so 01's
+-- figures stay as they are.
+pub factor-of-one : (c : Chain) (p : Place) → c .factor ≡ 1_000_000 →
+    ((station : Place) → rangeOf c p station ≡ distanceOf p station)
+    × (readingsOf c p ≡ map (λ slave. subℕ (distanceOf p slave) (distanceOf p (c .master))) (slavesOf c))
+factor-of-one c p one = ((λ station. range-is-distance c p station one), readings-unscaled c p one)
+
+-- For a place in range and a sound chain, the reading of each slave is the range to the slave minus the range to the master, each
+-- range cut to a whole number by itself. A place out of range is refused with 4, whatever the chain; then an unsound chain, also one
+-- whose factor is not allowed, is refused with 5.
 pub readings-are-differences : (c : Chain) (p : Place) →
     (inRange p ≡ true → isSound c ≡ true →
-    expectedAt c p ≡ Expects (map (λ slave. subℕ (distanceOf p slave) (distanceOf p (c .master))) (slavesOf c)))
+    expectedAt c p ≡ Expects (map (λ slave. subℕ (rangeOf c p slave) (rangeOf c p (c .master))) (slavesOf c)))
     × (inRange p ≡ false → expectedAt c p ≡ NoneFor 4)
     × (inRange p ≡ true → isSound c ≡ false → expectedAt c p ≡ NoneFor 5)
 readings-are-differences c p = (
   (λ in-range sound. expected-readings c p in-range sound ∙ ap Expects (readings-are c p)),
   expected-out c p,
   expected-unsound c p,
+)
+
+-- A chain is sound exactly if its factor is 999,000 to 1,001,000, its stations are in range, and no two of them are equal.
+pub sound-means : (c : Chain) →
+    (isSound c ≡ true) ↔ ((999_000 ≤ c .factor) × (c .factor ≤ 1_001_000) × (allInRange (stationsOf c) ≡ true) × (noTwoEqual (stationsOf c) ≡ true))
+unfolding isSound
+sound-means c = (
+  (λ e.
+      let two = both (isFactor (c .factor)) _ e in
+      let stations = both (allInRange (stationsOf c)) (noTwoEqual (stationsOf c)) (two .1) in
+      (factor-says (c .factor) (two .0) .0, factor-says (c .factor) (two .0) .1, stations .0, stations .1)),
+  (λ h. and-both (says-factor (c .factor) (h .0) (h .1)) (and-both (h .2) (h .3))),
 )
 
 -- A number of metres gives the whole number of centimetres nearest to exactly 100 times the number, a tie going to the even
@@ -145,18 +186,18 @@ pub exact-are-quarters : (s : Bool) (m : ℕ) (e z : ℤ) →
 exact-are-quarters = quarters
 
 -- The last field of a line `FIX` or `GRID` is 0 exactly if every number that its record uses is exact, and 1 exactly if not.
-pub field-is-true : (j : Job) (table : List ℕ) (before : Carried) (s : List ℕ) →
-    let line = lineOf s (answerOf j table before s) in
+pub field-is-true : (j : Job) (table scale : List ℕ) (before : Carried) (s : List ℕ) →
+    let line = lineOf s (answerOf j table scale before s) in
     let exact = EachExact (numbersUsed (logRecordOf s)) in
-    IsOwn (answerOf j table before s) →
+    IsOwn (answerOf j table scale before s) →
     ((lastBytes 3 line ≡ bytesIn " 0\n") ↔ exact) × ((lastBytes 3 line ≡ bytesIn " 1\n") ↔ (exact → ⊥))
 field-is-true = own-field
 
 -- A hold after a record t with one place, which may be a hold itself, ends its line as the line of t ends.
-pub hold-repeats-field : (j : Job) (table s t : List ℕ) (a : RecordAnswer) (p : Place) → logEntryOf s ≡ entry.Hold → placesOf a ≡ p ∷ [] →
-    lastBytes 3 (lineOf s (answerOf j table (carriedBy a) s)) ≡ lastBytes 3 (lineOf t a)
+pub hold-repeats-field : (j : Job) (table scale s t : List ℕ) (a : RecordAnswer) (p : Place) → logEntryOf s ≡ entry.Hold → placesOf a ≡ p ∷ [] →
+    lastBytes 3 (lineOf s (answerOf j table scale (carriedBy a) s)) ≡ lastBytes 3 (lineOf t a)
 unfolding answerOf answerBy
-hold-repeats-field j table s t a p held one = rw held (hold-as-before s t a p one)
+hold-repeats-field j table scale s t a p held one = rw held (hold-as-before s t a p one)
 
 -- Each of the 2,000,000,001 numbers of centimetres from -1,000,000,000 to 1,000,000,000 is written as its quotient by 100,
 -- rounded once; and this quotient is read back as the same number.
@@ -180,16 +221,19 @@ pub record-there-and-back : (d : Draft) → d .line < 2 ^ 32 → refusalOf 32 d 
     (rawRecordOf (bufferOf 32 d) ≡ raw.Record (rawFor (usedOf d))) × (logEntryOf (bufferOf 32 d) ≡ entryFor (usedOf d))
 record-there-and-back d line accepted = (reads-back d line accepted .raw, reads-back d line accepted .entry)
 
--- Every sound chain is written. 1 to 16 of them, written one after the other, are a table of that many chains, and each is
--- read back by its number. `other` is what `getD` gives past the end of the list, which no number here reaches.
+-- Every sound chain is written, and its factor. 1 to 16 of them, written one after the other, are a table of that many chains, their
+-- factors are a side file that fits it, and each is read back by its number. `other` is what `getD` gives past the end of the list,
+-- which no number here reaches.
 pub chains-there-and-back : (cs : List Chain) (number : ℕ) (other : Chain) →
     let c = getD cs (number - 1) other in
     allSound cs ≡ true → length cs ≤ 16 → 1 ≤ number → number ≤ length cs →
     (chainRefusalOf 24 c ≡ 0)
+    × (factorRefusalOf 4 (c .factor) ≡ 0)
     × (chainCountOf (tableOf cs) ≡ count.Chains (length cs))
-    × (chainOf (tableOf cs) number ≡ named.Chain c)
+    × (chainOf (tableOf cs) (scaleOf cs) number ≡ named.Chain c)
 chains-there-and-back cs number other sound few first last = (
   chains-written cs number other sound first last,
+  factors-written cs number other sound first last,
   chains-counted cs (omega arith) few,
   chains-read-back cs number other sound few first last,
 )
@@ -208,13 +252,23 @@ pub record-shown-and-typed : (d : Draft) → d .line < 2 ^ 32 → refusalOf 32 d
     (recordLine (bufferOf 32 d) ≡ bytesIn "LOG" ++ (fields ++ bytesIn "\n")) × (parsedDraft fields ≡ parsed-draft.Draft (usedOf d))
 record-shown-and-typed d small accepted = (record-line-shown d small accepted, record-typed-again d small accepted)
 
--- Every sound chain that is written is shown as one line: `CHAIN`, its number in the table, its fields and a newline, with no
--- refusal. The fields, typed in, give the same chain again.
-pub chain-shown-and-typed : (c : Chain) (number : ℕ) → isSound c ≡ true →
-    let fields = figuresText (stationFigures c) in
-    (chainLine number (chainBufferOf 24 c) ≡ bytesIn "CHAIN" ++ (spaced number ++ (fields ++ bytesIn "\n")))
+-- Every chain of a list of sound ones that are written is shown as one line: `CHAIN`, its number in the table, its fields, the factor
+-- last, and a newline, with no refusal. The fields, typed in, give the same chain again; without the factor they do if it is
+-- 1,000,000.
+pub chain-shown-and-typed : (cs : List Chain) (number : ℕ) (other : Chain) → allSound cs ≡ true → 1 ≤ number → number ≤ length cs →
+    let c = getD cs (number - 1) other in
+    let fields = figuresText (stationFigures c ++ (c .factor ∷ [])) in
+    (chainLine (scaleOf cs) number (chainBufferOf 24 c) ≡ bytesIn "CHAIN" ++ (spaced number ++ (fields ++ bytesIn "\n")))
     × (parsedChain fields ≡ parsed-chain.Chain c)
-chain-shown-and-typed c number sound = (chain-line-shown c sound number, chain-typed-again c sound)
+chain-shown-and-typed cs number other sound first last =
+    let c = getD cs (number - 1) other in
+    let back = factors-read-back cs number other sound first last in
+    let good = chain-accepted-sound c (chains-written cs number other sound first last) in
+    let there = and-both (le-leb 1 number first) (le-leb number (length (scaleOf cs) / 4) (omega (arith, back .0, last))) in
+    (chain-line-shown c good (scaleOf cs) number there (back .1), chain-typed-again c good)
+
+pub chain-typed-without-factor : (c : Chain) → isSound c ≡ true → c .factor ≡ 1_000_000 → parsedChain (figuresText (stationFigures c)) ≡ parsed-chain.Chain c
+chain-typed-without-factor c sound one = chain-typed-short c sound one
 
 -- Every job that the writer accepts is shown as one line: `JOB`, its fields and a newline, with no refusal. The fields, typed
 -- in, give the same job again.
@@ -225,15 +279,15 @@ job-shown-and-typed j small accepted = (job-line-shown j small accepted, job-typ
 
 -- The readings shown for a typed question are those for the chain number and the place exactly as they were typed, however
 -- large these numbers are.
-pub question-as-typed : (table s : List ℕ) (number : ℕ) (p : Place) → parsedQuestion s ≡ parsed-question.Question number p →
-    expectedIn table number p ≡ expectedIn table (valueAt s 0) (record { easting = lengthAt s 1; northing = lengthAt s 2 })
-question-as-typed table s number p e = expected-as-typed table s number p e
+pub question-as-typed : (table scale s : List ℕ) (number : ℕ) (p : Place) → parsedQuestion s ≡ parsed-question.Question number p →
+    expectedIn table scale number p ≡ expectedIn table scale (valueAt s 0) (record { easting = lengthAt s 1; northing = lengthAt s 2 })
+question-as-typed table scale s number p e = expected-as-typed table scale s number p e
 
 -- How many places are shown for typed readings is the answer for the chain number and the readings exactly as they were typed,
 -- however large these numbers are.
-pub readings-as-typed : (table job s : List ℕ) (number : ℕ) (a b : ℤ) → parsedReadings s ≡ parsed-readings.Readings number a b →
-    countedIn table job number (a ∷ b ∷ []) ≡ countedIn table job (valueAt s 0) (readingAt s 1 ∷ readingAt s 2 ∷ [])
-readings-as-typed table job s number a b e = counted-as-typed table job s number a b e
+pub readings-as-typed : (table scale job s : List ℕ) (number : ℕ) (a b : ℤ) → parsedReadings s ≡ parsed-readings.Readings number a b →
+    countedIn table scale job number (a ∷ b ∷ []) ≡ countedIn table scale job (valueAt s 0) (readingAt s 1 ∷ readingAt s 2 ∷ [])
+readings-as-typed table scale job s number a b e = counted-as-typed table scale job s number a b e
 
 -- A length that is typed in digits alone says so many centimetres; one that is typed in metres, with a point and two decimals, says
 -- a hundred times the metres and the decimals.
@@ -260,7 +314,7 @@ pub record-in-metres : (d : Draft) → d .line < 2 ^ 32 → refusalOf 32 d ≡ 0
 record-in-metres d small accepted = metres-line d small accepted
 
 -- So do every sound chain, and every job that the writer accepts, typed with their lengths in metres.
-pub chain-typed-in-metres : (c : Chain) → isSound c ≡ true → parsedChain (metresLine (stationFigures c)) ≡ parsed-chain.Chain c
+pub chain-typed-in-metres : (c : Chain) → isSound c ≡ true → parsedChain (metresLine (stationFigures c) ++ spaced (c .factor)) ≡ parsed-chain.Chain c
 chain-typed-in-metres c sound = chain-in-metres c sound
 
 pub job-typed-in-metres : (j : Job) → j .allowance < 2 ^ 64 → jobRefusalOf 32 j ≡ 0 →
@@ -311,15 +365,15 @@ readings-give-place c p readings w tolerance allowance entries e small window in
 -- are at most 1,000,000,000 in size, are written as a record that names a chain of the table, and the record is read back the
 -- same. The answer to this record lists the place, if the job is accepted, its window contains the place, its allowance is at
 -- least the greatest that may be needed, and at most 256 cells of the window match.
-pub place-to-place : (c : Chain) (p : Place) (x y : ℤ) (chain line : ℕ) (job table : List ℕ) (j : Job) (before : Carried) →
+pub place-to-place : (c : Chain) (p : Place) (x y : ℤ) (chain line : ℕ) (job table scale : List ℕ) (j : Job) (before : Carried) →
     let s = bufferOf 32 (record { kind = 1; chain = chain; line = line; x = x; y = y }) in
     expectedAt c p ≡ Expects (x ∷ y ∷ []) → natAbs x ≤ 1_000_000_000 → natAbs y ≤ 1_000_000_000 →
-    1 ≤ chain → chain ≤ 16 → line < 2 ^ 32 → chainOf table chain ≡ named.Chain c →
+    1 ≤ chain → chain ≤ 16 → line < 2 ^ 32 → chainOf table scale chain ≡ named.Chain c →
     jobOf job ≡ answer.Job j → IsCellIn (j .window) p → (4 ^ (j .window .k + 1) - 1) / 3 ≤ j .allowance →
     length (matchingIn (ruleOf c (x ∷ y ∷ []) (j .tolerance)) (j .window)) ≤ 256 →
-    (logEntryOf s ≡ entry.Readings x y) × IsListed p (placesOf (answerOf j table before s))
+    (logEntryOf s ≡ entry.Readings x y) × IsListed p (placesOf (answerOf j table scale before s))
 unfolding answerOf answerBy fixBy EachSmall
-place-to-place c p x y chain line job table j before e hx hy some few small known good inside enough room =
+place-to-place c p x y chain line job table scale j before e hx hy some few small known good inside enough room =
     let there = readings-there-and-back chain line x y some few small hx hy in
     let s = bufferOf 32 (record { kind = 1; chain = chain; line = line; x = x; y = y }) in
     let q = questionOf c (x ∷ y ∷ []) (j .tolerance) (j .allowance) 512 in

@@ -22,6 +22,7 @@ use Rattle.search.specs.Windows.{east, north, northEast, isWindow, IsCellIn}
 use Rattle.search.specs.Questions.{Rule, Question, ruleOf, questionOf, noneTooLarge, matches, isKept}
 use Rattle.search.specs.Answers.{Accepted, searchOf, searchFigures, figuresIn}
 use Rattle.search.specs.Cells.{chartNumber, Rises, IsListed, matching, matchingIn, visitsOf, visitsIn, AmpleRoom, AmpleAllowance}
+use Rattle.chart.proofs.GroundLaws.{says-factor}
 use Rattle.search.proofs.Whole.{visits-kept, visits-dropped}
 use Rattle.search.proofs.Dropping.{dropped-none}
 use Rattle.search.proofs.Theorems.{listed-iff-matches, numbers-rise, only-list, eight-only-then, eight-when-none, visits-are-counted, places-are-counted, listed-are-counted, always-enough, nine-when-short, nine-only-then, visits-in-allowance}
@@ -69,14 +70,21 @@ counts-are-right q w e = (
 )
 
 -- The rule of the count: a cell costs one visit; a larger square that is dropped costs one; any other square costs one and
--- the visits of its four quarters. A square that is dropped has no matching cell.
+-- the visits of its four quarters. A square that is dropped has no matching cell, whatever factor from 999,000 to 1,001,000 the chain
+-- has, and whatever the size of the square.
 pub visits-by-the-rule : (rule : Rule) (k : ℕ) (p : Place) →
     (visitsOf rule 0 p ≡ 1)
-    × (isKept rule k p ≡ false → (visitsOf rule (suc k) p ≡ 1) × (matching rule (suc k) p ≡ []))
+    × (isKept rule k p ≡ false → visitsOf rule (suc k) p ≡ 1)
+    × (isKept rule k p ≡ false → 999_000 ≤ rule .chain .factor → rule .chain .factor ≤ 1_001_000 → matching rule (suc k) p ≡ [])
     × (isKept rule k p ≡ true → visitsOf rule (suc k) p
     ≡ 1 + (visitsOf rule k p + (visitsOf rule k (east (2 ^ k) p) + (visitsOf rule k (north (2 ^ k) p) + visitsOf rule k (northEast (2 ^ k) p)))))
 unfolding visitsOf
-visits-by-the-rule rule k p = (refl, (λ e. (visits-dropped rule k p e, dropped-none rule k p e)), visits-kept rule k p)
+visits-by-the-rule rule k p = (
+  refl,
+  visits-dropped rule k p,
+  (λ e least most. dropped-none rule k p (says-factor (rule .chain .factor) least most) e),
+  visits-kept rule k p,
+)
 
 -- An allowance of (4^(k+1) - 1)/3 is always enough.
 pub greatest-allowance : (q : Question) (w : Window) → (4 ^ (w .k + 1) - 1) / 3 ≤ q .limits .allowance → visitsIn (q .rule) w ≤ q .limits .allowance

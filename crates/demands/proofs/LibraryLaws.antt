@@ -6,7 +6,7 @@ use mathlib.Core.List.{List, [], _∷_}
 use lib.Dec.{eqb}
 use lib.IntN.{ℤ, pos}
 use lib.ListN.{length, replicate}
-use borrow.Author.Tests.{eqb-true}
+use borrow.Author.Tests.{eqb-true, ne-eqb}
 use Rattle.chart.specs.declared.Place.{Place}
 use Rattle.chart.specs.declared.Chain.{Chain}
 use Rattle.chart.specs.declared.Figures.{Figures}
@@ -39,7 +39,7 @@ use Rattle.listing.specs.declared.Listed.the-variants as listed
 use Rattle.listing.specs.declared.Carried.the-variants as carried
 use Rattle.records.specs.LogRecords.{inCentimetres}
 use Rattle.records.specs.Marks.{isAccepted, marksOf, withMarksOf}
-use Rattle.lay.specs.Figures.{jobBy, chainNumbers, chainWith, chainBy, refusedWith, chainLent, stationsLent, chainReadings, readingsLent, expectedLent, unsearched, searchedBy, searchedIn, searchTold, manyFigures, askedIn, markFigure, entryFigures, markedFigures, recordBy, countFigures, jobAnswered, heldFigures, listedFigures}
+use Rattle.lay.specs.Figures.{jobBy, chainNumbers, chainWith, chainBy, refusedWith, chainLent, stationsLent, chainReadings, readingsLent, expectedLent, unsearched, searchedBy, searchedIn, searchTold, manyFigures, askedIn, markFigure, entryFigures, markedFigures, recordBy, countFigures, jobAnswered, heldFigures, listedFigures, factorAfter}
 use Rattle.demands.specs.Numbers.{listedRefusal, NoneOr, Refuses, Leaves, searchNumbers, SearchIsTold, manyNumbers, ManyIsTold}
 use Rattle.demands.proofs.NumberLaws.{wider, readings-number}
 use Rattle.demands.proofs.CountingLaws.{early-number}
@@ -92,20 +92,26 @@ unfolding chainLent chainRefusal
 chain-told bytes (named.Chain c) h = (chain-write-refusals bytes c, refused-chain-zeros bytes c)
 chain-told bytes (named.Refused number) h = (h, λ r. refl)
 
+-- After a refusal there is no factor.
+pub no-factor : (refusal : ℕ) (a : NamedChain) → Refuses refusal → factorAfter refusal a ≡ 0
+unfolding factorAfter
+no-factor refusal (named.Chain c) some = rw (ne-eqb refusal 0 some)
+no-factor refusal (named.Refused number) some = refl
+
 -- A chain given by its stations, and one given by its bytes: it is refused only if there are too few or too many of them.
-pub stations-counted : (s : List ℕ) → NoneOr (1 ∷ 5 ∷ []) (chainRefusal (chainBy s))
+pub stations-counted : (s : List ℕ) (factor : ℕ) → NoneOr (1 ∷ 5 ∷ []) (chainRefusal (chainBy s factor))
 unfolding chainBy chainRefusal isAmong
-stations-counted s = go (eqb (length s) chainNumbers)
+stations-counted s factor = go (eqb (length s) chainNumbers)
   where
-    go : (t : Bool) → NoneOr (1 ∷ 5 ∷ []) (chainRefusal (unless t (named.Refused 1) (named.Chain (chainWith s))))
+    go : (t : Bool) → NoneOr (1 ∷ 5 ∷ []) (chainRefusal (unless t (named.Refused 1) (named.Chain (chainWith s factor))))
     go true = refl
     go false = refl
 
-pub bytes-counted : (s : List ℕ) → NoneOr (1 ∷ []) (chainRefusal (rawChainOf s))
+pub bytes-counted : (s : List ℕ) (factor : ℕ) → NoneOr (1 ∷ []) (chainRefusal (rawChainOf s factor))
 unfolding rawChainOf chainRefusal isAmong
-bytes-counted s = go (eqb (length s) chainBytes)
+bytes-counted s factor = go (eqb (length s) chainBytes)
   where
-    go : (t : Bool) → NoneOr (1 ∷ []) (chainRefusal (unless t (named.Refused 1) (named.Chain (chainAt s 0))))
+    go : (t : Bool) → NoneOr (1 ∷ []) (chainRefusal (unless t (named.Refused 1) (named.Chain (chainAt s 0 factor))))
     go true = refl
     go false = refl
 
@@ -184,10 +190,10 @@ searched-told c readings (job.Job j) entries h answered =
     )
 searched-told c readings (job.Refused number) entries h answered = not-searched number entries h
 
-pub search-told : (chain : List ℕ) (readings : List ℤ) (job : List ℕ) (entries : ℕ) → ((q : Question) (w : Window) → Leaves q w entries) →
-    SearchIsTold entries (searchTold chain readings job entries)
+pub search-told : (chain : List ℕ) (factor : ℕ) (readings : List ℤ) (job : List ℕ) (entries : ℕ) → ((q : Question) (w : Window) → Leaves q w entries) →
+    SearchIsTold entries (searchTold chain factor readings job entries)
 unfolding searchedIn chainRefusal isAmong
-search-told chain readings job entries answered = by-chain (rawChainOf chain) (bytes-counted chain)
+search-told chain factor readings job entries answered = by-chain (rawChainOf chain factor) (bytes-counted chain factor)
   where
     by-count : (c : Chain) (t : Bool) → SearchIsTold entries (unless t (unsearched 1 entries) (searchedBy c readings (formedJobOf job) entries))
     by-count c true = searched-told c readings (formedJobOf job) entries (formed-numbers job) answered
@@ -224,16 +230,16 @@ job-numbered c readings s = go (eqb (length s) jobBytes) (areZero 3 s 9 && areZe
         let j = jobIn s in
         question-numbered (ruleOf c readings (j .tolerance)) (j .window) (j .allowance) _ (counting (ruleOf c readings (j .tolerance)) (j .window) (j .allowance))
 
-asked-numbered : (chain : List ℕ) (readings : List ℤ) (job : List ℕ) → IsNumbered (askedIn (rawChainOf chain) readings (formedJobOf job))
+asked-numbered : (chain : List ℕ) (factor : ℕ) (readings : List ℤ) (job : List ℕ) → IsNumbered (askedIn (rawChainOf chain factor) readings (formedJobOf job))
 unfolding rawChainOf askedIn isAmong
-asked-numbered chain readings job = go (eqb (length chain) chainBytes) (eqb (length readings) chainReadings)
+asked-numbered chain factor readings job = go (eqb (length chain) chainBytes) (eqb (length readings) chainReadings)
   where
-    go : (t u : Bool) → IsNumbered (askedIn (unless t (named.Refused 1) (named.Chain (chainAt chain 0))) readings (formedJobOf job))
+    go : (t u : Bool) → IsNumbered (askedIn (unless t (named.Refused 1) (named.Chain (chainAt chain 0 factor))) readings (formedJobOf job))
     go false u = refl
     go true u = by-count (eqb (length readings) chainReadings)
       where
-        by-count : (u : Bool) → IsNumbered (unless u (many.Refused 1 0) (manyBy (formedJobOf job) (chainAt chain 0) readings))
-        by-count true = job-numbered (chainAt chain 0) readings job
+        by-count : (u : Bool) → IsNumbered (unless u (many.Refused 1 0) (manyBy (formedJobOf job) (chainAt chain 0 factor) readings))
+        by-count true = job-numbered (chainAt chain 0 factor) readings job
         by-count false = refl
 
 -- Its figures.
@@ -249,5 +255,5 @@ figures-numbered (many.Refused number visits) h = (
   (λ n. refl),
 )
 
-pub many-told : (chain : List ℕ) (readings : List ℤ) (job : List ℕ) → ManyIsTold (askedIn (rawChainOf chain) readings (formedJobOf job))
-many-told chain readings job = figures-numbered _ (asked-numbered chain readings job)
+pub many-told : (chain : List ℕ) (factor : ℕ) (readings : List ℤ) (job : List ℕ) → ManyIsTold (askedIn (rawChainOf chain factor) readings (formedJobOf job))
+many-told chain factor readings job = figures-numbered _ (asked-numbered chain factor readings job)

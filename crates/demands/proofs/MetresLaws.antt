@@ -23,7 +23,7 @@ use Rattle.parsing.specs.Numbers.{centimetresIn, valueAt, lengthAt}
 use Rattle.parsing.specs.Forms.{wordsOf, takenFor, isTaken}
 use Rattle.parsing.specs.Parsed.{parsedJob, parsedChain}
 use Rattle.parsing.proofs.WordLaws.{EachIsWord, spacedWords, spaced-one, spaced-both, words-back}
-use Rattle.parsing.proofs.TypedLaws.{digits-word, digits-number-taken, digits-allowance-taken, words-form}
+use Rattle.parsing.proofs.TypedLaws.{digits-word, digits-number-taken, digits-allowance-taken, digits-factor-taken, words-form}
 use Rattle.parsing.proofs.Fields.{jobTyped, chainTyped, job-taken, chain-taken}
 use Rattle.shown.specs.Fields.{decimalText}
 use Rattle.shown.specs.Lines.{stationFigures}
@@ -35,15 +35,6 @@ pub metres-spaced : (ns : List ℕ) → metresLine ns ≡ spacedWords (map decim
 unfolding metresLine spacedWords
 metres-spaced [] = refl
 metres-spaced (n ∷ ns) = ap (λ (rest : List ℕ). (32 ∷ decimalText n) ++ rest) (metres-spaced ns)
-
-decimal-words : (ns : List ℕ) → EachIsWord (map decimalText ns)
-decimal-words [] = tt
-decimal-words (n ∷ ns) = (decimal-word n, decimal-words ns)
-
-decimal-there : (ns : List ℕ) (i : ℕ) → i < length ns → getD (map decimalText ns) i [] ≡ decimalText (getD ns i 0)
-decimal-there [] i h = absurd (omega (arith, h))
-decimal-there (n ∷ ns) zero h = refl
-decimal-there (n ∷ ns) (suc i) h = decimal-there ns i (omega (arith, h))
 
 decimal-taken : (n : ℕ) → isTaken taken.Length (decimalText n) ≡ true
 unfolding isTaken
@@ -66,22 +57,57 @@ module _ (c : Chain) (sound : isSound c ≡ true) where
   unfolding chainRefusalOf
   accepted = rw sound
 
-  words : (i : ℕ) → wordAt i (spacedWords (map decimalText (stationFigures c))) ≡ getD (map decimalText (stationFigures c)) i []
-  words = words-back (map decimalText (stationFigures c)) (decimal-words (stationFigures c))
+  abbrev chain-words : List (List ℕ)
+  chain-words = map decimalText (stationFigures c) ++ (digitsOf (c .factor) ∷ [])
 
-  pub chain-in-metres : parsedChain (metresLine (stationFigures c)) ≡ parsed-chain.Chain c
-  unfolding takenFor wordsOf
+  each-is-word : EachIsWord chain-words
+  each-is-word = (
+    decimal-word (c .master .easting),
+    (
+      decimal-word (c .master .northing),
+      (
+        decimal-word (c .a .easting),
+        (decimal-word (c .a .northing), (decimal-word (c .b .easting), (decimal-word (c .b .northing), (digits-word (c .factor), tt)))),
+      ),
+    ),
+  )
+
+  words : (i : ℕ) → wordAt i (spacedWords chain-words) ≡ getD chain-words i []
+  words = words-back chain-words each-is-word
+
+  chain-taken-for : (i : ℕ) → i < 7 → isTaken (takenFor form.Chain i) (getD chain-words i []) ≡ true
+  unfolding takenFor
+  chain-taken-for zero l = decimal-taken (c .master .easting)
+  chain-taken-for (suc zero) l = decimal-taken (c .master .northing)
+  chain-taken-for (suc (suc zero)) l = decimal-taken (c .a .easting)
+  chain-taken-for (suc (suc (suc zero))) l = decimal-taken (c .a .northing)
+  chain-taken-for (suc (suc (suc (suc zero)))) l = decimal-taken (c .b .easting)
+  chain-taken-for (suc (suc (suc (suc (suc zero))))) l = decimal-taken (c .b .northing)
+  chain-taken-for (suc (suc (suc (suc (suc (suc zero)))))) l = digits-factor-taken (c .factor)
+  chain-taken-for (suc (suc (suc (suc (suc (suc (suc i))))))) l = absurd (omega (arith, l))
+
+  pub chain-in-metres : parsedChain (metresLine (stationFigures c) ++ spaced (c .factor)) ≡ parsed-chain.Chain c
+  unfolding wordsOf
   chain-in-metres =
-      let ns = stationFigures c in
-      let s = spacedWords (map decimalText ns) in
-      let at : (i : ℕ) → i < 6 → lengthAt s i ≡ getD ns i 0 =
-      λ i l. ap centimetresIn (words i ∙ decimal-there ns i l) ∙ decimal-says (getD ns i 0) in
+      let s = spacedWords chain-words in
+      let at : (i n : ℕ) → wordAt i s ≡ decimalText n → lengthAt s i ≡ n = λ i n e. ap centimetresIn e ∙ decimal-says n in
+      let given : noWord 6 s ≡ false =
+      ne-eqb (length (wordAt 6 s)) 0 (λ z. omega (arith, z, ap length (words 6), digits-some (c .factor))) in
       let same : chainTyped s ≡ c =
-      rw (at 0 (omega arith), at 1 (omega arith), at 2 (omega arith), at 3 (omega arith), at 4 (omega arith), at 5 (omega arith)) in
-      ap parsedChain (metres-spaced ns)
-      ∙ chain-taken 24 s (decimal-said s (c .master .easting) (words 0))
-      (words-form form.Chain (map decimalText ns) (decimal-words ns) refl
-      (λ i l. ap (isTaken taken.Length) (decimal-there ns i l) ∙ decimal-taken (getD ns i 0)))
+      rw (
+        at 0 (c .master .easting) (words 0),
+        at 1 (c .master .northing) (words 1),
+        at 2 (c .a .easting) (words 2),
+        at 3 (c .a .northing) (words 3),
+        at 4 (c .b .easting) (words 4),
+        at 5 (c .b .northing) (words 5),
+        given,
+        ap numeral (words 6) ∙ reads-back (c .factor),
+      ) in
+      ap parsedChain
+      (ap₂ _++_ (metres-spaced (stationFigures c)) (spaced-one (digitsOf (c .factor)))
+      ∙ spaced-both (map decimalText (stationFigures c)) (digitsOf (c .factor) ∷ []))
+      ∙ chain-taken 24 s (decimal-said s (c .master .easting) (words 0)) (words-form form.Chain chain-words each-is-word (omega arith) chain-taken-for)
       (ap (chainRefusalOf 24) same ∙ accepted)
       ∙ ap parsed-chain.Chain same
 
@@ -153,5 +179,5 @@ module _ (j : Job) (small : j .allowance < 2 ^ 64) (accepted : jobRefusalOf 32 j
       (ap (λ (t : List ℕ). t ++ (spaced (j .window .k) ++ (metresLine (j .tolerance ∷ []) ++ spaced (j .allowance))))
       (metres-spaced (corner .easting ∷ corner .northing ∷ []))
       ∙ job-as-words)
-      ∙ job-taken 32 s (words-form form.Job job-words are-words refl job-taken-for) (ap (jobRefusalOf 32) same ∙ accepted)
+      ∙ job-taken 32 s (words-form form.Job job-words are-words (omega arith) job-taken-for) (ap (jobRefusalOf 32) same ∙ accepted)
       ∙ ap parsed-job.Job same

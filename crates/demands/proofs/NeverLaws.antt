@@ -1,5 +1,5 @@
 -- No refusal has the number 0: every test leads to an answer that is not a refusal, or to a refusal with another number.
-use Prim.Native.Nat.{ℕ, _-_, _*_}
+use Prim.Native.Nat.{ℕ, _-_}
 use mathlib.Core.Path.{_≡_, refl, subst⁻¹}
 use mathlib.Core.Bool.{Bool, true, false, cond}
 use mathlib.Core.List.{List, [], _∷_}
@@ -27,7 +27,7 @@ use Rattle.records.specs.declared.NamedChain.the-variants as named
 use Rattle.records.specs.declared.Job.{Job}
 use Rattle.records.specs.declared.JobAnswer.the-variants as job
 use Rattle.records.specs.LogRecords.{logBytes, rawRecordOf, isHyperbolic, isGrid, isHold, logRecordOf, isPlace, placed, pairOf, withPair, inCentimetres, logEntryOf}
-use Rattle.records.specs.ChainTables.{chainBytes, oneTo, chainsIn, isTable, chainCountOf, chainAt, chainOf}
+use Rattle.records.specs.ChainTables.{oneTo, chainsIn, isTable, chainCountOf, chainOf, isScale, scaledCountOf, chainIn}
 use Rattle.records.specs.Jobs.{jobBytes, jobIn, jobOf}
 use Rattle.records.proofs.RefusalLaws.{unless-either, either-kind}
 use Rattle.records.proofs.JobLaws.{zerosKept, job-by-tests}
@@ -80,13 +80,21 @@ pub count-never : (s : List ℕ) → chainCountOf s ≡ count.Refused 0 → ⊥
 unfolding chainCountOf
 count-never s = unless-either (Not (count.Refused 0)) (isTable s) (λ e. absurd-equal cc) (λ e. absurd-equal cc)
 
-pub chain-never : (s : List ℕ) (number : ℕ) → chainOf s number ≡ named.Refused 0 → ⊥
+pub scaled-never : (s scale : List ℕ) → scaledCountOf s scale ≡ count.Refused 0 → ⊥
+unfolding scaledCountOf
+scaled-never s scale =
+    let never = Not (count.Refused 0) in
+    unless-either never (isTable s) (λ e. absurd-equal cc)
+    (unless-either never (isScale (chainsIn s) scale) (λ e. absurd-equal cc) (λ e. absurd-equal cc))
+
+pub chain-never : (s scale : List ℕ) (number : ℕ) → chainOf s scale number ≡ named.Refused 0 → ⊥
 unfolding chainOf
-chain-never s number =
+chain-never s scale number =
     let never = Not (named.Refused 0) in
     unless-either never (isTable s) (λ e. absurd-equal cc)
+    (unless-either never (isScale (chainsIn s) scale) (λ e. absurd-equal cc)
     (unless-either never (oneTo (chainsIn s) number) (λ e. absurd-equal cc)
-    (unless-either never (isSound (chainAt s (chainBytes * (number - 1)))) (λ e. absurd-equal cc) (λ e. absurd-equal cc)))
+    (unless-either never (isSound (chainIn s scale (number - 1))) (λ e. absurd-equal cc) (λ e. absurd-equal cc))))
 
 pub job-never : (s : List ℕ) → jobOf s ≡ job.Refused 0 → ⊥
 job-never s =

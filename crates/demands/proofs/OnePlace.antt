@@ -13,6 +13,7 @@ use Rattle.search.specs.Answers.{Outcome, Accepted, searchOf, searchFigures, fi
 use Rattle.search.specs.Cells.{matchingIn, visitsIn}
 use Rattle.search.specs.Counts.{howManyOf, decidingVisits, decidedBy}
 use Rattle.search.proofs.Outcomes.{tested}
+use Rattle.chart.proofs.ChainLaws.{factor-allowed}
 use Rattle.search.proofs.CountLaws.{counting, decided, deciding-few, early-refused}
 use Rattle.records.specs.Refusals.{isAmong}
 use Rattle.demands.specs.Numbers.{manyRefusal, manyVisits, NoneOr}
@@ -35,8 +36,8 @@ module _ (rule : Rule) (w : Window) (allowance : ℕ) where
   pub ten-if-undecided : Accepted rule w → (manyRefusal (howManyOf rule w allowance) ≡ 10) ↔ (allowance < decidingVisits rule w (matchingIn rule w))
   ten-if-undecided a = ten-exactly rule w allowance a
 
-  pub decided-by-the-whole-walk : decidingVisits rule w (matchingIn rule w) ≤ visitsIn rule w
-  decided-by-the-whole-walk = deciding-few rule w
+  pub decided-by-the-whole-walk : Accepted rule w → decidingVisits rule w (matchingIn rule w) ≤ visitsIn rule w
+  decided-by-the-whole-walk a = deciding-few rule w (factor-allowed _ (a .chain))
 
   -- It is refused with 3, 5, 6, 7 or 10 and no other number: 8 and 9 never occur. No answer has more visits than the allowance.
   pub refusals-of-the-question : NoneOr (3 ∷ 5 ∷ 6 ∷ 7 ∷ 10 ∷ []) (manyRefusal (howManyOf rule w allowance)) × (manyVisits (howManyOf rule w allowance) ≤ allowance)

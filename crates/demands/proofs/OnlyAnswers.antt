@@ -34,6 +34,7 @@ use Rattle.metres.proofs.is_plus_zero as is-plus-zero
 use Rattle.metres.proofs.number_at as number-at
 use Rattle.metres.proofs.put_number as put-number
 use Rattle.chart.proofs.in_range as in-range
+use Rattle.chart.proofs.is_factor as is-factor
 use Rattle.chart.proofs.sound as sound
 use Rattle.chart.proofs.readings as readings
 use Rattle.chart.proofs.as_figures as chart-as-figures
@@ -51,6 +52,8 @@ use Rattle.records.proofs.marked_entry as marked-entry
 use Rattle.records.proofs.is_place as is-place
 use Rattle.records.proofs.one_to as one-to
 use Rattle.records.proofs.chain_count as chain-count
+use Rattle.records.proofs.is_scale as is-scale
+use Rattle.records.proofs.scaled_count as scaled-count
 use Rattle.records.proofs.chain_of as chain-of
 use Rattle.records.proofs.raw_chain as raw-chain
 use Rattle.records.proofs.raw_job as raw-job
@@ -60,6 +63,7 @@ use Rattle.records.proofs.many_by as many-by
 use Rattle.records.proofs.piece_end as piece-end
 use Rattle.writing.proofs.write as write
 use Rattle.writing.proofs.write_chain as write-chain
+use Rattle.writing.proofs.write_factor as write-factor
 use Rattle.writing.proofs.write_job as write-job
 use Rattle.writing.proofs.clear_buffer as clear-buffer
 use Rattle.text.proofs.put as text-put
@@ -85,6 +89,7 @@ use Rattle.parsing.proofs.draft_fault as draft-fault
 use Rattle.parsing.proofs.chain_fault as chain-fault
 use Rattle.shown.proofs.job as shown-job
 use Rattle.shown.proofs.chain as shown-chain
+use Rattle.shown.proofs.scale as shown-scale
 use Rattle.shown.proofs.record as shown-record
 use Rattle.shown.proofs.expected as shown-expected
 use Rattle.shown.proofs.how_many as shown-how-many
@@ -117,6 +122,7 @@ use Rattle.lay.proofs.lay_count_chains as lay-count-chains
 use Rattle.lay.proofs.lay_chain as lay-chain
 use Rattle.lay.proofs.lay_read_chain as lay-read-chain
 use Rattle.lay.proofs.lay_write_chain as lay-write-chain
+use Rattle.lay.proofs.lay_write_factor as lay-write-factor
 use Rattle.lay.proofs.lay_list as lay-list
 
 -- In any logic in which the contracts are stated.
@@ -181,6 +187,9 @@ module _ {M : Type 1} (𝓤 : URA M) (H : Heap 𝓤) (A : Atoms 𝓤) (mem : Mem
   pub in-range-only : OneAnswer 𝓤 in-range.ended (in-range.clauses 𝓤 H A mem run)
   in-range-only κs a g x y = only 𝓤 same (λ answer. answer & refl)
 
+  pub is-factor-only : OneAnswer 𝓤 is-factor.ended (is-factor.clauses 𝓤 H A mem run)
+  is-factor-only κs a g x y = only 𝓤 same (λ answer. answer & refl)
+
   pub sound-only : OneAnswer 𝓤 sound.ended (sound.clauses 𝓤 H A mem run)
   sound-only κs a g x y = only 𝓤 same (λ answer. answer & refl)
 
@@ -229,6 +238,12 @@ module _ {M : Type 1} (𝓤 : URA M) (H : Heap 𝓤) (A : Atoms 𝓤) (mem : Mem
   pub chain-count-only : OneAnswer 𝓤 chain-count.ended (chain-count.clauses 𝓤 H A mem run)
   chain-count-only κs a g x y = only 𝓤 same (λ answer. answer & refl)
 
+  pub is-scale-only : OneAnswer 𝓤 is-scale.ended (is-scale.clauses 𝓤 H A mem run)
+  is-scale-only κs a g x y = only 𝓤 same (λ answer. answer & refl)
+
+  pub scaled-count-only : OneAnswer 𝓤 scaled-count.ended (scaled-count.clauses 𝓤 H A mem run)
+  scaled-count-only κs a g x y = only 𝓤 same (λ answer. answer & refl)
+
   pub chain-of-only : OneAnswer 𝓤 chain-of.ended (chain-of.clauses 𝓤 H A mem run)
   chain-of-only κs a g x y = only 𝓤 same (λ answer. answer & refl)
 
@@ -255,6 +270,9 @@ module _ {M : Type 1} (𝓤 : URA M) (H : Heap 𝓤) (A : Atoms 𝓤) (mem : Mem
 
   pub write-chain-only : OneAnswer 𝓤 write-chain.ended (write-chain.clauses 𝓤 H A mem run)
   write-chain-only κs a g x y = only 𝓤 (same beside same) (λ (answer, buffer). answer & buffer & refl)
+
+  pub write-factor-only : OneAnswer 𝓤 write-factor.ended (write-factor.clauses 𝓤 H A mem run)
+  write-factor-only κs a g x y = only 𝓤 (same beside same) (λ (answer, buffer). answer & buffer & refl)
 
   pub write-job-only : OneAnswer 𝓤 write-job.ended (write-job.clauses 𝓤 H A mem run)
   write-job-only κs a g x y = only 𝓤 (same beside same) (λ (answer, buffer). answer & buffer & refl)
@@ -331,6 +349,9 @@ module _ {M : Type 1} (𝓤 : URA M) (H : Heap 𝓤) (A : Atoms 𝓤) (mem : Mem
   pub shown-chain-only : OneAnswer 𝓤 shown-chain.ended (shown-chain.clauses 𝓤 H A mem run)
   shown-chain-only κs a g x y = only 𝓤 (same beside same) (λ (answer, out). answer & out & refl)
 
+  pub shown-scale-only : OneAnswer 𝓤 shown-scale.ended (shown-scale.clauses 𝓤 H A mem run)
+  shown-scale-only κs a g x y = only 𝓤 (same beside same) (λ (answer, out). answer & out & refl)
+
   pub shown-record-only : OneAnswer 𝓤 shown-record.ended (shown-record.clauses 𝓤 H A mem run)
   shown-record-only κs a g x y = only 𝓤 (same beside same) (λ (answer, out). answer & out & refl)
 
@@ -398,10 +419,10 @@ module _ {M : Type 1} (𝓤 : URA M) (H : Heap 𝓤) (A : Atoms 𝓤) (mem : Mem
   lay-expected-only κs a g x y = only 𝓤 (same beside same) (λ (answer, readings). answer & readings & refl & refl & refl & refl)
 
   pub lay-search-only : OneAnswer 𝓤 lay-search.ended (lay-search.clauses 𝓤 H A mem run)
-  lay-search-only κs a g x y = only 𝓤 (same beside same beside same) (λ (answer, (list, found)). answer & list & refl & refl & refl & found & refl)
+  lay-search-only κs a g x y = only 𝓤 (same beside same beside same) (λ (answer, (list, found)). answer & list & refl & refl & refl & refl & found & refl)
 
   pub lay-how-many-only : OneAnswer 𝓤 lay-how-many.ended (lay-how-many.clauses 𝓤 H A mem run)
-  lay-how-many-only κs a g x y = only 𝓤 (same beside same beside same beside same) (λ (refusal, (answer, (place, visits))). refusal & refl & refl & refl & answer & place & visits & refl)
+  lay-how-many-only κs a g x y = only 𝓤 (same beside same beside same beside same) (λ (refusal, (answer, (place, visits))). refusal & refl & refl & refl & refl & answer & place & visits & refl)
 
   pub lay-read-record-only : OneAnswer 𝓤 lay-read-record.ended (lay-read-record.clauses 𝓤 H A mem run)
   lay-read-record-only κs a g x y = only 𝓤 (same beside same beside same beside same beside same beside same beside same beside same) (λ (answer, (kind, (chain, (line, (first, (second, (first-mark, second-mark))))))). answer & refl & kind & chain & line & first & second & first-mark & second-mark & refl)
@@ -419,13 +440,16 @@ module _ {M : Type 1} (𝓤 : URA M) (H : Heap 𝓤) (A : Atoms 𝓤) (mem : Mem
   lay-count-chains-only κs a g x y = only 𝓤 (same beside same) (λ (answer, count). answer & refl & count & refl)
 
   pub lay-chain-only : OneAnswer 𝓤 lay-chain.ended (lay-chain.clauses 𝓤 H A mem run)
-  lay-chain-only κs a g x y = only 𝓤 (same beside same) (λ (answer, buffer). answer & buffer & refl & refl)
+  lay-chain-only κs a g x y = only 𝓤 (same beside same beside same) (λ (answer, (buffer, factor)). answer & buffer & refl & refl & refl & factor & refl)
 
   pub lay-read-chain-only : OneAnswer 𝓤 lay-read-chain.ended (lay-read-chain.clauses 𝓤 H A mem run)
-  lay-read-chain-only κs a g x y = only 𝓤 (same beside same) (λ (answer, stations). answer & refl & stations & refl)
+  lay-read-chain-only κs a g x y = only 𝓤 (same beside same) (λ (answer, stations). answer & refl & refl & stations & refl)
 
   pub lay-write-chain-only : OneAnswer 𝓤 lay-write-chain.ended (lay-write-chain.clauses 𝓤 H A mem run)
   lay-write-chain-only κs a g x y = only 𝓤 (same beside same) (λ (answer, buffer). answer & buffer & refl & refl)
 
+  pub lay-write-factor-only : OneAnswer 𝓤 lay-write-factor.ended (lay-write-factor.clauses 𝓤 H A mem run)
+  lay-write-factor-only κs a g x y = only 𝓤 (same beside same) (λ (answer, buffer). answer & buffer & refl)
+
   pub lay-list-only : OneAnswer 𝓤 lay-list.ended (lay-list.clauses 𝓤 H A mem run)
-  lay-list-only κs a g x y = only 𝓤 (same beside same beside same) (λ (answer, (text, part)). answer & text & refl & refl & refl & part & refl)
+  lay-list-only κs a g x y = only 𝓤 (same beside same beside same) (λ (answer, (text, part)). answer & text & refl & refl & refl & refl & part & refl)

@@ -136,11 +136,11 @@ none-rounded [] = ((λ e. tt), (λ e. refl))
 none-rounded (x ∷ xs) = first-and-rest (markOf x) (anyRounded (map markOf xs)) (EachExact xs) (none-rounded xs)
 
 -- So a fix or a grid record says that nothing was rounded exactly if each of its numbers is exact.
-own-exact : (j : Job) (table : List ℕ) (before : Carried) (s : List ℕ) → IsOwn (answerOf j table before s) →
-    (saysRounded (answerOf j table before s) ≡ false) ↔ EachExact (numbersUsed (logRecordOf s))
+own-exact : (j : Job) (table scale : List ℕ) (before : Carried) (s : List ℕ) → IsOwn (answerOf j table scale before s) →
+    (saysRounded (answerOf j table scale before s) ≡ false) ↔ EachExact (numbersUsed (logRecordOf s))
 unfolding answerOf logEntryOf marksOf
-own-exact j table before s own =
-    let told = own-says j before (isRoundedIn s) (chainOf table (byteAt s 1)) (logEntryOf s) own in
+own-exact j table scale before s own =
+    let told = own-says j before (isRoundedIn s) (chainOf table scale (byteAt s 1)) (logEntryOf s) own in
     let marks : isRoundedIn s ≡ anyRounded (map markOf (numbersUsed (logRecordOf s))) = rw (told .1) in
     let says = told .0 ∙ marks in
     let exact = none-rounded (numbersUsed (logRecordOf s)) in
@@ -159,15 +159,15 @@ shows-1 true = ((λ e z. subst T z tt), (λ e. refl))
 shows-1 false =
     ((λ e. let z : _≡_ {A = ℕ} 48 49 = ap (λ (l : List ℕ). getD l 1 0) e in absurd (omega arith)), (λ e. absurd (e refl)))
 
-pub own-field : (j : Job) (table : List ℕ) (before : Carried) (s : List ℕ) →
-    let a = answerOf j table before s in
+pub own-field : (j : Job) (table scale : List ℕ) (before : Carried) (s : List ℕ) →
+    let a = answerOf j table scale before s in
     let exact = EachExact (numbersUsed (logRecordOf s)) in
     IsOwn a →
     ((lastBytes 3 (lineOf s a) ≡ bytesIn " 0\n") ↔ exact) × ((lastBytes 3 (lineOf s a) ≡ bytesIn " 1\n") ↔ (exact → ⊥))
-own-field j table before s own =
-    let a = answerOf j table before s in
+own-field j table scale before s own =
+    let a = answerOf j table scale before s in
     let ends = own-ends s a own in
-    let exact = own-exact j table before s own in
+    let exact = own-exact j table scale before s own in
     let nought = shows-0 (saysRounded a) in
     let one = shows-1 (saysRounded a) in (
       ((λ e. exact .0 (nought .0 (sym ends ∙ e))), (λ h. ends ∙ nought .1 (exact .1 h))),

@@ -9,6 +9,7 @@ use native.Mathlib.Nat.{lt-of-not-le, pow-succ'}
 use native.Mathlib.Decide.{decLe}
 use lib.ListN.{length, length-append}
 use Rattle.chart.specs.declared.Place.{Place}
+use Rattle.chart.proofs.ChainLaws.{factor-allowed}
 use Rattle.search.specs.declared.Window.{Window}
 use Rattle.search.specs.Windows.{east, north, northEast}
 use Rattle.search.specs.Questions.{Rule, Question, matches}
@@ -56,7 +57,7 @@ module _ (q : Question) (w : Window) (a : Accepted (q .rule) w) where
   pub ten-when-short : AmpleRoom q w → q .limits .allowance < visitsIn (q .rule) w → figuresIn q w .refusal ≡ 10
   ten-when-short room short =
       let m : ℕ = q .limits .allowance + visitsIn (q .rule) w in
-      let all = ap (λ (s : Standing). s .visits) (whole (raised q m) (w .k) (w .corner) [] 0 (omega arith) (omega (arith, room))) in
+      let all = ap (λ (s : Standing). s .visits) (whole (raised q m) (w .k) (w .corner) (factor-allowed _ (a .chain)) [] 0 (omega arith) (omega (arith, room))) in
       stop-10 (ten-by-more q (w .k) (w .corner) m (omega arith) (omega (arith, short, all)))
 
   pub ten-only-then : AmpleRoom q w → figuresIn q w .refusal ≡ 10 → q .limits .allowance < visitsIn (q .rule) w

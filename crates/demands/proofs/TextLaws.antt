@@ -1,15 +1,15 @@
 -- How a job, a chain or a log record that was written is shown: as a line without a refusal, whose fields, typed in, give
 -- back what was written.
-use Prim.Native.Nat.{ℕ, zero, suc, _+_, _/_, _%_, _^_, _≤_, _<_}
+use Prim.Native.Nat.{ℕ, zero, suc, _+_, _-_, _*_, _/_, _%_, _^_, _≤_, _<_}
 use mathlib.Core.Path.{_≡_, refl, sym, ap, ap₂, _∙_}
-use mathlib.Core.Bool.{true, false, false≢true}
+use mathlib.Core.Bool.{Bool, true, false, false≢true, cond}
 use mathlib.Core.List.{List, [], _∷_, _++_, map, append-nil, append-assoc}
 use native.Mathlib.Omega.{arith}
 use lib.Dec.{leb, eqb}
 use lib.IntN.{ℤ, pos, negsuc, natAbs}
 use lib.ListN.{length, getD, List·getD-append}
 use borrow.Author.Tests.{le-leb, ne-eqb}
-use Rattle.fields.specs.Fields.{bytesOf}
+use Rattle.fields.specs.Fields.{bytesOf, fieldAt}
 use Rattle.metres.specs.declared.Whole.{Whole}
 use Rattle.metres.specs.Metres.{signed, mostCentimetres}
 use Rattle.metres.proofs.Back.{way-back}
@@ -23,16 +23,17 @@ use Rattle.records.specs.declared.JobAnswer.the-variants as answer
 use Rattle.records.specs.declared.NamedChain.the-variants as named
 use Rattle.records.specs.declared.LogEntry.{LogEntry}
 use Rattle.records.specs.LogRecords.{logEntryOf}
-use Rattle.records.specs.ChainTables.{oneTo, chainsIn, isTable, chainAt, rawChainOf, chainOf}
+use Rattle.records.specs.ChainTables.{oneTo, chainsIn, isTable, chainAt, rawChainOf, chainOf, chainIn, isScale}
 use Rattle.records.specs.Jobs.{jobBytes, jobIn, rawJobOf, jobOf}
-use Rattle.records.specs.Refusals.{entryRefusal, chainRefusal, jobRefusal}
+use Rattle.records.specs.Refusals.{entryRefusal, jobRefusal}
 use Rattle.records.proofs.RefusalLaws.{either-kind}
 use Rattle.writing.specs.declared.Draft.{Draft}
 use Rattle.writing.specs.Buffers.{leftIn}
 use Rattle.writing.specs.Writing.{refusalOf, usedOf, inMetres, bufferOf, rawFor, entryFor}
 use Rattle.writing.specs.ChainWriting.{bytesOfChain, chainRefusalOf, chainBufferOf, allSound, tableOf}
 use Rattle.writing.specs.JobWriting.{jobRefusalOf, jobBufferOf}
-use Rattle.writing.proofs.Theorems.{reads-back, chains-read-back, job-reads-back}
+use Rattle.writing.proofs.Theorems.{reads-back, chains-read-back, job-reads-back, factors-read-back}
+use Rattle.writing.specs.FactorWriting.{scaleOf}
 use Rattle.text.specs.Texts.{digitsOf, figuresText, spaced, wholeText, numeral, bytesIn}
 use Rattle.text.proofs.Digits.{all-digits, digits-some}
 use Rattle.text.proofs.Digits.{reads-back as digits-back}
@@ -41,19 +42,19 @@ use Rattle.parsing.specs.declared.ParsedChain.the-variants as parsed-chain
 use Rattle.parsing.specs.declared.ParsedDraft.the-variants as parsed-draft
 use Rattle.parsing.specs.declared.Form.the-variants as form
 use Rattle.parsing.specs.declared.Taken.the-variants as taken
-use Rattle.parsing.specs.Words.{run, wordAt, isPassed}
+use Rattle.parsing.specs.Words.{run, wordAt, isPassed, noWord}
 use Rattle.parsing.specs.Numbers.{isDigit, isLength, centimetresIn, isBelow, sizeIn, isReading, valueAt, readingAt}
 use Rattle.parsing.specs.Forms.{wordsOf, takenFor, isTaken, isForm}
 use Rattle.parsing.specs.Parsed.{parsedJob, parsedChain, parsedDraft}
 use Rattle.parsing.proofs.WordLaws.{IsWord, spacedWords, spaced-both, spaced-one, words-back}
 use Rattle.parsing.proofs.Lengths.{metres-word, metres-length, metres-say}
-use Rattle.parsing.proofs.TypedLaws.{digits-word, digits-number-taken, digits-line-taken, digits-allowance-taken, digits-length-taken, whole-word, whole-reading, whole-back, figures-spaced, words-form, figures-form, figures-back, lengths-back, figures-some, not-passed, figures-not-passed}
+use Rattle.parsing.proofs.TypedLaws.{digits-word, digits-number-taken, digits-line-taken, digits-allowance-taken, digits-length-taken, whole-word, whole-reading, whole-back, figures-spaced, words-form, figures-form, figures-back, lengths-back, figures-some, not-passed, figures-not-passed, digits-factor-taken, digits-words}
 use Rattle.records.proofs.RefusalLaws.{passed}
 use Rattle.records.proofs.JobLaws.{zerosKept, job-by-tests}
 use Rattle.parsing.proofs.HeldRecords.{used-fits}
 use Rattle.parsing.proofs.Fields.{jobTyped, chainTyped, draftTyped, job-taken, chain-taken, draft-taken}
 use Rattle.shown.specs.Fields.{wholeOr, centimetresText, signText, decimalText, metresText, refusedText}
-use Rattle.shown.specs.Lines.{lineWith, jobFigures, jobFields, jobText, jobLine, stationFigures, chainFields, chainText, refusalIn, chainLine, rawText, rawFields, recordText, recordLine}
+use Rattle.shown.specs.Lines.{lineWith, jobFigures, jobFields, jobText, jobLine, stationFigures, chainFields, chainText, refusalIn, chainLine, rawText, rawFields, recordText, recordLine, factorOr, factorText, hasFactor, soundness}
 
 -- If nothing is refused, only the newline follows the fields.
 plain-line : (word fields : List ℕ) (number : ℕ) (s : List ℕ) → number ≡ 0 →
@@ -116,45 +117,99 @@ module _ (c : Chain) (sound : isSound c ≡ true) where
   unfolding tableOf
   alone = append-nil (chainBufferOf 24 c)
 
-  chain-there : chainOf (chainBufferOf 24 c) 1 ≡ named.Chain c
+  chain-there : chainOf (chainBufferOf 24 c) (scaleOf (c ∷ [])) 1 ≡ named.Chain c
   unfolding allSound
   chain-there =
-      ap (λ (s : List ℕ). chainOf s 1) (sym alone)
+      ap (λ (s : List ℕ). chainOf s (scaleOf (c ∷ [])) 1) (sym alone)
       ∙ chains-read-back (c ∷ []) 1 c (and-both sound refl) (omega arith) (omega arith) (omega arith)
 
-  raw-chain-back : rawChainOf (chainBufferOf 24 c) ≡ named.Chain c
+  factor-there : fieldAt 4 (scaleOf (c ∷ [])) 0 ≡ c .factor
+  unfolding allSound
+  factor-there = factors-read-back (c ∷ []) 1 c (and-both sound refl) (omega arith) (omega arith) .1
+
+  raw-chain-back : rawChainOf (chainBufferOf 24 c) (c .factor) ≡ named.Chain c
   unfolding chainOf rawChainOf
   raw-chain-back =
       let s = chainBufferOf 24 c in
+      let scale = scaleOf (c ∷ []) in
       let table = passed (isTable s) (λ f. false≢true (cc)) chain-there in
-      let one = passed (oneTo (chainsIn s) 1) (λ f. false≢true (cc)) (table .1) in
-      let good = passed (isSound (chainAt s 0)) (λ f. false≢true (cc)) (one .1) in
-      rw chain-length (good .1)
+      let side = passed (isScale (chainsIn s) scale) (λ f. false≢true (cc)) (table .1) in
+      let one = passed (oneTo (chainsIn s) 1) (λ f. false≢true (cc)) (side .1) in
+      let good = passed (isSound (chainIn s scale 0)) (λ f. false≢true (cc)) (one .1) in
+      rw chain-length (ap (λ (f : ℕ). named.Chain (chainAt s 0 f)) (sym factor-there) ∙ good .1)
 
-  pub chain-line-shown : (number : ℕ) →
-      chainLine number (chainBufferOf 24 c)
-      ≡ bytesIn "CHAIN" ++ (spaced number ++ (figuresText (stationFigures c) ++ bytesIn "\n"))
-  unfolding chainLine chainFields chainRefusal figuresText
-  chain-line-shown number =
-      let s = chainBufferOf 24 c in
-      let none : refusalIn s ≡ 0 = rw (chain-length, chain-there) in
-      plain-line (bytesIn "CHAIN") (chainText number s) (refusalIn s) s none
-      ∙ ap (λ (fields : List ℕ). bytesIn "CHAIN" ++ (fields ++ bytesIn "\n")) (ap (chainFields number) raw-chain-back)
-      ∙ ap (λ (rest : List ℕ). bytesIn "CHAIN" ++ rest) (append-assoc (spaced number) (figuresText (stationFigures c)) (bytesIn "\n"))
+  -- The fields of a chain with its factor.
+  abbrev fields : List ℕ
+  fields = stationFigures c ++ (c .factor ∷ [])
+
+  module _ (scale : List ℕ) (number : ℕ) (there : hasFactor scale number ≡ true) (same : fieldAt 4 scale (4 * (number - 1)) ≡ c .factor) where
+    factor-is : factorOr scale number ≡ c .factor
+    factor-is = rw there same
+
+    factor-last : figuresText (number ∷ stationFigures c) ++ factorText scale number ≡ spaced number ++ figuresText fields
+    unfolding figuresText
+    factor-last =
+        let last : factorText scale number ≡ figuresText (c .factor ∷ []) = rw (there, same) in
+        ap (λ (t : List ℕ). figuresText (number ∷ stationFigures c) ++ t) last ∙ simp append-assoc
+
+    pub chain-line-shown : chainLine scale number (chainBufferOf 24 c) ≡ bytesIn "CHAIN" ++ (spaced number ++ (figuresText fields ++ bytesIn "\n"))
+    unfolding chainLine chainFields soundness
+    chain-line-shown =
+        let s = chainBufferOf 24 c in
+        let read : rawChainOf s (factorOr scale number) ≡ named.Chain c = ap (rawChainOf s) factor-is ∙ raw-chain-back in
+        let none : refusalIn scale number s ≡ 0 = ap soundness read ∙ rw sound in
+        plain-line (bytesIn "CHAIN") (chainText scale number s) (refusalIn scale number s) s none
+        ∙ ap (λ (t : List ℕ). bytesIn "CHAIN" ++ (t ++ bytesIn "\n")) (ap (chainFields scale number) read ∙ factor-last)
+        ∙ ap (λ (rest : List ℕ). bytesIn "CHAIN" ++ rest) (append-assoc (spaced number) (figuresText fields) (bytesIn "\n"))
 
   accepted : chainRefusalOf 24 c ≡ 0
   unfolding chainRefusalOf
   accepted = rw sound
 
-  pub chain-typed-again : parsedChain (figuresText (stationFigures c)) ≡ parsed-chain.Chain c
+  pub chain-typed-again : parsedChain (figuresText fields) ≡ parsed-chain.Chain c
   unfolding takenFor wordsOf
   chain-typed-again =
+      let at = lengths-back fields in
+      let same : chainTyped (figuresText fields) ≡ c =
+      rw (at 0, at 1, at 2, at 3, at 4, at 5, figures-some fields 6 (omega arith), figures-back fields 6) in
+      chain-taken 24 (figuresText fields) (figures-not-passed _ _) (figures-form form.Chain fields refl each) (ap (chainRefusalOf 24) same ∙ accepted)
+      ∙ ap parsed-chain.Chain same
+    where
+      each : (i : ℕ) → i < 7 → isTaken (takenFor form.Chain i) (digitsOf (getD fields i 0)) ≡ true
+      each i l = by-place (eqb i 6) refl
+        where
+          by-place : (t : Bool) → eqb i 6 ≡ t → isTaken (cond t taken.Factor taken.Length) (digitsOf (getD fields i 0)) ≡ true
+          by-place true e = digits-factor-taken _
+          by-place false e = digits-length-taken _
+
+  -- Without the factor: the seventh word is missing.
+  pub chain-typed-short : c .factor ≡ 1_000_000 → parsedChain (figuresText (stationFigures c)) ≡ parsed-chain.Chain c
+  unfolding takenFor wordsOf isTaken
+  chain-typed-short one =
       let ns = stationFigures c in
       let at = lengths-back ns in
-      let same : chainTyped (figuresText ns) ≡ c = rw (at 0, at 1, at 2, at 3, at 4, at 5) in
-      chain-taken 24 (figuresText ns) (figures-not-passed _ _) (figures-form form.Chain ns refl (λ i l. digits-length-taken _))
+      let words = words-back (map digitsOf ns) (digits-words ns) in
+      let missing : noWord 6 (figuresText ns) ≡ true = ap (λ (s : List ℕ). eqb (length (wordAt 6 s)) 0) (figures-spaced ns) ∙ ap (λ (w : List ℕ). eqb (length w) 0) (words 6) in
+      let same : chainTyped (figuresText ns) ≡ c = rw (at 0, at 1, at 2, at 3, at 4, at 5, missing, sym one) in
+      chain-taken 24 (figuresText ns) (figures-not-passed _ _)
+      (ap (isForm form.Chain) (figures-spaced ns) ∙ words-form form.Chain (map digitsOf ns) (digits-words ns) (omega arith) each)
       (ap (chainRefusalOf 24) same ∙ accepted)
       ∙ ap parsed-chain.Chain same
+    where
+      each : (i : ℕ) → i < 7 → isTaken (takenFor form.Chain i) (getD (map digitsOf (stationFigures c)) i []) ≡ true
+      each zero l = digits-length-taken _
+      each (suc zero) l = digits-length-taken _
+      each (suc (suc zero)) l = digits-length-taken _
+      each (suc (suc (suc zero))) l = digits-length-taken _
+      each (suc (suc (suc (suc zero)))) l = digits-length-taken _
+      each (suc (suc (suc (suc (suc zero))))) l = digits-length-taken _
+      each (suc (suc (suc (suc (suc (suc zero)))))) l = refl
+      each (suc (suc (suc (suc (suc (suc (suc i))))))) l = absurd (omega (arith, l))
+
+-- A chain that the writer accepts is sound.
+pub chain-accepted-sound : (c : Chain) → chainRefusalOf 24 c ≡ 0 → isSound c ≡ true
+unfolding chainRefusalOf
+chain-accepted-sound c e = passed (isSound c) (λ f. omega arith) e .0
 
 -- A reading as it may be typed: a word that says it.
 pub record Says (w : List ℕ) (z : ℤ) : Type 0 where
@@ -236,7 +291,7 @@ module _ (d : Draft) (x y : List ℕ) (says-x : Says x (d .x)) (says-y : Says y 
   is-draft small =
       words-form form.Draft (draftWords d x y)
       (digits-word (d .kind), (digits-word (d .chain), (digits-word (d .line), (says-x .word, (says-y .word, tt)))))
-      refl each
+      (omega arith) each
     where
       each : (i : ℕ) → i < 5 → isTaken (takenFor form.Draft i) (getD (draftWords d x y) i []) ≡ true
       each zero l = digits-number-taken (d .kind)

@@ -158,7 +158,11 @@ fn put_remedy(out: &mut [u8], at: usize, name: &[u8], fresh: &[u8]) -> usize
     ensures { λ r. ⌜ r ≤ length (now (out .exit)) ⌝ }
 {
     let a = put(out, at, name);
-    let b = put(out, a, b", if it is there, is whole. If none is running, remove ");
+    let b = put(
+        out,
+        a,
+        b", if it is there, is whole. If none is running, remove ",
+    );
     let c = put(out, b, fresh);
     put(out, c, b" and start again")
 }

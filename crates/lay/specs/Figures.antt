@@ -169,8 +169,8 @@ searchedIn (named.Chain c) readings j entries =
     unless (eqb (length readings) chainReadings) (unsearched 1 entries) (searchedBy c readings j entries)
 searchedIn (named.Refused number) readings j entries = unsearched number entries
 
--- The same from the bytes of a chain, its factor, the readings and the bytes of a job: 1 for another length of any of them, 2 if a byte of the job
--- that must be zero is not, then the search.
+-- The same from the bytes of a chain, its factor, the readings and the bytes of a job: 1 for another length of any of them, 2 if
+-- a byte of the job that must be zero is not, then the search.
 abbrev pub searchTold : List ℕ → ℕ → List ℤ → List ℕ → ℕ → SearchTold
 searchTold chain factor readings job entries = searchedIn (rawChainOf chain factor) readings (formedJobOf job) entries
 

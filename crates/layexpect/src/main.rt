@@ -1,5 +1,6 @@
-// Prints the readings expected at a place for a chain of chain.dat, with its factor from scale.dat, in the folder that it is run in. Its
-// three arguments are the chain's number and the place. What is refused or fails is reported on standard error; then no readings are printed.
+// Prints the readings expected at a place for a chain of chain.dat, with its factor from scale.dat, in the folder that it is run
+// in. Its three arguments are the chain's number and the place. What is refused or fails is reported on standard error; then no
+// readings are printed.
 use chart::Place;
 use files::Filled;
 use files::Opened;

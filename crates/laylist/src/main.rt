@@ -184,7 +184,14 @@ fn list_stretches(out: &mut [u8], job: &[u8], table: &[u8], scale: &[u8], log: i
 }
 
 // Reads a stretch of the log and prints its lines before the next stretch is read, because reading may fail.
-fn list_stretch(out: &mut [u8], job: &[u8], table: &[u8], scale: &[u8], log: i32, before: Carried) -> Next
+fn list_stretch(
+    out: &mut [u8],
+    job: &[u8],
+    table: &[u8],
+    scale: &[u8],
+    log: i32,
+    before: Carried,
+) -> Next
     requires { ⌜ (length (now out) ≡ partRoom) × AllGood (now job) (now table) (now scale) ⌝ }
 {
     let mut stretch = io::large_buffer();
@@ -199,7 +206,14 @@ fn list_stretch(out: &mut [u8], job: &[u8], table: &[u8], scale: &[u8], log: i32
 }
 
 // Lists a stretch of the log, part by part, each with the place carried from the one before.
-fn list_parts(out: &mut [u8], job: &[u8], table: &[u8], scale: &[u8], log: &[u8], before: Carried) -> Next
+fn list_parts(
+    out: &mut [u8],
+    job: &[u8],
+    table: &[u8],
+    scale: &[u8],
+    log: &[u8],
+    before: Carried,
+) -> Next
     requires { ⌜ (length (now out) ≡ partRoom) × AllGood (now job) (now table) (now scale) ⌝ }
     ensures { λ r. ⌜ GoesOn (listingFrom (now (job .entry)) (now (table .entry)) (now (scale .entry)) (now (log .entry)) before) r ⌝ }
 {
@@ -232,7 +246,14 @@ fn bytes_at_once(job: &[u8]) -> usize
 }
 
 // Lists a part of the log and prints its text.
-fn print_part(out: &mut [u8], job: &[u8], table: &[u8], scale: &[u8], part: &[u8], before: Carried) -> Next
+fn print_part(
+    out: &mut [u8],
+    job: &[u8],
+    table: &[u8],
+    scale: &[u8],
+    part: &[u8],
+    before: Carried,
+) -> Next
     requires { ⌜ (length (now out) ≡ partRoom) × AtOnce (now job) (now part) ⌝ }
     ensures { λ r. ⌜ GoesOn (listingFrom (now (job .entry)) (now (table .entry)) (now (scale .entry)) (now (part .entry)) before) r ⌝ }
 {
@@ -246,7 +267,14 @@ fn print_part(out: &mut [u8], job: &[u8], table: &[u8], scale: &[u8], part: &[u8
 }
 
 // Puts the listing of a part of the log at the start of a buffer.
-fn list_part(out: &mut [u8], job: &[u8], table: &[u8], scale: &[u8], part: &[u8], before: Carried) -> Listing
+fn list_part(
+    out: &mut [u8],
+    job: &[u8],
+    table: &[u8],
+    scale: &[u8],
+    part: &[u8],
+    before: Carried,
+) -> Listing
     requires { ⌜ (length (now out) ≡ partRoom) × AtOnce (now job) (now part) ⌝ }
     ensures { λ r. ⌜ BeginsWith (now (out .exit)) (listingFrom (now (job .entry)) (now (table .entry)) (now (scale .entry)) (now (part .entry)) before) r ⌝ }
 {
@@ -262,7 +290,14 @@ fn list_part(out: &mut [u8], job: &[u8], table: &[u8], scale: &[u8], part: &[u8]
 
 // Prints a text and returns whether that succeeded. Everything that is printed except the help goes through here, and must be the
 // listing of a part. The other parameters are there only to state this.
-fn printed(text: &[u8], job: &[u8], table: &[u8], scale: &[u8], part: &[u8], before: Carried) -> bool
+fn printed(
+    text: &[u8],
+    job: &[u8],
+    table: &[u8],
+    scale: &[u8],
+    part: &[u8],
+    before: Carried,
+) -> bool
     requires { ⌜ now text ≡ listingFrom (now job) (now table) (now scale) (now part) before .text ⌝ }
 {
     files::print(b"laylist", text)

@@ -109,15 +109,7 @@ fn announce(job: &[u8]) {
     }
 }
 
-fn print_answer(
-    line: &[u8],
-    table: &[u8],
-    scale: &[u8],
-    job: &[u8],
-    chain: u32,
-    a: i64,
-    b: i64,
-) {
+fn print_answer(line: &[u8], table: &[u8], scale: &[u8], job: &[u8], chain: u32, a: i64, b: i64) {
     let mut out = [0u8; shown::LINE_ROOM];
     match shown::how_many(&mut out, table, scale, job, chain, a, b) {
         Line::Text(n) => print(&out[0..n]),

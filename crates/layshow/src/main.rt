@@ -1,5 +1,6 @@
-// Prints what job.dat, chain.dat, scale.dat and lay.dat hold, one line for each record, in the folder that it is run in. A missing file counts
-// as empty, and a note says so. A refused argument or a failure is reported on standard error, and nothing is printed after it.
+// Prints what job.dat, chain.dat, scale.dat and lay.dat hold, one line for each record, in the folder that it is run in. A
+// missing file counts as empty, and a note says so. A refused argument or a failure is reported on standard error, and nothing is
+// printed after it.
 ghost use mathlib.Core.Path.{_≡_};
 ghost use Prim.Native.Nat.{_+_, _^_, _≤_, _<_};
 ghost use lib.ListN.{length};

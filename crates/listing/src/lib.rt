@@ -67,7 +67,14 @@ pub const LONGEST_LINE: usize = 5_760;
 
 // Puts the listing of a log, or of a further part of a log, at the start of a buffer; `before` is the place carried to it. The
 // buffer must have room for the longest line, 5,760 bytes, for each whole record of the log and for one more; else the answer is 9.
-pub fn list(out: &mut [u8], job: &[u8], table: &[u8], scale: &[u8], log: &[u8], before: Carried) -> Listed
+pub fn list(
+    out: &mut [u8],
+    job: &[u8],
+    table: &[u8],
+    scale: &[u8],
+    log: &[u8],
+    before: Carried,
+) -> Listed
     ensures answer { λ r. ⌜ r ≡ listLeft (now (out .entry)) (now (job .entry)) (now (table .entry)) (now (scale .entry)) (now (log .entry)) before .answer ⌝ }
     ensures out { λ _. ⌜ now (out .exit) ≡ listLeft (now (out .entry)) (now (job .entry)) (now (table .entry)) (now (scale .entry)) (now (log .entry)) before .buffer ⌝ }
 {
@@ -149,7 +156,16 @@ fn each_line(
     let mut done = 0;
     while done < log.len() {
         let next = records::piece_end(done, LOG_BYTES, log.len());
-        let r = one(out, length, list, j, table, scale, &log[done..next], carried);
+        let r = one(
+            out,
+            length,
+            list,
+            j,
+            table,
+            scale,
+            &log[done..next],
+            carried,
+        );
         length = r.end;
         carried = r.carried;
         done = next;

@@ -1,7 +1,7 @@
 -- A number written as its digits, and a whole number written with its sign, is a word that is read as the same number, and as
 -- the same number of centimetres; so are the numbers of a line. Such a line is not passed over.
 use Prim.Native.Nat.{ℕ, zero, suc, _^_, _≤_, _<_}
-use mathlib.Core.Path.{_≡_, refl, sym, ap, _∙_}
+use mathlib.Core.Path.{_≡_, refl, ap, _∙_}
 use mathlib.Core.Bool.{true, false, _||_}
 use mathlib.Core.List.{List, [], _∷_, _++_, map}
 use native.Mathlib.Omega.{arith}

@@ -1,8 +1,8 @@
 -- Theorems about the records: the line number does not affect what a record says, each answer has its own refusals, and every
 -- answer follows from the bytes alone.
 -- The functions of `records` are proved to answer by its definitions; these theorems say what the definitions guarantee.
-use Prim.Native.Nat.{ℕ, _-_, _*_}
-use mathlib.Core.Path.{_≡_, refl, sym, ap, _∙_, subst⁻¹}
+use Prim.Native.Nat.{ℕ, _-_}
+use mathlib.Core.Path.{_≡_, refl, subst⁻¹}
 use mathlib.Core.Bool.{true}
 use mathlib.Core.List.{List, [], _∷_}
 use native.Mathlib.Omega.{arith}
@@ -13,13 +13,8 @@ use Rattle.metres.specs.Metres.{centimetresOf}
 use Rattle.chart.specs.Chains.{isSound}
 use Rattle.search.specs.Windows.{isWindow}
 use Rattle.search.specs.Questions.{mostTolerance}
-use Rattle.records.specs.declared.RawAnswer.{RawAnswer}
 use Rattle.records.specs.declared.LogRecord.{LogRecord}
-use Rattle.records.specs.declared.LogEntry.{LogEntry}
 use Rattle.records.specs.declared.LogEntry.the-variants as entry
-use Rattle.records.specs.declared.ChainCount.{ChainCount}
-use Rattle.records.specs.declared.NamedChain.{NamedChain}
-use Rattle.records.specs.declared.JobAnswer.{JobAnswer}
 use Rattle.records.specs.Bytes.{numberIn}
 use Rattle.records.specs.LogRecords.{logBytes, rawRecordOf, isHyperbolic, isGrid, isHold, logRecordOf, isPlace, placed, inCentimetres, logEntryOf}
 use Rattle.records.specs.ChainTables.{oneTo, chainsIn, isTable, chainCountOf, isScale, scaledCountOf, chainIn, chainOf}

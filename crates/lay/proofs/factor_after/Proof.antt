@@ -1,5 +1,5 @@
 -- `lay::factor_after` meets its contract: the factor, unless the chain was refused.
-use mathlib.Core.Path.{sym, ap, _∙_}
+use mathlib.Core.Path.{sym, ap}
 use borrow.Author.Needs.{needs}
 use borrow.Author.Tests.{eq-eqb, ne-eqb}
 use Rattle.records.specs.declared.NamedChain.{NamedChain}
