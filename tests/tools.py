@@ -384,10 +384,7 @@ def layshow(run):
     no_line(run.arguments)
     job, table, scale, log = (run.files.get(name, b"") for name in FILES["layshow"])
     printed = text_of([job_line(job), *chain_lines(table, scale), *map(log_line, rule.pieces(log, 32))])
-    # of the side file of a table that is refused nothing is said
-    unread = ["scale.dat"] if rule.tried(rule.stations_in, table)[0] else []
-    looked_for = [name for name in FILES["layshow"] if name not in unread]
-    return Outcome(run.files, printed, before=missing("layshow", run, looked_for))
+    return Outcome(run.files, printed, before=missing("layshow", run, FILES["layshow"]))
 
 
 def shown(words, refusal, s):
