@@ -339,9 +339,9 @@ pub fn finish(tool: &[u8], name: &[u8], fresh: &[u8], file: i32) -> bool
         failed(tool, name);
         return give_up(fresh, file);
     }
-    if !replacing::is_ours(fresh, file) {
+    if !is_kept(tool, name, fresh, file) {
         libc::close(file);
-        return replacing::lost(tool, name, fresh);
+        return false;
     }
     if libc::close(file) != 0 || os::rename(fresh, name) != 0 {
         failed(tool, name);
@@ -353,6 +353,13 @@ pub fn finish(tool: &[u8], name: &[u8], fresh: &[u8], file: i32) -> bool
             tool,
             b"the file has its new bytes, but its folder may not be stored yet",
         );
+    }
+    true
+}
+
+fn is_kept(tool: &[u8], name: &[u8], fresh: &[u8], file: i32) -> bool {
+    if !replacing::is_ours(fresh, file) {
+        return replacing::lost(tool, name, fresh);
     }
     true
 }
@@ -385,9 +392,10 @@ pub fn replace(tool: &[u8], name: &[u8], fresh: &[u8], bytes: &[u8], tries: u32)
     finish(tool, name, fresh, file)
 }
 
-// Replaces two files that belong together by some bytes each. Both fresh files are stored before anything is changed, and the second
-// old file is removed before the first new one takes its name: so there is never an old file beside a new one, but the second one is
-// missing for a moment, and stays so if the tool is killed then. With no bytes for the first nothing is done, and the answer is false.
+// Replaces two files that belong together by some bytes each. Both fresh files are stored, and looked at once more, before anything
+// is changed; and the second old file is removed before the first new one takes its name. So there is never an old file beside a new
+// one, but the second one is missing for a moment, and stays so if the tool is killed then. With no bytes for the first nothing is
+// done, and the answer is false.
 pub fn replace_pair(
     tool: &[u8],
     name: &[u8],
@@ -411,6 +419,8 @@ pub fn replace_pair(
     };
     if !is_stored(tool, name, file, first)
         || !is_stored(tool, side, other, second)
+        || !is_kept(tool, name, fresh, file)
+        || !is_kept(tool, side, side_fresh, other)
         || !is_removed(tool, side)
     {
         give_up(side_fresh, other);

@@ -21,14 +21,11 @@ give-up-requires c κs = search needs
 returns-2 : tie.Need-returns-2
 returns-2 c = search needs
 
-is-ours-requires : tie.Need-is-ours-requires
-is-ours-requires c κs = search needs
+is-kept-requires : tie.Need-is-kept-requires
+is-kept-requires c κs = search needs
 
 close-requires : tie.Need-close-requires
 close-requires c κs = search needs
-
-lost-requires : tie.Need-lost-requires
-lost-requires c κs = search needs
 
 returns-3 : tie.Need-returns-3
 returns-3 c = search needs
@@ -78,9 +75,8 @@ finish-spec =
     failed-requires
     give-up-requires
     returns-2
-    is-ours-requires
+    is-kept-requires
     close-requires
-    lost-requires
     returns-3
     close-requires-2
     rename-requires

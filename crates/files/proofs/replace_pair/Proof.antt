@@ -40,6 +40,12 @@ is-stored-requires c κs = search needs
 is-stored-requires-2 : tie.Need-is-stored-requires-2
 is-stored-requires-2 c κs = search needs
 
+is-kept-requires : tie.Need-is-kept-requires
+is-kept-requires c κs = search needs
+
+is-kept-requires-2 : tie.Need-is-kept-requires-2
+is-kept-requires-2 c κs = search needs
+
 is-removed-requires : tie.Need-is-removed-requires
 is-removed-requires c κs = search needs
 
@@ -56,7 +62,7 @@ finish-pair-requires : tie.Need-finish-pair-requires
 finish-pair-requires c κs = search needs
 
 returns-5 : tie.Need-returns-5
-returns-5 c = λ e. let none : ⊥ = omega (arith, c .before .before .before .before .before .before .before .before .before .before .before .before .before .before .before .if1 .left) in absurd none
+returns-5 c = λ e. let none : ⊥ = omega (arith, c .before .before .before .before .before .before .before .before .before .before .before .before .before .before .before .before .before .before .before .if1 .left) in absurd none
 
 pub replace-pair-spec : {M : Type 1} → statement M
 replace-pair-spec =
@@ -74,6 +80,8 @@ replace-pair-spec =
     returns-3
     is-stored-requires
     is-stored-requires-2
+    is-kept-requires
+    is-kept-requires-2
     is-removed-requires
     give-up-requires-2
     give-up-requires-3
