@@ -476,7 +476,8 @@ pass_if "laylist with all: $(cat "$said")" prints "$(<"$example/listing")"
 fresh
 by=bin run layshow
 pass_if "layshow without files: $(cat "$said")" says 'layshow: note: job.dat is missing, and counts as empty' \
-    'layshow: note: chain.dat is missing, and counts as empty' 'layshow: note: lay.dat is missing, and counts as empty'
+    'layshow: note: chain.dat is missing, and counts as empty' 'layshow: note: scale.dat is missing, and counts as empty' \
+    'layshow: note: lay.dat is missing, and counts as empty'
 pass_if 'it ends with 0' [ "$status" -eq 0 ]
 by=bin give layexpect 1 30000 40000
 pass_if "layexpect without a table: $(cat "$said")" grep -qx 'layexpect: note: chain.dat is missing, and counts as empty' "$said"
