@@ -1,5 +1,4 @@
--- Theorems about the records: the line number does not affect what a record says, each answer has its own refusals, and every
--- answer follows from the bytes alone.
+-- Theorems about the records: the line number does not affect what a record says, and each answer has its own refusals.
 -- The functions of `records` are proved to answer by its definitions; these theorems say what the definitions guarantee.
 use Prim.Native.Nat.{ℕ, _-_}
 use mathlib.Core.Path.{_≡_, refl, subst⁻¹}
