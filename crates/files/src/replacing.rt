@@ -172,7 +172,7 @@ fn seems_ours(fresh: &[u8], file: i32) -> bool {
     if system::is_link(fresh) {
         return false;
     }
-    system::is_same(system::of_name(fresh), system::of_file(file))
+    system::is_same(system::of_file(file), system::of_name(fresh)) // the name last: what follows is done to it
 }
 
 // Prints that it is not.
