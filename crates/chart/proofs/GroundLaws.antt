@@ -1,5 +1,5 @@
--- Lengths on the ground: the factor 1 changes none; which number a length is; and a length that grows by c on the grid grows by at most
--- m on the ground, if c times a million is at most m times the factor.
+-- Lengths on the ground: the factor 1,000,000 changes none; which number a length is; and a length that grows by c on the
+-- grid grows by at most m on the ground, if c times a million is at most m times the factor.
 use Prim.Native.Nat.{ℕ, zero, _+_, _*_, _/_, _≤_, _<_, _^_}
 use mathlib.Core.Path.{_≡_, sym}
 use mathlib.Core.Bool.{true}
@@ -26,7 +26,7 @@ says-factor f least most = and-both (le-leb _ _ least) (le-leb _ _ most)
 pub factor-some : (f : ℕ) → isFactor f ≡ true → zero < f
 factor-some f e = omega (arith, factor-says f e .0)
 
--- With the factor 1 a length is the same on the ground.
+-- With the factor 1,000,000 a length is the same on the ground.
 pub ground-is-grid : (d : ℕ) → onGround unitFactor d ≡ d
 unfolding onGround
 ground-is-grid d = mul-div-cancel d (omega arith)

@@ -16,7 +16,7 @@ pub range-is-on-ground : (c : Chain) (p station : Place) → rangeOf c p station
 unfolding rangeOf
 range-is-on-ground c p station = refl
 
--- With the factor 1 it is the distance.
+-- With the factor 1,000,000 it is the distance.
 pub range-is-distance : (c : Chain) (p station : Place) → c .factor ≡ unitFactor → rangeOf c p station ≡ distanceOf p station
 range-is-distance c p station one =
     range-is-on-ground c p station ∙ ap (λ f. onGround f (distanceOf p station)) one ∙ ground-is-grid (distanceOf p station)
@@ -34,7 +34,7 @@ reading-is c slave p = refl
 pub readings-are : (c : Chain) (p : Place) → readingsOf c p ≡ map (λ slave. subℕ (rangeOf c p slave) (rangeOf c p (c .master))) (slavesOf c)
 readings-are c p = each-same _ _ (λ slave. reading-is c slave p) (slavesOf c)
 
--- With the factor 1 they are the differences of its distances.
+-- With the factor 1,000,000 they are the differences of its distances.
 pub readings-unscaled : (c : Chain) (p : Place) → c .factor ≡ unitFactor →
     readingsOf c p ≡ map (λ slave. subℕ (distanceOf p slave) (distanceOf p (c .master))) (slavesOf c)
 readings-unscaled c p one =

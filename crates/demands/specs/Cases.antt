@@ -42,8 +42,8 @@ pub record Case : Type 0 where
 abbrev pub minus : ℕ → ℤ
 minus n = negℤ (pos n)
 
--- What all cases use unless they say otherwise: chain 1, with the factor 1, under which 01's figures stay (02, A3); readings of
--- -100.0 m and -200.0 m; the window's corner; and 100 as ample room and ample allowance.
+-- What all cases use unless they say otherwise: chain 1, with the factor 1,000,000, under which 01's figures stay (02, A3);
+-- readings of -100.0 m and -200.0 m; the window's corner; and 100 as ample room and ample allowance.
 abbrev pub chain1 : Chain
 chain1 = record { master = placeOf 0 0; a = placeOf 30_000 0; b = placeOf 0 40_000; factor = 1_000_000 }
 

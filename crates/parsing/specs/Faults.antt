@@ -36,7 +36,7 @@ draftFault number d =
     (cond (eqb number 3) (cond (leb (natAbs (d .x)) mostCentimetres) 4 3)
     (cond (eqb number 4) (cond (isPlace (d .x) (pos 0)) 4 3) 1))
 
--- The stations of a chain with the factor 1.
+-- The same stations with the factor 1,000,000: so only the stations decide whether it is sound.
 abbrev pub unscaled : Chain → Chain
 unscaled c = record { master = c .master; a = c .a; b = c .b; factor = unitFactor }
 

@@ -46,12 +46,11 @@ parsedJob s =
     (job.Job
     (record { window = windowIn s; tolerance = held 32 (lengthAt s 3); allowance = held 64 (allowanceIn s) }))
 
--- The factor in the seventh word, or the factor 1 if it is missing (02, A3).
+-- The factor in the seventh word, or 1,000,000 if that is missing (02, A3).
 abbrev pub factorIn : List ℕ → ℕ
 factorIn s = cond (noWord 6 s) unitFactor (valueAt s 6)
 
--- A chain: easting and northing of master, A and B and, if it is not 1, the factor. A blank line or one that begins with # stands
--- for nothing.
+-- A chain: easting and northing of master, A and B, and its factor. A blank line or one that begins with # stands for nothing.
 unfoldable pub parsedChain : List ℕ → ParsedChain
 parsedChain s =
     cond (isPassed s) chain.Passed

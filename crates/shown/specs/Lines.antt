@@ -47,12 +47,15 @@ abbrev pub stationFigures : Chain → List ℕ
 stationFigures c =
     c .master .easting ∷ c .master .northing ∷ c .a .easting ∷ c .a .northing ∷ c .b .easting ∷ c .b .northing ∷ []
 
+-- Whether the side file has a factor for the chain with this number.
 abbrev pub hasFactor : List ℕ → ℕ → Bool
 hasFactor scale number = oneTo (length scale / factorBytes) number
 
+-- That factor, or 1,000,000 if there is none: then the chain is tested by its stations.
 abbrev pub factorOr : List ℕ → ℕ → ℕ
 factorOr scale number = cond (hasFactor scale number) (fieldAt factorBytes scale (factorBytes * (number - 1))) unitFactor
 
+-- Its text, or none.
 abbrev pub factorText : List ℕ → ℕ → List ℕ
 factorText scale number = cond (hasFactor scale number) (figuresText (factorOr scale number ∷ [])) []
 
@@ -63,6 +66,7 @@ chainFields scale number (named.Refused refusal) = []
 abbrev pub chainText : List ℕ → ℕ → List ℕ → List ℕ
 chainText scale number s = chainFields scale number (rawChainOf s (factorOr scale number))
 
+-- The number with which a chain is refused: that of its bytes, or 5 if it is not sound; 0 for none.
 unfoldable pub soundness : NamedChain → ℕ
 soundness (named.Chain c) = unless (isSound c) 5 0
 soundness (named.Refused number) = number

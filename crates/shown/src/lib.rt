@@ -179,7 +179,7 @@ fn soundness(chain: NamedChain) -> u32
     }
 }
 
-// The factor of the chain with this number, or the factor 1 if the side file has none for it.
+// The factor of the chain with this number, or 1,000,000 if the side file has none for it.
 fn factor_or(scale: &[u8], number: u32) -> u32
     ensures { λ r. ⌜ r ≡ factorOr (now (scale .entry)) number ⌝ }
 {
