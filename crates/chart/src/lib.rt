@@ -1,4 +1,6 @@
 // Places, chains and the readings expected at a place, in whole centimetres.
+#![tactic(auto)]
+
 ghost use Rattle.std.specs.Prelude.{◌≡◌, true, ◌<◌, ◌^◌};
 ghost use Rattle.std.proofs.Math.IntN.{sub_ℕ};
 ghost use Rattle.chart.specs.Places.{in_range, same_place, apart, distance_of};
@@ -7,14 +9,14 @@ ghost use Rattle.chart.specs.Chains.{stations_of, all_in_range, no_two_equal, is
 ghost use Rattle.chart.specs.Readings.{range_of, expected_at, said_by, figures_of};
 
 // A cell of the grid, by its easting and northing.
-#[derive(Drop)]
+#[derive(Clone, Copy)]
 pub struct Place {
     pub easting: u32,
     pub northing: u32,
 }
 
 // The stations of a chain, the master and the slaves A and B, and its scale factor in millionths.
-#[derive(Drop)]
+#[derive(Clone, Copy)]
 pub struct Chain {
     pub master: Place,
     pub a: Place,
@@ -23,14 +25,14 @@ pub struct Chain {
 }
 
 // The readings expected at a place, or the number of the refusal in 01's table.
-#[derive(Drop)]
+#[derive(Clone, Copy)]
 pub enum Expected {
     Readings { a: i64, b: i64 },
     Refused(u32),
 }
 
 // The readings as figures: the number of the refusal, 0 for none, and both readings.
-#[derive(Drop)]
+#[derive(Clone, Copy)]
 pub struct Figures {
     pub refusal: u32,
     pub a: i64,

@@ -1,16 +1,18 @@
 // Numbers of four and eight bytes in a slice, the lowest byte first.
+#![tactic(auto)]
+
 ghost use Rattle.std.specs.Prelude.{◌≡◌, ◌+◌, ◌≤◌, ◌<◌, ◌^◌, length};
 ghost use Rattle.fields.specs.Fields.{lies_inside, inside, field_at, filled, four_at, eight_at, put_at};
 
 // What is read from four bytes: a number, or `Outside` if they are not all inside the slice.
-#[derive(Drop)]
+#[derive(Clone, Copy)]
 pub enum Four {
     Value(u32),
     Outside,
 }
 
 // The same for eight bytes.
-#[derive(Drop)]
+#[derive(Clone, Copy)]
 pub enum Eight {
     Value(u64),
     Outside,

@@ -4,6 +4,8 @@
 //
 // `tool` is the program's name, and every message begins with it. A function that returns false has printed why. A file is in the
 // folder that the program is started in.
+#![tactic(auto)]
+
 mod forms;
 mod joining;
 mod lines;

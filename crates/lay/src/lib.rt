@@ -1,6 +1,8 @@
 // The library for C and Rust: the functions that lay.h declares. Each but lay_version takes numbers and slices, sets the results
 // that are lent to it, and returns the number of the refusal, 0 for none. A struct of lay.h is an array here: its fields lie in
 // memory as the array's elements do.
+#![tactic(auto)]
+
 ghost use Rattle.std.specs.Prelude.{cond, [], ◌∷◌, ◌≡◌, pos, length, get_or, replicate, ◌+◌, ◌<◌};
 ghost use Rattle.chart.specs.Places.{place_of};
 ghost use Rattle.metres.specs.Metres.{centimetres_of, metres_of, whole_figures, length_figures};
@@ -20,7 +22,7 @@ use search::{HowMany, SearchFigures, Window};
 use writing::Draft;
 
 // How many places readings allow.
-#[derive(Drop)]
+#[derive(Clone, Copy)]
 struct ManyFigures {
     refusal: u32,
     many: u32,
@@ -29,7 +31,7 @@ struct ManyFigures {
 }
 
 // A log record in centimetres.
-#[derive(Drop)]
+#[derive(Clone, Copy)]
 struct EntryFigures {
     refusal: u32,
     kind: u32,
@@ -40,34 +42,34 @@ struct EntryFigures {
 }
 
 // The same with the marks of x and y.
-#[derive(Drop)]
+#[derive(Clone, Copy)]
 struct RecordFigures {
     entry: EntryFigures,
     xmark: u32,
     ymark: u32,
 }
 
-#[derive(Drop)]
+#[derive(Clone, Copy)]
 struct CountFigures {
     refusal: u32,
     count: usize,
 }
 
-#[derive(Drop)]
+#[derive(Clone, Copy)]
 struct JobFigures {
     refusal: u32,
     job: Job,
 }
 
 // The place that a hold would repeat: `held` is 1 if there is one.
-#[derive(Drop)]
+#[derive(Clone, Copy)]
 struct HeldFigures {
     held: u32,
     place: Place,
     rounded: u32,
 }
 
-#[derive(Drop)]
+#[derive(Clone, Copy)]
 struct ListedFigures {
     refusal: u32,
     length: usize,

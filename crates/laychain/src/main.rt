@@ -1,5 +1,7 @@
 // Writes chain.dat and scale.dat in the folder that it is run in, one chain and its factor for each line of standard input. Every line
 // that is refused is reported on standard error; then both files stay as they were.
+#![tactic(auto)]
+
 ghost use Rattle.std.specs.Prelude.{◌≡◌, ◌*◌, ◌<◌, ◌≤◌, ◌&&◌, length, if◌then◌else◌};
 ghost use Rattle.records.specs.ChainTables.{chain_bytes, most_chains, factor_bytes};
 ghost use Rattle.writing.specs.FactorWriting.{factor_buffer_of};
@@ -15,7 +17,7 @@ use parsing::{ChainFault, Form, ParsedChain};
 use records::{CHAIN_BYTES, FACTOR_BYTES, MOST_CHAINS, SCALE_BYTES, TABLE_BYTES};
 
 // What becomes of a line: its chain is in the table, it is passed over, or it is refused.
-#[derive(Drop)]
+#[derive(Clone, Copy)]
 enum Verdict {
     Chain,
     Passed,
@@ -23,7 +25,7 @@ enum Verdict {
 }
 
 // How many lines were accepted, how many refused, and the number of the first of these.
-#[derive(Drop)]
+#[derive(Clone, Copy)]
 struct Sum {
     accepted: u64,
     refused: u64,

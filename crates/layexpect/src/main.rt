@@ -1,6 +1,8 @@
 // Prints the readings expected at a place for a chain of chain.dat, with its factor from scale.dat, in the folder that it is run
 // in. Its three arguments are the chain's number and the place. What is refused or fails is reported on standard error; then no
 // readings are printed.
+#![tactic(auto)]
+
 use chart::Place;
 use files::{Filled, Opened, Words};
 use parsing::{Form, ParsedQuestion};

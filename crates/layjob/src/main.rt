@@ -1,5 +1,7 @@
 // Writes job.dat in the folder that it is run in, from the four or five words of a job in its arguments. What is refused or fails is
 // reported on standard error; then the file stays as it was.
+#![tactic(auto)]
+
 use files::Words;
 use parsing::{Form, ParsedJob};
 use records::Job;

@@ -1,5 +1,7 @@
 // Lists a lay log: reads job.dat, chain.dat, scale.dat and lay.dat in the folder that it is run in, and prints the listing of the log.
 // A file that is missing counts as empty, and a note says so. A failure is reported on standard error, and nothing is listed after it.
+#![tactic(auto)]
+
 ghost use Rattle.std.specs.Prelude.{◌≡◌, true, length};
 ghost use Rattle.records.specs.ChainTables.{chain_count_of, scaled_count_of};
 ghost use Rattle.records.specs.Jobs.{job_of};
@@ -11,14 +13,14 @@ use listing::{Carried, Listed};
 use records::{ChainCount, JobAnswer};
 
 // A listing, whose text is the first `length` bytes of a buffer, and the place carried on from it.
-#[derive(Drop)]
+#[derive(Clone, Copy)]
 struct Listing {
     length: usize,
     carried: Carried,
 }
 
 // The place carried on to the next part of the log. Or nothing follows: the log has ended, or a failure has been reported.
-#[derive(Drop)]
+#[derive(Clone, Copy)]
 enum Next {
     From(Carried),
     End,

@@ -1,6 +1,8 @@
 // Prints whether two readings allow no place, one or several, by chain.dat, scale.dat and job.dat in the folder that it is run in. Its
 // three arguments are the chain's number and the readings. What is refused or fails is reported on standard error; then no line is
 // printed.
+#![tactic(auto)]
+
 use files::{Filled, Opened, Words};
 use parsing::{Form, ParsedReadings};
 use records::{ChainCount, JobAnswer};

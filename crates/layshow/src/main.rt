@@ -1,6 +1,8 @@
 // Prints what job.dat, chain.dat, scale.dat and lay.dat hold, one line for each record, in the folder that it is run in. A
 // missing file counts as empty, and a note says so. A refused argument or a failure is reported on standard error, and nothing is
 // printed after it.
+#![tactic(auto)]
+
 ghost use Rattle.std.specs.Prelude.{◌≡◌, ◌+◌, ◌^◌, ◌≤◌, ◌<◌, length};
 ghost use Rattle.text.specs.Puts.{Put};
 ghost use Rattle.shown.specs.Lines.{job_line, chain_line, scale_line, record_line};

@@ -1,6 +1,8 @@
 // Appends log records to lay.dat in the folder that it is run in, one record for each line of standard input. Every line that is
 // refused, and anything that fails, is reported on standard error; then nothing is appended, except that at a keyboard a refused line
 // can be typed again, and the accepted ones are appended.
+#![tactic(auto)]
+
 ghost use Rattle.std.specs.Prelude.{◌≡◌, ◌+◌, ◌≤◌, ◌&&◌, ◌++◌, length, take, if◌then◌else◌, ◌==◌};
 ghost use Rattle.records.specs.LogRecords.{log_bytes};
 ghost use Rattle.parsing.specs.Parsed.{parsed_draft};
@@ -15,7 +17,7 @@ use writing::Draft;
 
 // The log that is there, open to read, and how many records it has; or that there is none yet. `Unfit`: it cannot be used, and the
 // reason has been printed on standard error.
-#[derive(Drop)]
+#[derive(Clone, Copy)]
 enum Log {
     Old { file: i32, records: u64 },
     Missing,
@@ -23,14 +25,14 @@ enum Log {
 }
 
 // How many chains chain.dat has, or that it cannot be read, and the reason has been printed.
-#[derive(Drop)]
+#[derive(Clone, Copy)]
 enum Table {
     Chains(usize),
     Unfit,
 }
 
 // What a line is: a record, with the number of the chain that it names, 0 for none; one that is passed over; or a refused one.
-#[derive(Drop)]
+#[derive(Clone, Copy)]
 enum Judged {
     Record(u32),
     Passed,
@@ -39,7 +41,7 @@ enum Judged {
 
 // How many bytes of records wait in a buffer. `Dropped`: these and all later records are dropped, and the reason has been printed
 // on standard error.
-#[derive(Drop)]
+#[derive(Clone, Copy)]
 enum Records {
     Waiting(usize),
     Dropped,
@@ -47,7 +49,7 @@ enum Records {
 
 // How the lines fared: how many were accepted, how many refused, and the first of these; how many name a chain that chain.dat does
 // not have, and the first of these; and whether the last one was refused.
-#[derive(Drop)]
+#[derive(Clone, Copy)]
 struct Lines {
     accepted: u64,
     refused: u64,
@@ -58,7 +60,7 @@ struct Lines {
 }
 
 // What was read: whether the records are kept, how many bytes of them wait in a buffer, and how the lines fared.
-#[derive(Drop)]
+#[derive(Clone, Copy)]
 struct Read {
     kept: bool,
     waiting: usize,
@@ -66,7 +68,7 @@ struct Read {
 }
 
 // How far a file has been copied. If that failed, the reason has been printed on standard error.
-#[derive(Drop)]
+#[derive(Clone, Copy)]
 enum Copying {
     Some,
     All,

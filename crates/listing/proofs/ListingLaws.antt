@@ -29,7 +29,7 @@ put_first {o} {p} {o'} {end} place e h =
     let none : 0 + length p.text ≡ length p.text = omega arith in
     record {
       answer_is = ap₂ listed.Text (h.end_is ∙ none) e;
-      now_is = h.now-is ∙ ap (λ (n : ℕ). p.text ++ drop n o) none;
+      now_is = h.now_is ∙ ap (λ (n : ℕ). p.text ++ drop n o) none;
     }
 
 module _ (table scale log : List ℕ) (before : Carried) where
@@ -47,7 +47,7 @@ module _ (out log : List ℕ) (p : Part) where
   pub with_room : length log / log_bytes < length out / longest_line → (out' : List ℕ) (a : Listed) → Gives out p out' a →
       (a ≡ listed_in (length out) log p) × (out' ≡ buffer_with out log p)
   unfolding listed_in buffer_with
-  with_room h out' a g = rw (lt-ltb (length log / log_bytes) (length out / longest_line) h) (g.answer-is, g.now-is)
+  with_room h out' a g = rw (lt-ltb (length log / log_bytes) (length out / longest_line) h) (g.answer_is, g.now_is)
 
   pub without_room : length out / longest_line ≤ length log / log_bytes → (listed.Refused 9 ≡ listed_in (length out) log p) × (out ≡ buffer_with out log p)
   unfolding listed_in buffer_with

@@ -1,4 +1,6 @@
 // The listing of a log as text: what each record answers, its line, and the lines of a whole log or of parts of it.
+#![tactic(auto)]
+
 ghost use Rattle.std.specs.Prelude.{◌≡◌, List, ◌∷◌, [], ℕ, ◌+◌, ◌*◌, ◌/◌, ◌≤◌, ◌<◌, length, take};
 ghost use Rattle.chart.specs.declared.Place.{Place};
 ghost use Rattle.search.specs.Answers.{Outcome, search_figures};
@@ -20,7 +22,7 @@ use records::{ChainCount, Job, JobAnswer, LOG_BYTES, LogEntry, NamedChain, RawAn
 use search::SearchFigures;
 
 // The place that a record hands on to the next one, for a hold, and whether a number of the record was rounded.
-#[derive(Drop)]
+#[derive(Clone, Copy)]
 pub enum Carried {
     Place { place: Place, rounded: bool },
     Nothing,
@@ -28,13 +30,13 @@ pub enum Carried {
 
 // A listing in a buffer: how many bytes of text there are, and the place carried on from its last record. Or the number of
 // a refusal.
-#[derive(Drop)]
+#[derive(Clone, Copy)]
 pub enum Listed {
     Text { length: usize, carried: Carried },
     Refused(u32),
 }
 
-#[derive(Drop)]
+#[derive(Clone, Copy)]
 enum Word {
     Fix,
     Grid,
@@ -43,7 +45,7 @@ enum Word {
 }
 
 // What a record answers; its places are in a list. `figure` is their count or the number of the refusal.
-#[derive(Drop)]
+#[derive(Clone, Copy)]
 struct Told {
     word: Word,
     figure: u64,
@@ -53,7 +55,7 @@ struct Told {
 }
 
 // Where the text of the lines so far ends, and the place carried on to the next record.
-#[derive(Drop)]
+#[derive(Clone, Copy)]
 struct LinesSoFar {
     end: usize,
     carried: Carried,

@@ -1,4 +1,6 @@
 // Metres and whole centimetres, and binary64 numbers in bytes.
+#![tactic(auto)]
+
 ghost use Rattle.std.specs.Prelude.{◌≡◌, ◌*◌, ◌<◌, ◌^◌, nat_abs, pos};
 ghost use Rattle.std.specs.Float.Ieee.Nearest.{closest};
 ghost use Rattle.fields.specs.Fields.{inside};
@@ -10,14 +12,14 @@ ghost use Rattle.metres.specs.Patterns.{number_of, pattern_of, is_plus_zero, num
 use fields::Eight;
 
 // What a number of metres becomes: whole centimetres, or a refusal.
-#[derive(Drop)]
+#[derive(Clone, Copy)]
 pub enum Whole {
     Centimetres(i64),
     Refused,
 }
 
 // Where exactly 100 times a number of metres lies, as seen from its whole centimetres. `Equal`: nothing was lost.
-#[derive(Drop)]
+#[derive(Clone, Copy)]
 pub enum Mark {
     Equal,
     Below,
@@ -25,41 +27,41 @@ pub enum Mark {
 }
 
 // What a number of metres becomes, and how it was rounded. A number that is refused has the mark `Equal`.
-#[derive(Drop)]
+#[derive(Clone, Copy)]
 pub struct MarkedWhole {
     pub whole: Whole,
     pub mark: Mark,
 }
 
 // What a whole number of centimetres becomes: a number of metres, or a refusal.
-#[derive(Drop)]
+#[derive(Clone, Copy)]
 pub enum Length {
     Metres(f64),
     Refused,
 }
 
 // Both as figures: the number of the refusal, 0 for none, and the centimetres or metres.
-#[derive(Drop)]
+#[derive(Clone, Copy)]
 pub struct WholeFigures {
     pub refusal: u32,
     pub centimetres: i64,
 }
 
-#[derive(Drop)]
+#[derive(Clone, Copy)]
 pub struct LengthFigures {
     pub refusal: u32,
     pub metres: f64,
 }
 
 // What is read from eight bytes: a number, or `Outside` if they are not all inside the slice.
-#[derive(Drop)]
+#[derive(Clone, Copy)]
 pub enum Number {
     Value(f64),
     Outside,
 }
 
 // Exactly 100 times a number of metres: parts / 2 ^ halvings, below zero if minus is true.
-#[derive(Drop)]
+#[derive(Clone, Copy)]
 enum Hundredfold {
     Exact {
         minus: bool,

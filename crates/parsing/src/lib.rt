@@ -1,4 +1,6 @@
 // Text that a person types: lines, their words, and the job, chain, log record or question that a line stands for.
+#![tactic(auto)]
+
 ghost use Rattle.std.specs.Prelude.{cond, ◌≡◌, ◌+◌, ◌-◌, ◌≤◌, min, leb, pos, nat_abs, length, drop};
 ghost use Rattle.metres.specs.Metres.{most_centimetres};
 ghost use Rattle.chart.specs.Places.{same_place};
@@ -21,40 +23,40 @@ use search::Window;
 use writing::Draft;
 
 // What a line stands for, or refusal 12 for a line of another form. A line that is passed over stands for nothing.
-#[derive(Drop)]
+#[derive(Clone, Copy)]
 pub enum ParsedJob {
     Job(Job),
     Refused(u32),
 }
 
-#[derive(Drop)]
+#[derive(Clone, Copy)]
 pub enum ParsedChain {
     Chain(Chain),
     Passed,
     Refused(u32),
 }
 
-#[derive(Drop)]
+#[derive(Clone, Copy)]
 pub enum ParsedDraft {
     Draft(Draft),
     Passed,
     Refused(u32),
 }
 
-#[derive(Drop)]
+#[derive(Clone, Copy)]
 pub enum ParsedQuestion {
     Question { chain: u32, place: Place },
     Refused(u32),
 }
 
-#[derive(Drop)]
+#[derive(Clone, Copy)]
 pub enum ParsedReadings {
     Readings { chain: u32, a: i64, b: i64 },
     Refused(u32),
 }
 
 // What a line is taken for.
-#[derive(Drop)]
+#[derive(Clone, Copy)]
 pub enum Form {
     Job,
     Chain,
@@ -64,7 +66,7 @@ pub enum Form {
 }
 
 // What a word of a line is taken for.
-#[derive(Drop)]
+#[derive(Clone, Copy)]
 pub enum Taken {
     Number,
     Line,
@@ -76,7 +78,7 @@ pub enum Taken {
 
 // What is wrong with a word: it is missing, or one too many; a number that is not in digits alone, or too large; metres without two
 // decimals; a minus sign where there may be none; or a length that is neither centimetres nor metres.
-#[derive(Drop)]
+#[derive(Clone, Copy)]
 pub enum Wrong {
     Missing,
     Spare,
@@ -89,7 +91,7 @@ pub enum Wrong {
 
 // The word of a chain that is at fault, counted from 0: it is out of range, or begins a station that stands where one before it does.
 // Or it is the factor.
-#[derive(Drop)]
+#[derive(Clone, Copy)]
 pub enum ChainFault {
     Range(usize),
     Spot(usize),
@@ -97,14 +99,14 @@ pub enum ChainFault {
 }
 
 // Some bytes of a line: from `start` on, up to but without `end`.
-#[derive(Drop)]
+#[derive(Clone, Copy)]
 pub struct Span {
     pub start: usize,
     pub end: usize,
 }
 
 // The classes of bytes that a scan looks for.
-#[derive(Drop)]
+#[derive(Clone, Copy)]
 enum Class {
     InLine,
     Blank,
@@ -114,7 +116,7 @@ enum Class {
 }
 
 // A number of at most 64 bits, or that it is larger.
-#[derive(Drop)]
+#[derive(Clone, Copy)]
 enum Sized {
     Value(u64),
     Large,

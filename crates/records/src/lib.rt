@@ -1,4 +1,6 @@
 // Log records, chain tables and jobs read from bytes of any content.
+#![tactic(auto)]
+
 ghost use Rattle.std.specs.Prelude.{◌≡◌, ◌&&◌, List, [], ◌∷◌, ℕ, ◌+◌, ◌*◌, ◌≤◌, length};
 ghost use Rattle.fields.specs.Fields.{field_at};
 ghost use Rattle.records.specs.declared.JobAnswer.TheVariants as answer;
@@ -17,7 +19,7 @@ use metres::{Mark, Whole};
 use search::{HowMany, Window};
 
 // The fields of a log record as its bytes give them, valid or not. Bytes 2 and 3 should be zero.
-#[derive(Drop)]
+#[derive(Clone, Copy)]
 pub struct RawRecord {
     pub kind: u8,
     pub chain: u8,
@@ -30,14 +32,14 @@ pub struct RawRecord {
 }
 
 // Here and below, `Refused` has the number of the refusal in 01's table.
-#[derive(Drop)]
+#[derive(Clone, Copy)]
 pub enum RawAnswer {
     Record(RawRecord),
     Refused(u32),
 }
 
 // A log record by its kind, with the numbers that the kind uses, in metres. Line number and chain are in the raw record.
-#[derive(Drop)]
+#[derive(Clone, Copy)]
 pub enum LogRecord {
     Hyperbolic { a: f64, b: f64 },
     Grid { easting: f64, northing: f64 },
@@ -46,7 +48,7 @@ pub enum LogRecord {
 }
 
 // The same in whole centimetres.
-#[derive(Drop)]
+#[derive(Clone, Copy)]
 pub enum LogEntry {
     Readings { a: i64, b: i64 },
     Place(Place),
@@ -55,7 +57,7 @@ pub enum LogEntry {
 }
 
 // The same, with the marks of its two numbers. A number that is not used, and one of a refused record, has the mark `Equal`.
-#[derive(Drop)]
+#[derive(Clone, Copy)]
 pub struct MarkedEntry {
     pub entry: LogEntry,
     pub first: Mark,
@@ -63,35 +65,35 @@ pub struct MarkedEntry {
 }
 
 // How many chains a table has.
-#[derive(Drop)]
+#[derive(Clone, Copy)]
 pub enum ChainCount {
     Chains(usize),
     Refused(u32),
 }
 
 // The chain that a number names.
-#[derive(Drop)]
+#[derive(Clone, Copy)]
 pub enum NamedChain {
     Chain(Chain),
     Refused(u32),
 }
 
 // Where to search, and how.
-#[derive(Drop)]
+#[derive(Clone, Copy)]
 pub struct Job {
     pub window: Window,
     pub tolerance: u32,
     pub allowance: u64,
 }
 
-#[derive(Drop)]
+#[derive(Clone, Copy)]
 pub enum JobAnswer {
     Job(Job),
     Refused(u32),
 }
 
 // Two numbers in whole centimetres, or that one of them is refused.
-#[derive(Drop)]
+#[derive(Clone, Copy)]
 enum Pair {
     Both { x: i64, y: i64 },
     Unusable,

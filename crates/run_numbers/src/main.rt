@@ -1,4 +1,6 @@
 // A program for the tests: prints whole square roots, and fields read from a slice and put into a buffer.
+#![tactic(auto)]
+
 use fields::{Eight, Four};
 
 fn main() {

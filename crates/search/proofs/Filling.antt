@@ -76,24 +76,24 @@ module _ (rule : Rule) (k : ℕ) (p o : Place) where
   here_third : IsListed o (matching rule k (north (2 ^ k) p)) → from_third rule k p o ≡ visits_to rule k (north (2 ^ k) p) o
   here_third m =
       let i = (matching_only rule k (north (2 ^ k) p) o m).0 in
-      rw (lt-ltb o.easting (p.easting + 2 ^ k) i.to-east)
+      rw (lt-ltb o.easting (p.easting + 2 ^ k) i.to_east)
 
   past_third : IsListed o (matching rule k (north_east (2 ^ k) p)) → from_third rule k p o ≡ visits_of rule k (north (2 ^ k) p) + visits_to rule k (north_east (2 ^ k) p) o
   past_third m =
       let i = (matching_only rule k (north_east (2 ^ k) p) o m).0 in
-      rw (le-ltb o.easting (p.easting + 2 ^ k) i.from-west)
+      rw (le-ltb o.easting (p.easting + 2 ^ k) i.from_west)
 
   here_second : IsListed o (matching rule k (east (2 ^ k) p)) → from_second rule k p o ≡ visits_to rule k (east (2 ^ k) p) o
   here_second m =
       let i = (matching_only rule k (east (2 ^ k) p) o m).0 in
-      rw (lt-ltb o.northing (p.northing + 2 ^ k) i.to-north)
+      rw (lt-ltb o.northing (p.northing + 2 ^ k) i.to_north)
 
   -- It lies in one of the two northern quarters.
   is_north : IsListed o (matching rule k (north (2 ^ k) p) ++ matching rule k (north_east (2 ^ k) p)) → south rule k p o ≡ false
   is_north m =
       ⊎_elim
-      (λ m. le-ltb o.northing (p.northing + 2 ^ k) (matching_only rule k (north (2 ^ k) p) o m).0.from-south)
-      (λ m. le-ltb o.northing (p.northing + 2 ^ k) (matching_only rule k (north_east (2 ^ k) p) o m).0.from-south)
+      (λ m. le-ltb o.northing (p.northing + 2 ^ k) (matching_only rule k (north (2 ^ k) p) o m).0.from_south)
+      (λ m. le-ltb o.northing (p.northing + 2 ^ k) (matching_only rule k (north_east (2 ^ k) p) o m).0.from_south)
       (Memᴰ.append_cases (matching rule k (north (2 ^ k) p)) m)
 
   past_second : IsListed o (matching rule k (north (2 ^ k) p) ++ matching rule k (north_east (2 ^ k) p)) → from_second rule k p o ≡ visits_of rule k (east (2 ^ k) p) + from_third rule k p o
@@ -102,14 +102,14 @@ module _ (rule : Rule) (k : ℕ) (p o : Place) where
   here_first : IsListed o (matching rule k p) → from_first rule k p o ≡ visits_to rule k p o
   here_first m =
       let i = (matching_only rule k p o m).0 in
-      rw (lt-ltb o.northing (p.northing + 2 ^ k) i.to-north, lt-ltb o.easting (p.easting + 2 ^ k) i.to-east)
+      rw (lt-ltb o.northing (p.northing + 2 ^ k) i.to_north, lt-ltb o.easting (p.easting + 2 ^ k) i.to_east)
 
   past_first : IsListed o (matching rule k (east (2 ^ k) p) ++ (matching rule k (north (2 ^ k) p) ++ matching rule k (north_east (2 ^ k) p))) → from_first rule k p o ≡ visits_of rule k p + from_second rule k p o
   past_first m =
       ⊎_elim
       (λ m.
       let i = (matching_only rule k (east (2 ^ k) p) o m).0 in
-      rw (lt-ltb o.northing (p.northing + 2 ^ k) i.to-north, le-ltb o.easting (p.easting + 2 ^ k) i.from-west))
+      rw (lt-ltb o.northing (p.northing + 2 ^ k) i.to_north, le-ltb o.easting (p.easting + 2 ^ k) i.from_west))
       (λ m. rw (is_north m))
       (Memᴰ.append_cases (matching rule k (east (2 ^ k) p)) m)
 

@@ -145,7 +145,7 @@ quarter_number : (k a b : ℕ) (p r : Place) → IsQuarter k a b p r → (o : Pl
 quarter_number k a b p r s o m =
     let i = cell-inside k r o m in
     ap₂ (interleave (suc k)) (omega arith) (omega arith)
-    ∙ top_bits k a b (o.easting - r.easting) (o.northing - r.northing) s.bit-a s.bit-b (omega arith) (omega arith)
+    ∙ top_bits k a b (o.easting - r.easting) (o.northing - r.northing) s.bit_a s.bit_b (omega arith) (omega arith)
 
 quarter_stretch : (k a b : ℕ) (p r : Place) → IsQuarter k a b p r → Rises (number_from k r) (cells k r) → Stretch (number_from (suc k) p) (4 ^ k * (2 * b + a)) (4 ^ k * (2 * b + a + 1)) (cells k r)
 quarter_stretch k a b p r s rises =

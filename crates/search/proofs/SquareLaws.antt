@@ -18,7 +18,7 @@ module _ (k side : ℕ) (p : Place) (w : OnChart k side p) where
   pub corner_in_range : in_range p ≡ true
   corner_in_range =
       let some : 0 < 2 ^ k = pow_pos k in
-      says_in_range p (omega (arith, w.side-is, w.east)) (omega (arith, w.side-is, w.north))
+      says_in_range p (omega (arith, w.side_is, w.east)) (omega (arith, w.side_is, w.north))
 
   module _ (larger : k ≡ 0 → ⊥) where
     -- The exponent is one more than the quarters'.
@@ -30,7 +30,7 @@ module _ (k side : ℕ) (p : Place) (w : OnChart k side p) where
 
     -- Half the side is the quarters' side.
     pub half_is : side / 2 ≡ 2 ^ (k - 1)
-    half_is = omega (arith, doubled, w.side-is)
+    half_is = omega (arith, doubled, w.side_is)
 
     some : 0 < 2 ^ (k - 1)
     some = pow_pos (k - 1)
@@ -39,12 +39,12 @@ module _ (k side : ℕ) (p : Place) (w : OnChart k side p) where
     pub middle_in_range : in_range (north_east (side / 2) p) ≡ true
     middle_in_range =
         says_in_range (north_east (side / 2) p)
-        (omega (arith, half_is, doubled, some, w.side-is, w.east))
-        (omega (arith, half_is, doubled, some, w.side-is, w.north))
+        (omega (arith, half_is, doubled, some, w.side_is, w.east))
+        (omega (arith, half_is, doubled, some, w.side_is, w.north))
 
     -- The test of the code, at the middle of the square, is the definition's.
     pub kept_is : (rule : Rule) (middle : Place) → middle ≡ north_east (side / 2) p → within (rule.tolerance + 2 * side + 4) rule.chain rule.wanted middle ≡ is_kept rule (k - 1) p
     kept_is rule middle e =
         ap₂ (λ (d : ℕ) (o : Place). within (rule.tolerance + 2 * d + 4) rule.chain rule.wanted o)
-        (w.side-is ∙ ap (λ (x : ℕ). 2 ^ x) k_is)
+        (w.side_is ∙ ap (λ (x : ℕ). 2 ^ x) k_is)
         (e ∙ ap (λ (d : ℕ). north_east d p) half_is)

@@ -40,7 +40,7 @@ window_says w e =
 pub every_cell_in_range : (w : Window) (o : Place) → is_window w ≡ true → IsCellIn w o → in_range o ≡ true
 every_cell_in_range w o e i =
     let on = (window_says w e).1 w.k (2 ^ w.k) (le_refl w.k) refl in
-    says_in_range o (omega (arith, on.east, i.to-east)) (omega (arith, on.north, i.to-north))
+    says_in_range o (omega (arith, on.east, i.to_east)) (omega (arith, on.north, i.to_north))
 
 -- And a square of at most that exponent whose cells are all in range is a window.
 pub in_range_is_window : (w : Window) → w.k ≤ most_exponent → ((o : Place) → IsCellIn w o → in_range o ≡ true) → is_window w ≡ true

@@ -1,4 +1,6 @@
 // The search of a window: every cell that matches, each once, in chart order.
+#![tactic(auto)]
+
 ghost use Rattle.std.specs.Prelude.{◌≡◌, true, ◌++◌, ◌∷◌, [], ◌+◌, ◌-◌, ◌*◌, ◌≤◌, ◌<◌, ◌^◌, leb, length, take, replicate};
 ghost use Rattle.std.proofs.Math.IntN.{sub_ℕ};
 ghost use Rattle.chart.specs.Places.{in_range, squared_distance, distance_of};
@@ -17,14 +19,14 @@ ghost use Rattle.search.specs.Holding.{above_zero, below_zero, rule_by, question
 use chart::{Chain, Place};
 
 // The square of 2^k by 2^k cells whose south-west cell is the corner.
-#[derive(Drop)]
+#[derive(Clone, Copy)]
 pub struct Window {
     pub corner: Place,
     pub k: u32,
 }
 
 // How a search ended: with places, or with one of 01's refusals, here in the order of their numbers.
-#[derive(Drop)]
+#[derive(Clone, Copy)]
 pub enum Answer {
     Places { count: usize, visits: u64 },
     ReadingTooLarge,
@@ -37,7 +39,7 @@ pub enum Answer {
 }
 
 // An answer as figures: the number of the refusal, 0 for none, the count of places and the visits.
-#[derive(Drop)]
+#[derive(Clone, Copy)]
 pub struct SearchFigures {
     pub refusal: u32,
     pub count: usize,
@@ -45,7 +47,7 @@ pub struct SearchFigures {
 }
 
 // How many places match: none, one or several, with the visits that it took to decide. Or a refusal, with the visits made.
-#[derive(Drop)]
+#[derive(Clone, Copy)]
 pub enum HowMany {
     None { visits: u64 },
     One { place: Place, visits: u64 },
@@ -54,7 +56,7 @@ pub enum HowMany {
 }
 
 // A slave and the reading that is wanted for it, split into how far it is above 0 and how far below.
-#[derive(Drop)]
+#[derive(Clone, Copy)]
 struct Wish {
     slave: Place,
     above: u64,
@@ -62,7 +64,7 @@ struct Wish {
 }
 
 // What a walk uses at every visit. It stays the same during the walk.
-#[derive(Drop)]
+#[derive(Clone, Copy)]
 struct Hunt {
     factor: u64,
     master: Place,
@@ -74,7 +76,7 @@ struct Hunt {
 }
 
 // The state of a walk: the refusal that stopped it, 0 while it goes on; the count of places listed; the visits made.
-#[derive(Drop)]
+#[derive(Clone, Copy)]
 struct Tally {
     stop: u32,
     count: usize,

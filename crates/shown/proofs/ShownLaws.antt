@@ -112,4 +112,4 @@ unfolding line_for buffer_for
 answered o count x {o'} {end} room p few =
     let put = p (omega (arith, leb-true (208 + 2 * count) (length o) room, few)) in
     let none : 0 + length x ≡ length x = omega arith in
-    (rw (room) (ap Text (put.end_is ∙ none)), rw (room) (put.now-is ∙ ap (λ (n : ℕ). x ++ drop n o) none))
+    (rw (room) (ap Text (put.end_is ∙ none)), rw (room) (put.now_is ∙ ap (λ (n : ℕ). x ++ drop n o) none))

@@ -1,5 +1,7 @@
 // Puts into text what the files hold, one line for each record, the readings expected at a place, and whether readings allow one
 // place.
+#![tactic(auto)]
+
 ghost use Rattle.std.specs.Prelude.{◌≡◌, ◌++◌, ◌∷◌, [], ◌+◌, ◌*◌, ◌≤◌, length};
 ghost use Rattle.chart.specs.Readings.{said_by};
 ghost use Rattle.records.specs.LogRecords.{log_entry_of};
@@ -21,7 +23,7 @@ use records::{ChainCount, JobAnswer, LogEntry, NamedChain, RawAnswer, RawRecord}
 use search::HowMany;
 
 // How many bytes of text there are, or the number of a refusal.
-#[derive(Drop)]
+#[derive(Clone, Copy)]
 pub enum Line {
     Text(usize),
     Refused(u32),

@@ -20,21 +20,21 @@ front o at x h = length-append (take at o) x ∙ ap (λ (n : ℕ). n + length x)
 pub put_length : {o : List ℕ} {at : ℕ} {x o' : List ℕ} {end : ℕ} → Put o at x o' end → length o' ≡ length o
 put_length {o} {at} {x} {o'} {end} p =
     let rest = drop (at + length x) o in
-    ap length (p.now-is ∙ sym (append_assoc (take at o) x rest))
+    ap length (p.now_is ∙ sym (append_assoc (take at o) x rest))
     ∙ omega (arith, length-append (take at o ++ x) rest, front o at x p.fits, length-drop (at + length x) o, p.fits)
 
 -- What the buffer then holds up to the end of the text.
 pub put_front : {o : List ℕ} {at : ℕ} {x o' : List ℕ} {end : ℕ} → Put o at x o' end → take end o' ≡ take at o ++ x
 put_front {o} {at} {x} {o'} {end} p =
     let rest = drop (at + length x) o in
-    ap (take end) (p.now-is ∙ sym (append_assoc (take at o) x rest))
+    ap (take end) (p.now_is ∙ sym (append_assoc (take at o) x rest))
     ∙ take_at (take at o ++ x) rest end (front o at x p.fits ∙ sym p.end_is)
 
 -- Putting one text and then another after it is putting both together.
 pub put_then : {o : List ℕ} {at : ℕ} {x o' : List ℕ} {end : ℕ} {y o'' : List ℕ} {end' : ℕ} → Put o at x o' end → Put o' end y o'' end' → Put o at (x ++ y) o'' end'
 put_then {o} {at} {x} {o'} {end} {y} {o''} {end'} p q =
     let rest = drop (at + length x) o in
-    let whole : o' ≡ (take at o ++ x) ++ rest = p.now-is ∙ sym (append_assoc (take at o) x rest) in
+    let whole : o' ≡ (take at o ++ x) ++ rest = p.now_is ∙ sym (append_assoc (take at o) x rest) in
     let size : length (take at o ++ x) ≡ end = front o at x p.fits ∙ sym p.end_is in
     let both : at + length x + length y ≡ at + length (x ++ y) = omega (arith, length-append x y) in
     let behind : drop (end + length y) o' ≡ drop (at + length (x ++ y)) o =
@@ -47,7 +47,7 @@ put_then {o} {at} {x} {o'} {end} {y} {o''} {end'} p q =
       fits = omega (arith, q.fits, put_length p, p.end_is, length-append x y);
       end_is = omega (arith, q.end_is, p.end_is, length-append x y);
       now_is =
-          q.now-is
+          q.now_is
           ∙ ap₂ (λ (f r : List ℕ). f ++ (y ++ r)) (put_front p) behind
           ∙ append_assoc (take at o) x (y ++ tail)
           ∙ ap (λ (z : List ℕ). take at o ++ z) (sym (append_assoc x y tail));
@@ -121,7 +121,7 @@ pub put_promised : {o : List ℕ} {at : ℕ} {x o' : List ℕ} {end : ℕ} → P
 unfolding end_after with_text
 put_promised {o} {at} {x} {o'} {end} p =
     let room : room_for (length o) at x ≡ true = le-leb (at + length x) (length o) p.fits in
-    (rw room p.end_is, rw room p.now-is)
+    (rw room p.end_is, rw room p.now_is)
 
 -- If there is no room for it, the promise says that nothing changed.
 pub nothing_promised : (o : List ℕ) (at : ℕ) (x : List ℕ) → length o < at + length x → Promised o at x o at

@@ -1,5 +1,7 @@
 // Puts text into a buffer: bytes as they are, numbers in decimal, bytes in hexadecimal. Each public function returns where the
 // text ends. Without room for all of it, nothing is put, and the function returns where the text would have begun.
+#![tactic(auto)]
+
 ghost use Rattle.std.specs.Prelude.{◌≡◌, ◌∷◌, [], ◌+◌, ◌*◌, ◌≤◌, ◌<◌, length};
 ghost use Rattle.text.specs.Texts.{digits_of, flag_text, whole_text, hex_digit, hex_of};
 ghost use Rattle.text.specs.Puts.{end_after, with_text, Put};

@@ -1,4 +1,6 @@
 // The writers of log records, chains, factors and jobs: each is tested, then its bytes are put into a buffer.
+#![tactic(auto)]
+
 ghost use Rattle.std.specs.Prelude.{◌≡◌, ◌+◌, ◌≤◌, ◌<◌, length, replicate};
 ghost use Rattle.records.specs.LogRecords.{log_bytes};
 ghost use Rattle.records.specs.ChainTables.{chain_bytes};
@@ -12,7 +14,7 @@ use chart::{Chain, Place};
 use records::{CHAIN_BYTES, FACTOR_BYTES, JOB_BYTES, Job, LOG_BYTES, MOST_CHAINS};
 
 // The content of a log record to be written. x and y are readings A and B, or easting and northing, in centimetres.
-#[derive(Drop)]
+#[derive(Clone, Copy)]
 pub struct Draft {
     pub kind: u32,
     pub chain: u32,

@@ -39,7 +39,7 @@ returns_2 c =
     let read = told.before.before in
     let a = read.before.before.before.before.before.before.before.args in
     with_room _ _ _ read.before.if1.false _ _
-    (gives_as (by_job a.table.now a.scale.now a.log.now a.before a.job.now _ (sym read.job-of.ensures ∙ told.j.given.1)) call.by-job.ensures)
+    (gives_as (by_job a.table.now a.scale.now a.log.now a.before a.job.now _ (sym read.job-of.ensures ∙ told.j.given.1)) call.by_job.ensures)
 
 same_length_2 : tie.Need-same-length-2
 same_length_2 c = search rules

@@ -139,7 +139,7 @@ visit_returns_3 t c = λ s h.
 visit-north-east-requires : (t : ℕ) → lts.Need-north-east-requires (claims t) (visit_at t) visit.Post
 visit-north-east-requires t c κs =
     let start = started t c in
-    omega (arith, start.pre.1.1.side-is, start.pre.1.1.east, start.pre.1.1.north)
+    omega (arith, start.pre.1.1.side_is, start.pre.1.1.east, start.pre.1.1.north)
 
 visit-distance-requires : (t : ℕ) → lts.Need-distance-requires (claims t) (visit_at t) visit.Post
 visit-distance-requires t c κs = (middle_ok t c, (started t c.before).pre.1.0.master)
@@ -150,17 +150,17 @@ visit_mul_near t c = search rules
 visit_add_near_2 : (t : ℕ) → lts.Need-overflow-add-near-2 (claims t) (visit_at t) visit.Post
 visit_add_near_2 t c =
     let start = started t c.before.before.before in
-    omega (arith, start.pre.1.0.tolerance, start.pre.1.1.east, start.pre.1.1.side-is)
+    omega (arith, start.pre.1.0.tolerance, start.pre.1.1.east, start.pre.1.1.side_is)
 
 visit_add_near_3 : (t : ℕ) → lts.Need-overflow-add-near-3 (claims t) (visit_at t) visit.Post
 visit_add_near_3 t c =
     let start = started t c.before.before.before in
-    omega (arith, start.pre.1.0.tolerance, start.pre.1.1.east, start.pre.1.1.side-is)
+    omega (arith, start.pre.1.0.tolerance, start.pre.1.1.east, start.pre.1.1.side_is)
 
 visit-near-requires : (t : ℕ) → lts.Need-near-requires (claims t) (visit_at t) visit.Post
 visit-near-requires t c κs =
     let start = started t c.before.before.before in
-    (start.pre.1.0, middle_ok t c.before.before, c.before.distance.ensures.0, c.before.distance.ensures.1, omega (arith, start.pre.1.0.tolerance, start.pre.1.1.east, start.pre.1.1.side-is))
+    (start.pre.1.0, middle_ok t c.before.before, c.before.distance.ensures.0, c.before.distance.ensures.1, omega (arith, start.pre.1.0.tolerance, start.pre.1.1.east, start.pre.1.1.side_is))
 
 visit_returns_4 : (t : ℕ) → lts.Need-returns-4 (claims t) (visit_at t) visit.Post
 visit_returns_4 t c = λ s h.
@@ -174,12 +174,12 @@ visit_returns_4 t c = λ s h.
 visit-east-requires : (t : ℕ) → lts.Need-east-requires (claims t) (visit_at t) visit.Post
 visit-east-requires t c κs =
     let start = started t c.before.before.before.before.before in
-    omega (arith, start.pre.1.1.side-is, start.pre.1.1.east)
+    omega (arith, start.pre.1.1.side_is, start.pre.1.1.east)
 
 visit-north-requires : (t : ℕ) → lts.Need-north-requires (claims t) (visit_at t) visit.Post
 visit-north-requires t c κs =
     let start = started t c.before.before.before.before.before.before in
-    omega (arith, start.pre.1.1.side-is, start.pre.1.1.north)
+    omega (arith, start.pre.1.1.side_is, start.pre.1.1.north)
 
 visit_sub_visit : (t : ℕ) → lts.Need-overflow-sub-visit (claims t) (visit_at t) visit.Post
 visit_sub_visit t c = omega (arith, (larger t c.before).if3.left)
