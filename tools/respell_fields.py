@@ -4,6 +4,15 @@ import glob
 import re
 
 FILES = sorted(f for p in ("crates/*/specs/**/*.antt", "crates/*/proofs/**/*.antt") for f in glob.glob(p, recursive=True) if "/out/" not in f)
+# A name that got `_lem` beside a definition, where it is a path's part, a step or a field: it keeps its own.
+for f in FILES:
+    text = open(f, encoding="utf-8").read()
+    new = re.sub(r"(\.[a-z][a-z_]*)_lem\b", r"\1", text)
+    if "/laylist/" in f:
+        new = new.replace("by_table_lem", "by_table")
+    if new != text:
+        open(f, "w", encoding="utf-8").write(new)
+
 fields = set()
 for f in FILES:
     inside = False

@@ -24,7 +24,7 @@ accepts_table (count.Refused number) = false
 -- Job, table and side file are accepted: so the log is listed.
 pub record AllGood (job table scale : List ℕ) : Type 0 where
   pub by_job : accepts_job (job_of job) ≡ true
-  pub by_table_lem : accepts_table (scaled_count_of table scale) ≡ true
+  pub by_table : accepts_table (scaled_count_of table scale) ≡ true
 
 -- The most bytes of a log that are listed at once, 128 records; and the length of the buffer, room for 129 longest lines.
 abbrev pub part_bytes : ℕ

@@ -14,7 +14,7 @@ same_length : tie.Need-same-length
 same_length c = search rules
 
 returns : tie.Need-returns
-returns c = started_room c.before.before.before.before.«open».result c.before.before.start_of_lem.result c.before.before.start_of_lem.ensures
+returns c = started_room c.before.before.before.before.«open».result c.before.before.start_of.result c.before.before.start_of.ensures
 
 pub start_spec : {M : Type 1} → statement M
 start_spec = tie.close (tie.spec open-requires start-of-requires same_length returns)

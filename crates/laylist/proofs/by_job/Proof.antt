@@ -60,7 +60,7 @@ part-by-table-end : tie.Need-slice-bounds-by-table-end
 part-by-table-end c =
     let told = c.before.before.before in
     let read = told.before.before.before in
-    omega (arith, ap filled_bytes told.n.given.1, started_room read.before.before.before.before.«open».result read.start_of_lem.result read.start_of_lem.ensures)
+    omega (arith, ap filled_bytes told.n.given.1, started_room read.before.before.before.before.«open».result read.start_of.result read.start_of.ensures)
 
 by-table-requires : tie.Need-by-table-requires
 by-table-requires c κs =

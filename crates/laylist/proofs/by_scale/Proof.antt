@@ -11,7 +11,7 @@ list-log-requires : tie.Need-list-log-requires
 list-log-requires c κs =
     let call = c.before.before.before.before in
     let start = call.before.before.before.before.before.before in
-    (search rules, record { by_job = start.requires.1; by_table_lem = sym call.scale-accepted.ensures ∙ c.before.if1.true })
+    (search rules, record { by_job = start.requires.1; by_table = sym call.scale-accepted.ensures ∙ c.before.if1.true })
 
 same_length : tie.Need-same-length
 same_length c = search rules

@@ -47,7 +47,7 @@ part-with-scale-end : tie.Need-slice-bounds-with-scale-end
 part-with-scale-end c =
     let told = c.before.before in
     let read = told.before.before.before in
-    omega (arith, ap filled_bytes told.n.given.1, started_room read.before.before.before.before.«open».result read.start_of_lem.result read.start_of_lem.ensures)
+    omega (arith, ap filled_bytes told.n.given.1, started_room read.before.before.before.before.«open».result read.start_of.result read.start_of.ensures)
 
 with-scale-requires : tie.Need-with-scale-requires
 with-scale-requires c κs = search rules

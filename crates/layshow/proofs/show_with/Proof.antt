@@ -78,7 +78,7 @@ part-show-files-end : tie.Need-slice-bounds-show-files-end
 part-show-files-end c =
     let told = c.before.before.before.before.before.before.before.before.before.before.before.before.before.before.before in
     let read = told.before.before.before in
-    omega (arith, ap filled_bytes told.t.given.1, started_room read.before.before.before.before.«open».result read.start_of_lem.result read.start_of_lem.ensures)
+    omega (arith, ap filled_bytes told.t.given.1, started_room read.before.before.before.before.«open».result read.start_of.result read.start_of.ensures)
 
 sub-show-files-2 : tie.Need-overflow-sub-show-files-2
 sub-show-files-2 c = search rules

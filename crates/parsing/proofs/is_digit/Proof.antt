@@ -1,7 +1,7 @@
 -- `parsing::is_digit` meets its contract.
 use borrow.Author.Tests.{le-leb, lt-leb}
-use Rattle.parsing.proofs.is_digit_lem.Statement.{statement}
-use Rattle.parsing.proofs.is_digit_lem.Tie as tie
+use Rattle.parsing.proofs.is_digit.Statement.{statement}
+use Rattle.parsing.proofs.is_digit.Tie as tie
 
 returns : tie.Need-returns
 returns c = rw (lt-leb _ _ c.if1.true)

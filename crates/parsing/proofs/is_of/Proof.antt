@@ -45,7 +45,7 @@ returns-3 c = ap not c.is-blank2.ensures ∙ sym (ap (λ (k : Class). is_of k c.
 
 returns-4 : tie.Need-returns-4
 unfolding is_of
-returns-4 c = c.is_digit_lem.ensures ∙ sym (ap (λ (k : Class). is_of k c.before.before.before.args.b) c.before.enum-told4.given.1)
+returns-4 c = c.is_digit.ensures ∙ sym (ap (λ (k : Class). is_of k c.before.before.before.args.b) c.before.enum-told4.given.1)
 
 returns-5 : tie.Need-returns-5
 unfolding is_of

@@ -4,8 +4,8 @@ use borrow.Author.Rules.{rules}
 use Rattle.chart.specs.Readings.{said_by}
 use Rattle.records.specs.declared.NamedChain.{NamedChain}
 use Rattle.shown.specs.Expected.{by_chain}
-use Rattle.shown.proofs.by_chain_lem.Statement.{statement}
-use Rattle.shown.proofs.by_chain_lem.Tie as tie
+use Rattle.shown.proofs.by_chain.Statement.{statement}
+use Rattle.shown.proofs.by_chain.Tie as tie
 
 enum-known-chain : tie.Need-enum-known-chain
 enum-known-chain c = search rules

@@ -58,7 +58,7 @@ returns-3 c =
     let told = chain.before.before in
     let count = told.before.before in
     let a = count.before.before.before.before.args in
-    c.by_chain_lem.ensures
+    c.by_chain.ensures
     ∙ ap (λ (n : NamedChain). by_chain n a.place) chain.chain-of.ensures
     ∙ on_grid _ a.table.now a.scale.now a.chain a.place (sym count.before.in-range.ensures ∙ not-false _ chain.before.if1.false)
     ∙ by_count told
