@@ -1,21 +1,16 @@
 -- The marks of a record's numbers, from its kind: two for an accepted record with two numbers, else none.
 use Prim.Native.Nat.{ℕ}
 use mathlib.Core.Path.{◌≡◌, refl, sym, ap, ◌∙◌}
-use mathlib.Core.Logic.{inl, inr}
 use mathlib.Core.Bool.{Bool, true, false, cond}
 use mathlib.Core.List.{List, [], ◌∷◌}
-use native.Mathlib.Omega.{arith}
 use lib.Ieee.{Float}
 use lib.ListN.{get_or}
-use denote.Enum.Declared.{tag_of}
-use types.Run.{OneOf}
 use Rattle.metres.specs.declared.Mark.{Mark}
 use Rattle.metres.specs.declared.Mark.TheVariants.{Equal}
 use Rattle.metres.specs.Marks.{mark_of, marked_of, is_rounded}
 use Rattle.records.specs.declared.LogRecord.{LogRecord}
 use Rattle.records.specs.declared.LogRecord.TheVariants as log
 use Rattle.records.specs.declared.LogEntry.{LogEntry}
-use Rattle.records.specs.contracts.LogEntry.{the_type}
 use Rattle.records.specs.declared.LogEntry.TheVariants as entry
 use Rattle.records.specs.declared.MarkedEntry.{MarkedEntry}
 use Rattle.records.specs.LogRecords.{log_record_of, placed, pair_of, with_pair, in_centimetres, log_entry_of}
@@ -23,14 +18,12 @@ use Rattle.records.specs.Marks.{numbers_used, is_accepted, marks_of, any_rounded
 use Rattle.records.specs.Gathered.{marked_as}
 
 -- An entry of any other kind than `Refused` is accepted.
-pub not_refused : (e : LogEntry) → OneOf (0 ∷ 1 ∷ 2 ∷ []) (tag_of the_type e) → is_accepted e ≡ true
+pub not_refused : (e : LogEntry) → ((n : ℕ) → e ≡ entry.Refused n → ⊥) → is_accepted e ≡ true
 unfolding is_accepted
 not_refused (entry.Readings a b) h = refl
 not_refused (entry.Place p) h = refl
 not_refused entry.Hold h = refl
-not_refused (entry.Refused number) (inl e) = absurd (omega arith)
-not_refused (entry.Refused number) (inr (inl e)) = absurd (omega arith)
-not_refused (entry.Refused number) (inr (inr e)) = absurd (omega arith)
+not_refused (entry.Refused number) h = absurd (h number refl)
 
 -- Two marks, or none, taken one by one.
 abbrev by_one : LogEntry → List Mark → MarkedEntry
