@@ -1,14 +1,10 @@
 -- A line put together from its pieces: its head, the entries of its places, and an answer's text from its figures and its list.
-use Prim.Native.Nat.{ℕ, ◌+◌, ◌*◌}
+use Prim.Native.Nat.{ℕ, ◌*◌}
 use mathlib.Core.Path.{◌≡◌, refl, sym, ap, ◌∙◌}
-use mathlib.Core.Logic.{inl, inr}
 use mathlib.Core.Bool.{Bool, true, false, cond}
 use mathlib.Core.List.{List, [], ◌∷◌, ◌++◌, append-nil, append_assoc}
-use native.Mathlib.Omega.{arith}
 use lib.Dec.{eqb}
 use lib.ListN.{length, take}
-use denote.Enum.Declared.{tag_of}
-use types.Run.{OneOf}
 use Rattle.chart.specs.declared.Place.{Place}
 use Rattle.search.specs.Answers.{entries_of}
 use Rattle.records.specs.declared.RawRecord.{RawRecord}
@@ -22,7 +18,6 @@ use Rattle.listing.specs.declared.Word.TheVariants as word
 use Rattle.listing.specs.declared.Told.{Told}
 use Rattle.listing.specs.Answers.{RecordAnswer, Fix, Grid, Hold, Refused, places_of, says_rounded}
 use Rattle.listing.specs.Listings.{head_of, places_text, answer_text, line_of}
-use Rattle.listing.specs.contracts.Word.{the_type}
 use Rattle.listing.specs.Putting.{Tells, word_text, word_of, figure_of, answer_visits, last_text}
 
 -- The head of a line: the line number of the raw record, or a dash if that is refused.
@@ -64,14 +59,12 @@ by_parts_lem (Hold p rounded) = refl
 by_parts_lem (Refused number visits) = ap (λ (z : List ℕ). bytes_in " REFUSED" ++ (spaced number ++ z)) (append-nil (spaced visits))
 
 -- The last field of an answer that is not refused.
-pub last_flag : (w : Word) (rounded : Bool) → OneOf (0 ∷ 1 ∷ 2 ∷ []) (tag_of the_type w) → flag_text rounded ≡ last_text w rounded
+pub last_flag : (w : Word) (rounded : Bool) → (w ≡ word.Refused → ⊥) → flag_text rounded ≡ last_text w rounded
 unfolding last_text
 last_flag word.Fix rounded key = refl
 last_flag word.Grid rounded key = refl
 last_flag word.Hold rounded key = refl
-last_flag word.Refused rounded (inl e) = absurd (omega arith)
-last_flag word.Refused rounded (inr (inl e)) = absurd (omega arith)
-last_flag word.Refused rounded (inr (inr e)) = absurd (omega arith)
+last_flag word.Refused rounded key = absurd (key refl)
 
 -- The text made from the figures and the list of an answer is the answer's text.
 pub told_text : (a : RecordAnswer) (t : Told) (l : List ℕ) → Tells a t l →

@@ -31,7 +31,7 @@ use Rattle.listing.specs.declared.Carried.{Carried}
 use Rattle.listing.specs.declared.Carried.TheVariants as carried
 use Rattle.listing.specs.declared.Word.TheVariants as word
 use Rattle.listing.specs.declared.Told.{Told}
-use Rattle.listing.specs.Answers.{RecordAnswer, Fix, Grid, Hold, Refused, searched, fix_by, answer_by, answer_of, places_of, says_rounded, only}
+use Rattle.listing.specs.Answers.{RecordAnswer, Grid, Hold, Refused, searched, fix_by, answer_by, answer_of, places_of, says_rounded, only}
 use Rattle.listing.specs.Putting.{Begins, Tells, list_entries, word_of, figure_of, answer_visits}
 
 -- A list that begins with one place, or with none.

@@ -1,5 +1,5 @@
 -- How the code puts lines into a buffer: what its private functions promise each other. No public contract refers to it.
-use Rattle.std.specs.Prelude.{ℕ, ◌+◌, ◌*◌, ◌≤◌, ◌≡◌, Bool, List, [], ◌++◌, length, take, drop}
+use Rattle.std.specs.Prelude.{ℕ, ◌*◌, ◌≤◌, ◌≡◌, Bool, List, [], ◌++◌, length, take, drop}
 use Rattle.chart.specs.declared.Place.{Place}
 use Rattle.search.specs.Answers.{entries_of}
 use Rattle.text.specs.Texts.{flag_text, bytes_in}

@@ -1,0 +1,28 @@
+-- `writing::clear_buffer` meets its contract: each turn of the loop makes one more byte zero.
+use Prim.Native.Nat.{ℕ}
+use mathlib.Core.Path.{ap, ◌∙◌}
+use native.Mathlib.Omega.{arith}
+use native.Mathlib.Nat.{sub-zero}
+use lib.ListN.{length, replicate, length-set}
+use Rattle.search.proofs.Clearing.{cleared_none, cleared_more, cleared_all}
+use Rattle.writing.proofs.clear_buffer.Goals as goal
+
+pub loop-i-init : goal.loop-i-init
+loop-i-init c = cleared_none 0 0 c.args.buffer.now
+
+pub overflow_add-i : goal.overflow_add-i
+overflow_add-i c = omega arith
+
+pub loop-i-smaller : goal.loop-i-smaller
+loop-i-smaller c = simp length-set (omega arith)
+
+pub loop-i-preserved : goal.loop-i-preserved
+loop-i-preserved c = cleared_more 0 _ _ _ _ (omega arith) c.loop-i.invariant
+
+pub shape_of-buffer : goal.shape_of-buffer
+shape_of-buffer c = c.loop-i.invariant.same
+
+pub returns : goal.returns
+returns c =
+    let s = c.args.buffer.now in
+    cleared_all 0 0 _ s _ (omega arith) c.loop-i.invariant ∙ ap (λ (n : ℕ). replicate n 0) (sub-zero (length s))
