@@ -13,6 +13,13 @@ for f in FILES:
     if new != text:
         open(f, "w", encoding="utf-8").write(new)
 
+# Functions of src/ keep their names, and so do the edits that name them.
+for f in sorted(glob.glob("crates/*/src/**/*.rt", recursive=True) + glob.glob("crates/*/must-fail/*.edit")):
+    text = open(f, encoding="utf-8").read()
+    new = re.sub(r"\b(is_digit|by_chain)_lem\b", r"\1", text)
+    if new != text:
+        open(f, "w", encoding="utf-8").write(new)
+
 fields = set()
 for f in FILES:
     inside = False

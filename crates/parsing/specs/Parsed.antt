@@ -3,13 +3,10 @@
 -- A line of another form is refused with 12, the number that 02 gives to such text.
 use Rattle.std.specs.Prelude.{ℕ, ◌+◌, cond, List}
 use Rattle.chart.specs.declared.Place.{Place}
-use Rattle.chart.specs.declared.Chain.{Chain}
 use Rattle.chart.specs.Factors.{unit_factor}
 use Rattle.search.specs.declared.Window.{Window}
-use Rattle.records.specs.declared.Job.{Job}
 use Rattle.records.specs.Bytes.{unless}
 use Rattle.records.specs.Jobs.{usual_allowance}
-use Rattle.writing.specs.declared.Draft.{Draft}
 use Rattle.parsing.specs.declared.ParsedJob.{ParsedJob}
 use Rattle.parsing.specs.declared.ParsedJob.TheVariants as job
 use Rattle.parsing.specs.declared.ParsedChain.{ParsedChain}

@@ -847,7 +847,7 @@ fn is_of(class: Class, b: u8) -> bool
         Class::InLine => b != b'\n',
         Class::Blank => is_blank(b),
         Class::InWord => !is_blank(b),
-        Class::Digit => is_digit_lem(b),
+        Class::Digit => is_digit(b),
         Class::NoPoint => b != b'.',
     }
 }
@@ -864,7 +864,7 @@ fn is_blank(b: u8) -> bool
     b == b'\r'
 }
 
-fn is_digit_lem(b: u8) -> bool
+fn is_digit(b: u8) -> bool
     ensures { result ≡ is_digit b }
 {
     if b < b'0' {

@@ -208,10 +208,10 @@ fn readings(table: &[u8], scale: &[u8], chain: u32, place: Place) -> Expected
     if !inside {
         return Expected::Refused(4);
     }
-    by_chain_lem(records::chain_of(table, scale, chain), place)
+    by_chain(records::chain_of(table, scale, chain), place)
 }
 
-fn by_chain_lem(chain: NamedChain, place: Place) -> Expected
+fn by_chain(chain: NamedChain, place: Place) -> Expected
     ensures { said_by result ≡ by_chain chain place }
 {
     match chain {
