@@ -1,8 +1,7 @@
 -- What comes next in a text, according to whether it has bytes and a newline; and that a line that comes next is in the buffer.
-use Rattle.std.proofs.Common.{◌≡◌, ℕ, ◌+◌, ◌-◌, ◌<◌, ◌≤◌, min, Bool, true, false, cond, ltb, List, [], ◌∷◌, ◌++◌, length, take, drop, sym, refl, ap, ◌∙◌, subst, inl, inr, arith, length-drop, length-take, take-take, take_at, ltb-true, le-ltb, lt-ltb}
+use Rattle.std.proofs.Common.{◌≡◌, ℕ, ◌+◌, ◌-◌, ◌<◌, ◌≤◌, min, Bool, true, false, cond, ltb, List, [], ◌∷◌, ◌++◌, length, take, drop, sym, refl, ap, ◌∙◌, subst, inl, inr, arith, length-drop, length-take, take_at, ltb-true, le-ltb, lt-ltb}
 use mathlib.Core.Path.{subst⁻¹}
 use denote.Enum.Declared.{tag_of}
-use borrow.Rule.Slice.PartMut.{put_mid, take_put}
 use types.Run.{OneOf}
 use Rattle.parsing.specs.Words.{run, is_in_line}
 use Rattle.files.specs.Input.{between, has_newline, next_in, at_end, Comes, failed, read, IsRead, is_there, NextBy, IsNext}
@@ -49,17 +48,17 @@ never_without true e = let z : ◌≡◌ {A = ℕ} 0 1 = cc in omega arith
 never_without false e = let z : ◌≡◌ {A = ℕ} 0 1 = cc in omega arith
 
 -- Nothing more needs to be read if a line comes next, and in no other case.
-pub line_there : (b : List ℕ) (from to : ℕ) {start end stop : ℕ} → input.Line start end stop ≡ next_in b from to → is_there b from to ≡ true
+pub line_there : (b : List ℕ) (from to : ℕ) {r : Input} {start end stop : ℕ} → r ≡ input.Line start end stop → r ≡ next_in b from to → is_there b from to ≡ true
 unfolding next_in
-line_there b from to {start} {end} {stop} e = go (has_newline (between from to b)) e
+line_there b from to {start = start} {end = end} {stop = stop} is e = go (has_newline (between from to b)) (sym is ∙ e)
   where
     go : (t : Bool) → input.Line start end stop ≡ cond t (input.Line from (from + newline_in b from to) to) (without from to) → t ≡ true
     go true same = refl
     go false same = absurd (never_without (ltb from to) same)
 
-pub not_there : (b : List ℕ) (from to : ℕ) → ((end : ℕ) → next_in b from to ≡ input.Line from end to → ⊥) → is_there b from to ≡ false
+pub not_there : (b : List ℕ) (from to : ℕ) {r : Input} → r ≡ next_in b from to → ((start end stop : ℕ) → r ≡ input.Line start end stop → ⊥) → is_there b from to ≡ false
 unfolding next_in
-not_there b from to never = go (has_newline (between from to b)) never
+not_there b from to e never = go (has_newline (between from to b)) (λ end is. never from end to (e ∙ is))
   where
     go : (t : Bool) → ((end : ℕ) → cond t (input.Line from (from + newline_in b from to) to) (without from to) ≡ input.Line from end to → ⊥) → t ≡ false
     go true none = absurd (none (from + newline_in b from to) refl)
@@ -75,10 +74,6 @@ pub next_read : (b : List ℕ) (from to stop : ℕ) {now : List ℕ} {r : Input}
 next_read b from to stop {now} {r} same none e =
     subst (λ (n : ℕ). NextBy (is_there b from n) b from n now r) same
     (subst⁻¹ (λ (t : Bool). NextBy t b from stop now r) none e)
-
--- What is read after the first `kept` bytes leaves them as they are.
-pub keeps_front : (kept end k : ℕ) (b more first : List ℕ) → kept ≤ end → end ≤ length b → take kept b ≡ first → take kept (put_mid end k b more) ≡ first
-keeps_front kept end k b more first few fits same = sym (take-take kept end (put_mid end k b more) few) ∙ ap (take kept) (take_put end k b more fits) ∙ take-take kept end b few ∙ same
 
 -- The text that was kept is at the front, whatever is read after it.
 pub is_read : (b : List ℕ) (from to kept : ℕ) (moved now : List ℕ) {r : Input} → kept ≡ length (between from to b) → moved ≡ between from to b ++ drop kept b →

@@ -1,9 +1,8 @@
 -- A word put after the words of a line makes a line of one word more.
 use Rattle.std.proofs.Common.{◌≡◌, ℕ, suc, ◌+◌, ◌-◌, ◌<◌, ◌≤◌, Bool, true, false, ◌&&◌, eqb, leb, List, [], ◌∷◌, ◌++◌, length, take, drop, set, sym, refl, ap, ◌∙◌, subst, add-one, arith, length-append, length-take, length-take-le, take-suc-set, take-add, leb-true}
-use mathlib.Core.Path.{subst⁻¹}
 use lib.Seq.{append_snoc}
 use Rattle.parsing.specs.Words.{run, is_in_word, is_one_word}
-use Rattle.files.specs.Answers.{AreWords, none, one, more, IsLineOf, IsGiven, IsArguments, IsSpare, PutsWord}
+use Rattle.files.specs.Answers.{AreWords, none, one, more, IsLineOf, IsArguments, PutsWord}
 use Rattle.files.specs.declared.Words.{Words}
 use Rattle.files.specs.declared.Words.TheVariants as words
 
@@ -58,19 +57,6 @@ puts_next before now (words.Line e) n end i some room puts ws which =
 puts_next before now (words.Unfit k) n end i some room puts ws which = omega (arith, puts, which)
 puts_next before now words.Helped n end i some room puts ws which = puts
 
--- What holds for the arguments, whether or not help is asked for.
-pub given_line : (asked : Bool) (line : List ℕ) (r : Words) → IsGiven asked line r → IsArguments line r
-given_line true line r same = subst⁻¹ (IsArguments line) same tt
-given_line false line (words.Line n) given = (given.1.0, (given.0, given.1.1))
-given_line false line (words.Unfit i) given = tt
-given_line false line words.Helped given = tt
-
 -- The line of the arguments ends within its buffer.
 pub line_inside : (line : List ℕ) (r : Words) {n : ℕ} → IsArguments line r → r ≡ words.Line n → n ≤ length line
 line_inside line r given is = (subst (IsArguments line) is given).0
-
--- In a buffer of one byte it has at most one byte.
-pub is_spare : (line : List ℕ) (r : Words) → length line ≡ 1 → IsArguments line r → IsSpare r
-is_spare line (words.Line n) size given = omega (arith, given.0, size)
-is_spare line (words.Unfit i) size given = tt
-is_spare line words.Helped size given = tt

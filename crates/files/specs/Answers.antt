@@ -1,5 +1,10 @@
 -- What the functions promise about their answers: an opened file, how much of a buffer is filled, and the line of the arguments.
-use Rattle.std.specs.Prelude.{◌≡◌, ℕ, suc, ◌-◌, ◌<◌, ◌≤◌, Bool, true, false, cond, T, List, [], ◌∷◌, ◌++◌, length, take, drop, ℤ, pos, negsuc, ◌==◌}
+use Rattle.std.specs.Prelude.{◌≡◌, ℕ, suc, ◌-◌, ◌<◌, ◌≤◌, Bool, true, false, cond, T, List, [], ◌∷◌, ◌++◌, length, take, drop, ℤ, pos, ◌==◌, Option, None, Some, Result, Ok, Err}
+use Rattle.std.specs.Ordering.{int_eq}
+use Rattle.std.specs.Fd.{file_raw_fd}
+use Rattle.std.specs.declared.fs.File.{File}
+use Rattle.std.specs.declared.io.Error.{Error}
+use Rattle.std.specs.IoError.{raw_os_error}
 use Rattle.std.specs.Int.Signed.{non_neg}
 use Rattle.parsing.specs.Words.{is_one_word}
 use Rattle.files.specs.declared.Opened.{Opened}
@@ -13,24 +18,27 @@ use Rattle.files.specs.declared.Words.TheVariants as words
 
 -- A file that was opened has a descriptor, which is not below 0.
 abbrev pub IsOpen : Opened → Type 0
-IsOpen (opened.File descriptor) = T (non_neg descriptor)
+IsOpen (opened.File file) = T (non_neg (file_raw_fd file))
 IsOpen opened.Missing = Unit {0}
 IsOpen opened.Failed = Unit {0}
 
 -- The same for a fresh file.
 abbrev pub IsBegun : Begun → Type 0
-IsBegun (begun.File descriptor) = T (non_neg descriptor)
+IsBegun (begun.File file) = T (non_neg (file_raw_fd file))
 IsBegun begun.Failed = Unit {0}
 
--- The result of opening a file, from what the system call returned and, if that is below 0, from the error: 2, which is ENOENT,
--- means that there is no such file.
-abbrev pub not_opened : ℤ → Opened
-not_opened (pos error) = cond (error == 2) opened.Missing opened.Failed
-not_opened (negsuc n) = opened.Failed
+-- Whether a call failed with an error of the operating system that has this number.
+abbrev pub is_error : Option ℤ → ℤ → Bool
+is_error None number = false
+is_error (Some n) number = int_eq n number
 
-abbrev pub opened_by : ℤ → ℤ → Opened
-opened_by (pos n) error = opened.File (pos n)
-opened_by (negsuc n) error = not_opened error
+-- The result of opening a file, from what the call returned: error 2, which is ENOENT, means that there is no such file.
+abbrev pub not_opened : Error → Opened
+not_opened error = cond (is_error (raw_os_error error) (pos 2)) opened.Missing opened.Failed
+
+abbrev pub opened_by : Result File Error → Opened
+opened_by (Ok file) = cond (non_neg (file_raw_fd file)) (opened.File file) opened.Failed
+opened_by (Err error) = not_opened error
 
 -- How many bytes were read.
 abbrev pub filled_bytes : Filled → ℕ
@@ -42,7 +50,7 @@ no_bytes = filled.Bytes 0
 
 -- The answer when the start of a file is read into a buffer of `room` bytes, according to how opening the file went.
 abbrev pub IsStarted : Opened → ℕ → Filled → Type 0
-IsStarted (opened.File descriptor) room r = filled_bytes r ≤ room
+IsStarted (opened.File file) room r = filled_bytes r ≤ room
 IsStarted opened.Missing room r = r ≡ no_bytes
 IsStarted opened.Failed room r = r ≡ filled.Failed
 

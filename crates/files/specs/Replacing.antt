@@ -1,5 +1,5 @@
 -- Which files may be replaced, and when two are the same, from what the operating system says about them.
-use Rattle.std.specs.Prelude.{ℕ, ◌/◌, ◌%◌, Bool, cond, not, ◌&&◌, ◌||◌, ◌==◌}
+use Rattle.std.specs.Prelude.{ℕ, if◌then◌else◌, ◌/◌, ◌%◌, Bool, cond, not, ◌&&◌, ◌||◌, ◌==◌}
 use Rattle.files.specs.declared.system.Seen.{Seen}
 
 -- The four bits of the mode above the twelve of the permissions say of what kind a file is: 8 for a regular file.
@@ -21,3 +21,10 @@ is_replaceable old writable = is_regular old.mode && (old.names == 1 && (writabl
 -- A name that is no link may be replaced if its file may be, or if there is none.
 abbrev pub may_replace : Bool → Seen → Bool → Bool → Bool
 may_replace link old missing writable = not link && cond old.found (is_replaceable old writable) missing
+
+-- A user may make a file in a folder by its mode: root may, and else the bits of 128, 16 and 2 say so, of the owner, of the group and
+-- of all others. A user whose first group is another may still be in the folder's.
+abbrev pub may_make : Seen → ℕ → ℕ → Bool
+may_make folder user group =
+    user == 0 || (if user == folder.owner then folder.mode / 128 % 2 == 1 else
+    (if group == folder.group then folder.mode / 16 % 2 == 1 else (folder.mode / 16 % 2 == 1 || folder.mode / 2 % 2 == 1)))

@@ -2,8 +2,9 @@
 ghost use Rattle.std.specs.Prelude.{◌≡◌, ◌≤◌, min, ◌++◌, length, take, drop};
 ghost use Rattle.files.specs.Input.{IsRead, Comes, next_in, between};
 
-use crate::{Input, failed};
-use libc::STDIN_FILENO;
+use crate::{EprintBytes, Input, failed};
+use std::io;
+use std::io::Read;
 
 pub(crate) fn least(a: usize, b: usize) -> usize
     ensures { result ≡ min a b }
@@ -34,29 +35,42 @@ pub(crate) fn next_in(buffer: &[u8], from: usize, to: usize) -> Input
 }
 
 // Moves the text from `from` up to `to` to the front of the buffer, reads more after it, and returns what comes next.
-pub(crate) fn read_more(tool: &[u8], buffer: &mut [u8], from: usize, to: usize) -> Input
+pub(crate) fn read_more(
+    rt: &(impl io::Input + EprintBytes),
+    tool: &[u8],
+    buffer: &mut [u8],
+    from: usize,
+    to: usize,
+) -> Input
     requires { to ≤ length buffer.old }
     ensures { IsRead buffer.old from to buffer.new result }
 {
     let kept = front(buffer, from, to);
-    read_line(tool, buffer, kept)
+    read_line(rt, tool, buffer, kept)
 }
 
 // Reads after the first `kept` bytes of a buffer, as much as there is at a time, until there is a newline, the buffer is full or
 // the input ends.
-fn read_line(tool: &[u8], buffer: &mut [u8], kept: usize) -> Input
+fn read_line(
+    rt: &(impl io::Input + EprintBytes),
+    tool: &[u8],
+    buffer: &mut [u8],
+    kept: usize,
+) -> Input
     requires { kept ≤ length buffer.old }
     ensures kept { take kept buffer.new ≡ take kept buffer.old }
     ensures next { Comes kept buffer.new result }
 {
+    let mut input = rt.reader();
     let mut end = kept;
     while end < buffer.len() {
-        let got = libc::read(STDIN_FILENO, &mut buffer[end..]);
-        if got < 0 {
-            failed(tool, b"standard input");
-            return Input::Failed;
-        }
-        let more = io::count(got, &buffer[end..]);
+        let more = match input.read(&mut buffer[end..]) {
+            Ok(more) => more,
+            Err(error) => {
+                failed(rt, tool, b"standard input", error);
+                return Input::Failed;
+            }
+        };
         if more == 0 {
             return next_in(buffer, 0, end);
         }
@@ -75,12 +89,9 @@ fn front(buffer: &mut [u8], from: usize, to: usize) -> usize
     ensures count { result ≡ length (between from to buffer.old) }
     ensures buffer { buffer.new ≡ between from to buffer.old ++ drop result buffer.old }
 {
-    let mut n = 0;
-    let mut at = from;
-    while at < to {
-        buffer[n] = buffer[at];
-        n += 1;
-        at += 1;
+    if from >= to {
+        return 0;
     }
-    n
+    buffer.copy_within(from..to, 0);
+    to - from
 }

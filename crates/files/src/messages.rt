@@ -2,6 +2,9 @@
 ghost use Rattle.std.specs.Prelude.{◌≡◌, ◌≤◌, length};
 ghost use Rattle.files.specs.Messages.{shown_byte};
 
+use std::fmt::Write;
+use std::{fmt, io};
+
 // At most this many bytes of a word are shown.
 const SHOWN_BYTES: usize = 40;
 
@@ -30,6 +33,60 @@ pub(crate) fn put_subject(out: &mut [u8], tool: &[u8], subject: &[u8]) -> usize
     let a = put(out, 0, tool);
     let b = put(out, a, b": ");
     put(out, b, subject)
+}
+
+// TOOL: SUBJECT: why the operating system failed, and a newline.
+pub(crate) fn put_failure(out: &mut [u8], tool: &[u8], subject: &[u8], error: io::Error) -> usize
+    ensures { result ≤ length out.new }
+{
+    let a = put_subject(out, tool, subject);
+    let b = put(out, a, b": ");
+    let c = put_reason(out, b, error);
+    put(out, c, b"\n")
+}
+
+// Why the operating system failed, without the number of the error.
+fn put_reason(out: &mut [u8], at: usize, error: io::Error) -> usize
+    requires { at ≤ length out.old }
+    ensures { result ≤ length out.new }
+{
+    let mut reason = Reason {
+        bytes: [0; REASON_BYTES],
+        end: 0,
+    };
+    let _ = reason.write(error);
+    let n = reason.end.min(REASON_BYTES);
+    let text = &reason.bytes[..n];
+    put(out, at, &text[..number_at(text)])
+}
+
+// The text of an error, as it is put together.
+#[derive(Drop)]
+struct Reason {
+    bytes: [u8; REASON_BYTES],
+    end: usize,
+}
+
+const REASON_BYTES: usize = 256;
+
+impl fmt::Write for Reason {
+    fn write_str(&mut self, s: &str) -> fmt::Result {
+        let at = self.end.min(REASON_BYTES);
+        self.end = put(&mut self.bytes, at, s.as_bytes());
+        Ok(())
+    }
+}
+
+// Where the number of an error begins in its text, after a space and a bracket: at the text's end if it has none.
+fn number_at(text: &[u8]) -> usize
+    ensures { result ≤ length text.now }
+{
+    for i in 0..text.len() {
+        if text[i] == b'(' {
+            return i.saturating_sub(1);
+        }
+    }
+    text.len()
 }
 
 // TOOL: REFUSED N: SENTENCE, with the number of the line before it if that is not 0, and a newline.
@@ -88,7 +145,7 @@ fn put_place(out: &mut [u8], word: usize) -> usize
     ensures { result ≤ length out.new }
 {
     let a = put(out, 0, b"word ");
-    put_number(out, a, std::num::wrapping_add_u64(word as u64, 1))
+    put_number(out, a, (word as u64).wrapping_add(1))
 }
 
 // The start of a text as it is shown, and two dots if there is more.
@@ -127,6 +184,15 @@ pub(crate) fn put_empty(out: &mut [u8], name: &[u8]) -> usize
 {
     let a = put(out, 0, name);
     put(out, a, b" is missing, and counts as empty")
+}
+
+// NAME.scr and the number of the try in three digits: the name of a scratch file.
+pub(crate) fn put_scratch(out: &mut [u8], name: &[u8], i: u32) -> usize
+    ensures { result ≤ length out.new }
+{
+    let a = put(out, 0, name);
+    let b = put(out, a, b".scr");
+    put_number(out, b, 100 + i as u64)
 }
 
 // That a fresh file is there and is waited for.

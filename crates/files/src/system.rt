@@ -1,17 +1,20 @@
-// What the operating system tells about a file, and a short wait. C fills a struct that it is lent, which is proved by hand: the
-// functions that lend one do nothing else.
-ghost use Rattle.std.specs.Prelude.{◌≡◌, true, false, pos};
-ghost use Rattle.libc.specs.Io.{Ended};
-ghost use Rattle.files.specs.Replacing.{is_regular, same_file};
+// What the operating system tells about a file, and a short wait.
+ghost use Rattle.std.specs.Prelude.{◌≡◌, IfOk};
+ghost use Rattle.files.specs.Replacing.{is_regular, same_file, may_make};
 
-use libc::PATH_MAX;
-use libc::types::{stat, timespec};
+use std::fs::{File, Metadata, OpenOptions};
+use std::io::ErrorKind;
+use std::os::unix::fs::MetadataExt;
+use std::rt::{Clock, Files};
+use std::time::Duration;
+use std::{fs, io, thread};
 
-const LAST: usize = PATH_MAX - 1;
+// The error of a call that is not allowed.
+const EACCES: i32 = 13;
 
 // A file, as the operating system knows it: its kind and permissions, how many names it has, what tells it from every other
-// file, and whose it is. If it is not found, errno says why, and the rest means nothing.
-#[derive(Drop)]
+// file, and whose it is. If it is not found, `error` says why, and the rest means nothing.
+#[derive(Clone, Copy)]
 pub struct Seen {
     pub found: bool,
     pub mode: u32,
@@ -20,26 +23,83 @@ pub struct Seen {
     pub number: u64,
     pub owner: u32,
     pub group: u32,
+    pub error: io::Error,
 }
 
-// The file that a name leads to, also through a link. A name that is too long for the operating system is cut, which does no
-// harm: the call that then opens, makes or renames it fails.
-pub(crate) fn of_name(name: &[u8]) -> Seen {
-    let path = ended(name);
-    of_path(&path)
+// The file that a name leads to, also through a link.
+pub(crate) fn of_name(files: &impl Files, name: &[u8]) -> Seen {
+    told(looked_at(files, name))
+}
+
+fn looked_at(files: &impl Files, name: &[u8]) -> io::Result<Metadata> {
+    fs::metadata(files, path(name)?)
+}
+
+// Opens a file to read.
+pub(crate) fn opened(files: &impl Files<File = File>, name: &[u8]) -> io::Result<File> {
+    fs::open(files, path(name)?)
+}
+
+// The file that was opened.
+pub(crate) fn of_file(file: &File) -> Seen {
+    told(file.metadata())
 }
 
 // Whether a name is a link.
-pub(crate) fn is_link(name: &[u8]) -> bool {
-    let path = ended(name);
-    let mut text = [0u8; 1];
-    libc::readlink(&path, &mut text) >= 0
+pub(crate) fn is_link(files: &impl Files, name: &[u8]) -> bool {
+    match path(name) {
+        Ok(text) => leads_on(fs::symlink_metadata(files, text)),
+        Err(_) => false,
+    }
 }
 
-// Whether this user may write to a file, or into a folder.
-pub(crate) fn may_write(name: &[u8]) -> bool {
-    let path = ended(name);
-    libc::access(&path, libc::W_OK) == 0
+fn leads_on(seen: io::Result<Metadata>) -> bool {
+    match seen {
+        Ok(seen) => seen.is_symlink(),
+        Err(_) => false,
+    }
+}
+
+// Whether this user may write to a regular file. It is opened for that, and nothing is written. Another file is not opened: a FIFO
+// would wait.
+pub(crate) fn may_write(files: &impl Files, name: &[u8], old: Seen) -> bool {
+    if !old.found || !is_regular(old.mode) {
+        return false;
+    }
+    match path(name) {
+        Ok(text) => OpenOptions::new().write(true).open(files, text).is_ok(),
+        Err(_) => false,
+    }
+}
+
+// Whether this user may make a file in the folder, as far as its mode tells; or the error that making one would give. The folder
+// /proc/self is the user's own, as the process runs.
+pub(crate) fn folder_error(files: &impl Files) -> Option<io::Error> {
+    let folder = of_name(files, b".");
+    if !folder.found {
+        return Some(folder.error);
+    }
+    let process = of_name(files, b"/proc/self");
+    if process.found && !may_make(folder, process.owner, process.group) {
+        return Some(io::Error::from_raw_os_error(EACCES));
+    }
+    None
+}
+
+// Whether a user may make a file in a folder, by its mode. The first group alone is known of those that a user is in.
+fn may_make(folder: Seen, user: u32, group: u32) -> bool
+    ensures { result ≡ may_make folder user group }
+{
+    if user == 0 {
+        return true;
+    }
+    if user == folder.owner {
+        return folder.mode / 128 % 2 == 1;
+    }
+    if group == folder.group {
+        return folder.mode / 16 % 2 == 1;
+    }
+    folder.mode / 16 % 2 == 1 || folder.mode / 2 % 2 == 1
 }
 
 // Whether the mode is that of a regular file: no folder, FIFO, device or socket.
@@ -65,85 +125,43 @@ pub(crate) fn is_same(a: Seen, b: Seen) -> bool
     a.number == b.number
 }
 
-// A name as C wants it: its bytes, as far as there is room, and then zeros.
-fn ended(name: &[u8]) -> [u8; PATH_MAX]
-    ensures { Ended result }
+// A name as a path. One that is no text in UTF-8 is none.
+pub(crate) fn path(name: &[u8]) -> io::Result<&str>
+    ensures { IfOk result (λ text. text.now ≡ name.now) }
 {
-    let mut path = io::buffer();
-    let mut i = 0;
-    while i < name.len() {
-        if i >= LAST {
-            break;
-        }
-        path[i] = name[i];
-        i += 1;
-    }
-    path[LAST] = 0;
-    path
-}
-
-// The file at a path. The struct is lent to C.
-fn of_path(path: &[u8; PATH_MAX]) -> Seen
-    requires { Ended path.now }
-{
-    let mut s = nothing();
-    let status = libc::stat(path, &mut s);
-    told(status, s)
-}
-
-// The file behind a descriptor. The struct is lent to C.
-pub(crate) fn of_file(file: i32) -> Seen {
-    let mut s = nothing();
-    let status = libc::fstat(file, &mut s);
-    told(status, s)
-}
-
-// Waits 100 ms, or less if a signal ends the wait. The structs are lent to C.
-pub(crate) fn wait() {
-    let asked = tenth();
-    let mut left = tenth();
-    libc::nanosleep(&asked, &mut left);
-}
-
-fn tenth() -> timespec {
-    timespec {
-        tv_sec: 0,
-        tv_nsec: 100_000_000,
+    match str::from_utf8(name) {
+        Ok(text) => Ok(text),
+        Err(_) => Err(io::Error::from(ErrorKind::InvalidFilename)),
     }
 }
 
-fn nothing() -> stat {
-    let t = timespec {
-        tv_sec: 0,
-        tv_nsec: 0,
-    };
-    stat {
-        st_dev: 0,
-        st_ino: 0,
-        st_nlink: 0,
-        st_mode: 0,
-        st_uid: 0,
-        st_gid: 0,
-        __pad: 0,
-        st_rdev: 0,
-        st_size: 0,
-        st_blksize: 0,
-        st_blocks: 0,
-        st_atim: t,
-        st_mtim: t,
-        st_ctim: t,
-        __unused: [0i64; 3],
-    }
+// Waits 100 ms.
+pub(crate) fn wait(clock: &impl Clock) {
+    thread::sleep(clock, Duration::from_millis(100));
 }
 
-fn told(status: i32, s: stat) -> Seen {
-    Seen {
-        found: status == 0,
-        mode: s.st_mode,
-        names: s.st_nlink,
-        device: s.st_dev,
-        number: s.st_ino,
-        owner: s.st_uid,
-        group: s.st_gid,
+// What was seen of a file. Error 0 is none.
+fn told(seen: io::Result<Metadata>) -> Seen {
+    match seen {
+        Ok(seen) => Seen {
+            found: true,
+            mode: seen.mode(),
+            names: seen.nlink(),
+            device: seen.dev(),
+            number: seen.ino(),
+            owner: seen.uid(),
+            group: seen.gid(),
+            error: io::Error::from_raw_os_error(0),
+        },
+        Err(error) => Seen {
+            found: false,
+            mode: 0,
+            names: 0,
+            device: 0,
+            number: 0,
+            owner: 0,
+            group: 0,
+            error,
+        },
     }
 }

@@ -4,15 +4,19 @@
 #![tactic(auto)]
 
 use chart::Place;
-use files::{Filled, Opened, Words};
+use files::{EprintBytes, Filled, Opened, Words};
 use parsing::{Form, ParsedQuestion};
 use records::ChainCount;
 use shown::Line;
+use std::fs::File;
+use std::io::Print;
+use std::rt::{Env, Files};
 
-fn main() {
+fn main(rt: HostRuntime) {
     // Without the newline, which the arguments do not have.
     let mut line = [0u8; files::LINE_BYTES - 1];
     let words = files::arguments(
+        &rt,
         b"layexpect",
         &mut line,
         b"layexpect CHAIN E N prints the readings expected at a place, for a chain of chain.dat, with its scale
@@ -31,14 +35,15 @@ The readings at (30000, 40000) for chain 1:
 ",
     );
     match words {
-        Words::Line(n) => take(&line[0..n]),
-        Words::Unfit(which) => unfit(which),
+        Words::Line(n) => take(&rt, &line[0..n]),
+        Words::Unfit(which) => unfit(&rt, which),
         Words::Helped => {}
     }
 }
 
-fn unfit(which: usize) {
+fn unfit(rt: &(impl Env + EprintBytes), which: usize) {
     files::refused_argument(
+        rt,
         b"layexpect",
         12,
         which,
@@ -46,88 +51,120 @@ fn unfit(which: usize) {
     );
 }
 
-fn take(line: &[u8]) {
+fn take(rt: &(impl Files<File = File> + Print + EprintBytes), line: &[u8]) {
     match parsing::question(line) {
-        ParsedQuestion::Question { chain, place } => answer(line, chain, place),
-        ParsedQuestion::Refused(_) => other_form(line),
+        ParsedQuestion::Question { chain, place } => answer(rt, line, chain, place),
+        ParsedQuestion::Refused(_) => other_form(rt, line),
     }
 }
 
-fn other_form(line: &[u8]) {
-    files::refused_form(b"layexpect", 0, line, Form::Question);
+fn other_form(rt: &impl EprintBytes, line: &[u8]) {
+    files::refused_form(rt, b"layexpect", 0, line, Form::Question);
 }
 
-fn answer(line: &[u8], chain: u32, place: Place) {
+fn answer(
+    rt: &(impl Files<File = File> + Print + EprintBytes),
+    line: &[u8],
+    chain: u32,
+    place: Place,
+) {
     // One byte more than the longest table, so that a file that is too long is noticed.
     let mut table = [0u8; records::TABLE_BYTES + 1];
-    let file = files::open(b"layexpect", b"chain.dat");
-    let Filled::Bytes(n) = files::start_of(file, b"layexpect", b"chain.dat", &mut table) else {
+    let file = files::open(rt, b"layexpect", b"chain.dat");
+    let Filled::Bytes(n) = files::start_of(rt, &file, b"layexpect", b"chain.dat", &mut table) else {
         return;
     };
-    with_scale(line, &table[0..n], file, chain, place);
+    with_scale(rt, line, &table[0..n], file, chain, place);
 }
 
 // `file` is the table's: it must still be there when the side file has been read, since the two belong together.
-fn with_scale(line: &[u8], table: &[u8], file: Opened, chain: u32, place: Place) {
+fn with_scale(
+    rt: &(impl Files<File = File> + Print + EprintBytes),
+    line: &[u8],
+    table: &[u8],
+    file: Opened,
+    chain: u32,
+    place: Place,
+) {
     let mut scale = [0u8; records::SCALE_BYTES + 1];
-    let Filled::Bytes(n) = files::start(b"layexpect", b"scale.dat", &mut scale) else {
+    let Filled::Bytes(n) = files::start(rt, b"layexpect", b"scale.dat", &mut scale) else {
         return;
     };
-    if files::is_still(b"layexpect", b"chain.dat", file) {
-        print_expected(line, table, &scale[0..n], chain, place);
+    if files::is_still(rt, b"layexpect", b"chain.dat", &file) {
+        print_expected(rt, line, table, &scale[0..n], chain, place);
     }
 }
 
-fn print_expected(line: &[u8], table: &[u8], scale: &[u8], chain: u32, place: Place) {
+fn print_expected(
+    rt: &(impl Print + EprintBytes),
+    line: &[u8],
+    table: &[u8],
+    scale: &[u8],
+    chain: u32,
+    place: Place,
+) {
     let mut out = [0u8; shown::LINE_ROOM];
     match shown::expected(&mut out, table, scale, chain, place) {
-        Line::Text(n) => print(&out[0..n]),
-        Line::Refused(number) => refuse(line, table, chain, place, number),
+        Line::Text(n) => print(rt, &out[0..n]),
+        Line::Refused(number) => refuse(rt, line, table, chain, place, number),
     }
 }
 
-fn print(text: &[u8]) {
-    files::print(b"layexpect", text);
+fn print(rt: &(impl Print + EprintBytes), text: &[u8]) {
+    files::print(rt, b"layexpect", text);
 }
 
-fn refuse(line: &[u8], table: &[u8], chain: u32, place: Place, number: u32) {
+fn refuse(rt: &impl EprintBytes, line: &[u8], table: &[u8], chain: u32, place: Place, number: u32) {
     match number {
-        4 => refuse_place(line, parsing::place_fault(place)),
-        5 => refuse_chain(line, table, chain),
-        _ => refuse_length(table),
+        4 => refuse_place(rt, line, parsing::place_fault(place)),
+        5 => refuse_chain(rt, line, table, chain),
+        _ => refuse_length(rt, table),
     }
 }
 
 // The table is tested first.
-fn refuse_length(table: &[u8]) {
+fn refuse_length(rt: &impl EprintBytes, table: &[u8]) {
     match records::chain_count(table) {
         ChainCount::Refused(_) => {
-            refused_file(b"chain.dat was expected to hold 1 to 16 chains of 24 bytes")
+            refused_file(
+                rt,
+                b"chain.dat was expected to hold 1 to 16 chains of 24 bytes",
+            )
         }
         ChainCount::Chains(_) => {
-            refused_file(b"scale.dat was expected to hold 4 bytes for each chain of chain.dat")
+            refused_file(
+                rt,
+                b"scale.dat was expected to hold 4 bytes for each chain of chain.dat",
+            )
         }
     }
 }
 
-fn refused_file(sentence: &[u8]) {
-    files::refused(b"layexpect", 0, 1, sentence);
+fn refused_file(rt: &impl EprintBytes, sentence: &[u8]) {
+    files::refused(rt, b"layexpect", 0, 1, sentence);
 }
 
-fn refuse_place(line: &[u8], fault: usize) {
+fn refuse_place(rt: &impl EprintBytes, line: &[u8], fault: usize) {
     match fault {
-        0 => refused(line, 4, 1, b"the easting is 0 to 100000000 centimetres"),
-        _ => refused(line, 4, 2, b"the northing is 0 to 1000000000 centimetres"),
+        0 => refused(rt, line, 4, 1, b"the easting is 0 to 100000000 centimetres"),
+        _ => refused(
+            rt,
+            line,
+            4,
+            2,
+            b"the northing is 0 to 1000000000 centimetres",
+        ),
     }
 }
 
 // A chain of the table that is refused is not sound.
-fn refuse_chain(line: &[u8], table: &[u8], chain: u32) {
+fn refuse_chain(rt: &impl EprintBytes, line: &[u8], table: &[u8], chain: u32) {
     let ChainCount::Chains(n) = records::chain_count(table) else {
         return;
     };
     if records::one_to(n, chain) {
         refused(
+            rt,
             line,
             5,
             0,
@@ -135,9 +172,9 @@ fn refuse_chain(line: &[u8], table: &[u8], chain: u32) {
         );
         return;
     }
-    refused(line, 5, 0, b"chain.dat has no chain of this number");
+    refused(rt, line, 5, 0, b"chain.dat has no chain of this number");
 }
 
-fn refused(line: &[u8], number: u32, word: usize, sentence: &[u8]) {
-    files::refused_word(b"layexpect", 0, number, line, word, sentence);
+fn refused(rt: &impl EprintBytes, line: &[u8], number: u32, word: usize, sentence: &[u8]) {
+    files::refused_word(rt, b"layexpect", 0, number, line, word, sentence);
 }

@@ -2,14 +2,18 @@
 // reported on standard error; then the file stays as it was.
 #![tactic(auto)]
 
-use files::Words;
+use files::{EprintBytes, Words};
 use parsing::{Form, ParsedJob};
 use records::Job;
+use std::fs::File;
+use std::io::Print;
+use std::rt::{Clock, Env, Files};
 
-fn main() {
+fn main(rt: HostRuntime) {
     // Without the newline, which the arguments do not have.
     let mut line = [0u8; files::LINE_BYTES - 1];
     let words = files::arguments(
+        &rt,
         b"layjob",
         &mut line,
         b"layjob E N K T [ALLOWANCE] writes job.dat, the job of a search, in place of the one in this folder.
@@ -33,14 +37,15 @@ The window of 2 by 2 cells at (30000, 40000), tolerance 0, 100 visits:
 ",
     );
     match words {
-        Words::Line(n) => take(&line[0..n]),
-        Words::Unfit(which) => unfit(which),
+        Words::Line(n) => take(&rt, &line[0..n]),
+        Words::Unfit(which) => unfit(&rt, which),
         Words::Helped => {}
     }
 }
 
-fn unfit(which: usize) {
+fn unfit(rt: &(impl Env + EprintBytes), which: usize) {
     files::refused_argument(
+        rt,
         b"layjob",
         12,
         which,
@@ -48,55 +53,64 @@ fn unfit(which: usize) {
     );
 }
 
-fn take(line: &[u8]) {
+fn take(rt: &(impl Files<File = File> + Clock + Print + EprintBytes), line: &[u8]) {
     match parsing::job(line) {
-        ParsedJob::Job(j) => write(line, j),
-        ParsedJob::Refused(_) => other_form(line),
+        ParsedJob::Job(j) => write(rt, line, j),
+        ParsedJob::Refused(_) => other_form(rt, line),
     }
 }
 
-fn other_form(line: &[u8]) {
-    files::refused_form(b"layjob", 0, line, Form::Job);
+fn other_form(rt: &impl EprintBytes, line: &[u8]) {
+    files::refused_form(rt, b"layjob", 0, line, Form::Job);
 }
 
-fn write(line: &[u8], j: Job) {
+fn write(rt: &(impl Files<File = File> + Clock + Print + EprintBytes), line: &[u8], j: Job) {
     let mut bytes = [0u8; records::JOB_BYTES];
     let refusal = writing::write_job(&mut bytes, j);
     if refusal != 0 {
-        refuse(line, refusal, parsing::job_fault(refusal, j));
+        refuse(rt, line, refusal, parsing::job_fault(refusal, j));
         return;
     }
     if files::replace(
+        rt,
         b"layjob",
         b"job.dat",
         b"job.dat.new",
         &bytes,
         files::START_TRIES,
     ) {
-        files::job_written(b"layjob", j.allowance);
+        files::job_written(rt, b"layjob", j.allowance);
     }
 }
 
 // Prints the refusal of a job whose words are of the form, with the word at fault.
-fn refuse(line: &[u8], number: u32, word: usize) {
+fn refuse(rt: &impl EprintBytes, line: &[u8], number: u32, word: usize) {
     match word {
         0 => refused(
+            rt,
             line,
             number,
             0,
             b"the cells of the window have eastings of 0 to 100000000, from E up to E + 2^K - 1",
         ),
         1 => refused(
+            rt,
             line,
             number,
             1,
             b"the cells of the window have northings of 0 to 1000000000, from N up to N + 2^K - 1",
         ),
-        2 => refused(line, number, 2, b"the exponent is 0 to 24"),
-        _ => refused(line, number, 3, b"the tolerance is 0 to 100000 centimetres"),
+        2 => refused(rt, line, number, 2, b"the exponent is 0 to 24"),
+        _ => refused(
+            rt,
+            line,
+            number,
+            3,
+            b"the tolerance is 0 to 100000 centimetres",
+        ),
     }
 }
 
-fn refused(line: &[u8], number: u32, word: usize, sentence: &[u8]) {
-    files::refused_word(b"layjob", 0, number, line, word, sentence);
+fn refused(rt: &impl EprintBytes, line: &[u8], number: u32, word: usize, sentence: &[u8]) {
+    files::refused_word(rt, b"layjob", 0, number, line, word, sentence);
 }
