@@ -1,5 +1,5 @@
 -- `laywrite::cut` keeps what waits only at a keyboard.
-use Rattle.std.proofs.Common.{Bool, cond, sym, ap, ◌∙◌, rules}
+use Rattle.std.proofs.Common.{Bool, cond, sym, ap, ◌∙◌}
 use Rattle.laywrite.specs.Waiting.{all_dropped}
 use Rattle.laywrite.proofs.cut.Goals as goal
 

@@ -1,7 +1,6 @@
 -- `laywrite::each_line` ends: it counts the lines up to a limit. After each line, what waits are records of accepted drafts.
-use Rattle.std.proofs.Common.{◌≡◌, ℕ, List, ◌-◌, ◌^◌, length, take, drop, subst, arith, rules}
+use Rattle.std.proofs.Common.{◌≡◌, ℕ, List, ◌-◌, take, drop, subst, arith, rules}
 use mathlib.Core.Path.{subst⁻¹}
-use Rattle.records.specs.LogRecords.{log_bytes}
 use Rattle.parsing.specs.Parsed.{parsed_draft}
 use Rattle.files.specs.declared.Input.{Input}
 use Rattle.files.specs.declared.Input.TheVariants as input

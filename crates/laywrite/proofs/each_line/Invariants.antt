@@ -1,5 +1,5 @@
 -- `laywrite::each_line` ends: it counts the lines up to a limit. After each line, what waits are records of accepted drafts.
-use Rattle.std.proofs.Common.{◌≡◌, ◌-◌, ◌^◌, length, take, drop, subst, arith, rules}
+use Rattle.std.proofs.Common.{◌≡◌, ◌-◌, ◌^◌, length}
 use Rattle.records.specs.LogRecords.{log_bytes}
 use Rattle.laywrite.specs.Waiting.{HoldRecords}
 use Rattle.laywrite.proofs.each_line.Given as goal

@@ -1,5 +1,5 @@
 -- `laywrite::ended` answers according to what comes next.
-use Rattle.std.proofs.Common.{sym, ap, ◌∙◌, rules}
+use Rattle.std.proofs.Common.{sym, ap, ◌∙◌}
 use Rattle.files.specs.declared.Input.{Input}
 use Rattle.laywrite.specs.Waiting.{ended_by}
 use Rattle.laywrite.proofs.WaitLaws.{not_kept}

@@ -1,5 +1,5 @@
 -- `laywrite::judge` answers according to what the line says.
-use Rattle.std.proofs.Common.{sym, refl, ◌∙◌, rules}
+use Rattle.std.proofs.Common.{sym, refl, ◌∙◌}
 use mathlib.Core.Path.{subst⁻¹}
 use Rattle.parsing.specs.declared.ParsedDraft.{ParsedDraft}
 use Rattle.laywrite.specs.Waiting.{IsJudged}

@@ -1,5 +1,5 @@
 -- `laywrite::judge_draft` answers with what the writer says, unless the record before a hold is not there.
-use Rattle.std.proofs.Common.{ℕ, Bool, sym, refl, ap, ◌∙◌, ap₂, rules}
+use Rattle.std.proofs.Common.{ℕ, Bool, sym, refl, ap, ◌∙◌, ap₂}
 use mathlib.Core.Path.{subst⁻¹}
 use Rattle.writing.specs.Writing.{refusal_of, buffer_of}
 use Rattle.laywrite.specs.Waiting.{judged_of, JudgedBy}

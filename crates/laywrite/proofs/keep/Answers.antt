@@ -1,5 +1,5 @@
 -- `laywrite::keep` puts a record after those that wait, or alone if there is no room for both.
-use Rattle.std.proofs.Common.{take, arith, length-take-le, rules}
+use Rattle.std.proofs.Common.{take, arith, length-take-le}
 use Rattle.laywrite.specs.declared.Records.TheVariants as records
 use Rattle.laywrite.proofs.WaitLaws.{with_room, without_room, may_wait}
 use Rattle.laywrite.proofs.keep.Goals as goal

@@ -1,5 +1,5 @@
 -- `laywrite::keep_after` keeps a record if nothing was dropped before.
-use Rattle.std.proofs.Common.{refl, ap, arith, rules}
+use Rattle.std.proofs.Common.{refl, ap, arith}
 use mathlib.Core.Path.{subst⁻¹}
 use Rattle.laywrite.specs.Waiting.{waiting_of, KeptAfter}
 use Rattle.laywrite.specs.declared.Records.{Records}

@@ -1,5 +1,5 @@
 -- `laywrite::kept` answers with what waits.
-use Rattle.std.proofs.Common.{sym, rules}
+use Rattle.std.proofs.Common.{sym}
 use Rattle.laywrite.proofs.kept.Goals as goal
 
 pub returns-in-Waiting : goal.returns-in-Waiting

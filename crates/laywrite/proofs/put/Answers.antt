@@ -1,5 +1,5 @@
 -- `laywrite::put` puts all of the bytes, as `text::put` does if there is room.
-use Rattle.std.proofs.Common.{arith, rules}
+use Rattle.std.proofs.Common.{arith}
 use Rattle.text.proofs.PutLaws.{put_from, put_front, put_length}
 use Rattle.laywrite.proofs.put.Goals as goal
 

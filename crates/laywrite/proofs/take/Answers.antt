@@ -1,5 +1,5 @@
 -- `laywrite::take` answers according to what the line is.
-use Rattle.std.proofs.Common.{refl, rules}
+use Rattle.std.proofs.Common.{refl}
 use mathlib.Core.Path.{subst⁻¹}
 use Rattle.laywrite.specs.Waiting.{IsTaken}
 use Rattle.laywrite.specs.declared.Judged.{Judged}
