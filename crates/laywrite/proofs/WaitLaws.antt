@@ -1,7 +1,6 @@
 -- If what waits before a line are records of accepted drafts, so is what waits after it.
-use Rattle.std.proofs.Common.{◌≡◌, ℕ, ◌+◌, ◌<◌, ◌≤◌, Bool, true, false, cond, ◌&&◌, eqb, leb, List, [], ◌∷◌, ◌++◌, length, take, sym, refl, ap, ◌∙◌, subst, append_assoc, append-nil, arith, eqb-true, le-leb}
+use Rattle.std.proofs.Common.{◌≡◌, ℕ, ◌+◌, ◌≤◌, Bool, true, false, cond, ◌&&◌, eqb, leb, List, [], ◌∷◌, ◌++◌, length, take, sym, refl, ap, ◌∙◌, subst, append_assoc, append-nil, arith, eqb-true}
 use mathlib.Core.Path.{subst⁻¹}
-use borrow.Author.Tests.{lt-leb}
 use Rattle.records.specs.LogRecords.{log_bytes}
 use Rattle.writing.specs.declared.Draft.{Draft}
 use Rattle.writing.specs.Writing.{refusal_of, buffer_of}
@@ -9,22 +8,13 @@ use Rattle.parsing.specs.declared.ParsedDraft.{ParsedDraft}
 use Rattle.parsing.specs.declared.ParsedDraft.TheVariants as parsed
 use Rattle.files.specs.declared.Input.{Input}
 use Rattle.files.specs.declared.Input.TheVariants as input
-use Rattle.laywrite.specs.Waiting.{waiting_of, Wait, MayWait, KeptBy, IsKept, KeptAfter, chain_named, judged_of, JudgedBy, IsJudged, IsTaken, ended_by, records_of, AllAccepted, HoldRecords}
+use Rattle.laywrite.specs.Waiting.{waiting_of, Wait, MayWait, KeptBy, KeptAfter, chain_named, judged_of, JudgedBy, IsJudged, IsTaken, ended_by, records_of, AllAccepted, HoldRecords}
 use Rattle.laywrite.specs.declared.Judged.{Judged}
 use Rattle.laywrite.specs.declared.Judged.TheVariants as judged
 use Rattle.laywrite.specs.declared.Records.{Records}
 use Rattle.laywrite.specs.declared.Records.TheVariants as records
 
--- A record that is kept if there is room for it, and if there is none.
-pub with_room : (waiting bytes out : List ℕ) (r : Records) → length waiting + length bytes ≤ length out → Wait (waiting ++ bytes) out r → IsKept waiting bytes out r
-with_room waiting bytes out r room w =
-    subst⁻¹ (λ (t : Bool). KeptBy t waiting bytes out r) (le-leb (length waiting + length bytes) (length out) room) w
-
-pub without_room : (waiting bytes out : List ℕ) (r : Records) → length out < length waiting + length bytes → MayWait bytes out r → IsKept waiting bytes out r
-without_room waiting bytes out r none w =
-    subst⁻¹ (λ (t : Bool). KeptBy t waiting bytes out r) (lt-leb (length waiting + length bytes) (length out) none) w
-
-pub may_wait : (bytes out : List ℕ) (r : Records) → Wait bytes out r → MayWait bytes out r
+may_wait : (bytes out : List ℕ) (r : Records) → Wait bytes out r → MayWait bytes out r
 may_wait bytes out (records.Waiting n) w = w
 may_wait bytes out records.Dropped w = tt
 

@@ -61,18 +61,6 @@ slice_bounds-report-end g c =
     let line = found l.buffer l.from l.to c.next_line-input.new.buffer _ _ _ _ c.next_line-input.ensures c.in-Line.is in
     omega (arith, line.inside, line.stands)
 
-pub shape_of-buffer-then-count-gt-MOST_CHAINS : goal.shape_of-buffer-then-count-gt-MOST_CHAINS
-shape_of-buffer-then-count-gt-MOST_CHAINS g c =
-    omega (arith, c.next_line-input.auto.buffer, c.loop-line.invariant.1.1.1.0)
-
-pub shape_of-table-then-count-gt-MOST_CHAINS : goal.shape_of-table-then-count-gt-MOST_CHAINS
-shape_of-table-then-count-gt-MOST_CHAINS g c =
-    omega (arith, c.put_line-verdict.auto.table, c.loop-line.invariant.1.0, c.requires.0)
-
-pub shape_of-scale-then-count-gt-MOST_CHAINS : goal.shape_of-scale-then-count-gt-MOST_CHAINS
-shape_of-scale-then-count-gt-MOST_CHAINS g c =
-    omega (arith, c.put_line-verdict.auto.scale, c.loop-line.invariant.1.1.0, c.requires.1)
-
 pub returns-then-count-gt-MOST_CHAINS : goal.returns-then-count-gt-MOST_CHAINS
 returns-then-count-gt-MOST_CHAINS g c =
     subst⁻¹ (HoldsChains c.put_line-verdict.new.table c.put_line-verdict.new.scale) c.none.ensures (no_chains c.put_line-verdict.new.table c.put_line-verdict.new.scale)
