@@ -24,6 +24,7 @@
 #include <stdio.h>
 #include <stdlib.h>
 #include <string.h>
+#include <sys/file.h>
 #include <sys/stat.h>
 #include <time.h>
 #include <unistd.h>
@@ -124,6 +125,8 @@ int close(int file) {
 }
 
 int fsync(int file) { return NUMBERED(file) ? -1 : REAL(fsync, file); }
+int fdatasync(int file) { return NUMBERED(file) ? -1 : REAL(fdatasync, file); }
+int flock(int file, int how) { return NUMBERED(file) ? -1 : REAL(flock, file, how); }
 int fchmod(int file, mode_t mode) { return NUMBERED(file) ? -1 : REAL(fchmod, file, mode); }
 int fchown(int file, uid_t owner, gid_t group) { return NUMBERED(file) ? -1 : REAL(fchown, file, owner, group); }
 int ftruncate(int file, off_t length) { return NUMBERED(file) ? -1 : REAL(ftruncate, file, length); }
@@ -132,6 +135,11 @@ int fstat(int file, struct stat *s) { return NUMBERED(file) ? -1 : REAL(fstat, f
 int stat(const char *path, struct stat *s) { return NAMED(path) ? -1 : REAL(stat, path, s); }
 int lstat(const char *path, struct stat *s) { return NAMED(path) ? -1 : REAL(lstat, path, s); }
 ssize_t readlink(const char *path, char *s, size_t n) { return NAMED(path) ? -1 : REAL(readlink, path, s, n); }
+int statx(int file, const char *restrict path, int flags, unsigned int mask, struct statx *restrict s) {
+    /* Without a path it asks about the descriptor. */
+    if (path[0] ? NAMED(path) : NUMBERED(file)) return -1;
+    return REAL(statx, file, path, flags, mask, s);
+}
 int access(const char *path, int mode) { return NAMED(path) ? -1 : REAL(access, path, mode); }
 int mkstemp(char *name) { return NAMED(name) ? -1 : REAL(mkstemp, name); }
 int unlink(const char *path) { return NAMED(path) ? -1 : REAL(unlink, path); }
