@@ -12,9 +12,13 @@ ghost use Rattle.files.specs.Input.{at_end};
 ghost use Rattle.laychain.specs.Tables.{verdict_of, line_verdict, table_with, scale_with, chains_after, is_well, HoldsChains};
 
 use chart::Chain;
-use files::Input;
+use files::{EprintBytes, Input};
 use parsing::{ChainFault, Form, ParsedChain};
 use records::{CHAIN_BYTES, FACTOR_BYTES, MOST_CHAINS, SCALE_BYTES, TABLE_BYTES};
+use std::fs::File;
+use std::io;
+use std::io::Print;
+use std::rt::{Clock, Files};
 
 // What becomes of a line: its chain is in the table, it is passed over, or it is refused.
 #[derive(Clone, Copy)]
@@ -32,8 +36,9 @@ struct Sum {
     first: u64,
 }
 
-fn main() {
+fn main(rt: HostRuntime) {
     let words = files::no_arguments(
+        &rt,
         b"laychain",
         b"laychain writes chain.dat, the table of station chains, and scale.dat, their scale factors, in place of
 those in this folder.
@@ -57,25 +62,26 @@ The chain with its master at (0, 0), A at (30000, 0) and B at (0, 40000), and th
 ",
     );
     let expected = b"the chains are read from standard input, one line each";
-    if !files::none_given(b"laychain", words, expected) {
+    if !files::none_given(&rt, b"laychain", words, expected) {
         return;
     }
-    if files::is_free(b"laychain", b"chain.dat", b"chain.dat.new")
-        && files::is_free(b"laychain", b"scale.dat", b"scale.dat.new")
+    if files::is_free(&rt, b"laychain", b"chain.dat", b"chain.dat.new")
+        && files::is_free(&rt, b"laychain", b"scale.dat", b"scale.dat.new")
     {
-        make_table();
+        make_table(&rt);
     }
 }
 
-fn make_table() {
+fn make_table(rt: &(impl Files<File = File> + Clock + Print + io::Input + EprintBytes)) {
     let mut buffer = [0u8; files::LINE_BYTES];
     let mut table = [0u8; TABLE_BYTES];
     let mut scale = [0u8; SCALE_BYTES];
-    let chains = read_chains(&mut buffer, &mut table, &mut scale);
+    let chains = read_chains(rt, &mut buffer, &mut table, &mut scale);
     if chains == 0 {
         return;
     }
     if files::replace_pair(
+        rt,
         b"laychain",
         b"chain.dat",
         b"chain.dat.new",
@@ -85,18 +91,23 @@ fn make_table() {
         &scale[0..FACTOR_BYTES * chains],
         files::END_TRIES,
     ) {
-        told(chains as u64);
+        told(rt, chains as u64);
     }
 }
 
-fn told(chains: u64) {
-    files::written(b"laychain", b"chain.dat", b"chain", chains, chains);
-    files::written(b"laychain", b"scale.dat", b"factor", chains, chains);
+fn told(rt: &(impl Print + EprintBytes), chains: u64) {
+    files::written(rt, b"laychain", b"chain.dat", b"chain", chains, chains);
+    files::written(rt, b"laychain", b"scale.dat", b"factor", chains, chains);
 }
 
 // Reads the chains into the table, and their factors into the side file, and returns how many there are; 0 if something was refused,
 // which has been printed.
-fn read_chains(buffer: &mut [u8], table: &mut [u8], scale: &mut [u8]) -> usize
+fn read_chains(
+    rt: &(impl io::Input + EprintBytes),
+    buffer: &mut [u8],
+    table: &mut [u8],
+    scale: &mut [u8],
+) -> usize
     requires { (length table.old ≡ chain_bytes * most_chains) × (length scale.old ≡ factor_bytes * most_chains) }
     ensures { HoldsChains table.new scale.new result }
 {
@@ -111,18 +122,18 @@ fn read_chains(buffer: &mut [u8], table: &mut [u8], scale: &mut [u8]) -> usize
     };
     let mut line = 0u64;
     while line < u64::MAX {
-        let input = files::next_line(b"laychain", buffer, from, to);
+        let input = files::next_line(rt, b"laychain", buffer, from, to);
         line += 1;
         let Input::Line { start, end, stop } = input else {
-            return ended(input, line, count, well, tally);
+            return ended(rt, input, line, count, well, tally);
         };
         let verdict = put_line(table, scale, count, &buffer[start..end]);
-        report(line, &buffer[start..end], verdict);
+        report(rt, line, &buffer[start..end], verdict);
         count = chains_after(count, verdict);
         well = accepted(well, verdict);
         tally = counted(tally, line, verdict);
         if count > MOST_CHAINS {
-            return none(tally);
+            return none(rt, tally);
         }
         from = end + 1;
         to = stop;
@@ -186,36 +197,45 @@ fn first_of(before: u64, line: u64) -> u64 {
 }
 
 // How many chains there are when no line comes next: 0 if something was refused or failed.
-fn ended(input: Input, line: u64, count: usize, well: bool, tally: Sum) -> usize
+fn ended(
+    rt: &impl EprintBytes,
+    input: Input,
+    line: u64,
+    count: usize,
+    well: bool,
+    tally: Sum,
+) -> usize
     ensures { result ≡ at_end input (if well then count else 0) 0 }
 {
     match input {
-        Input::Cut => cut(line, tally),
-        Input::End => chains(count, well, tally),
+        Input::Cut => cut(rt, line, tally),
+        Input::End => chains(rt, count, well, tally),
         _ => 0,
     }
 }
 
-fn cut(line: u64, tally: Sum) -> usize
+fn cut(rt: &impl EprintBytes, line: u64, tally: Sum) -> usize
     ensures { result ≡ 0 }
 {
     files::refused(
+        rt,
         b"laychain",
         line,
         12,
         b"a line ends with a newline, the last one too, and has at most 65535 bytes with it",
     );
-    none(one_refused(tally, line))
+    none(rt, one_refused(tally, line))
 }
 
-fn chains(count: usize, well: bool, tally: Sum) -> usize
+fn chains(rt: &impl EprintBytes, count: usize, well: bool, tally: Sum) -> usize
     ensures { result ≡ (if well then count else 0) }
 {
     if !well {
-        return none(tally);
+        return none(rt, tally);
     }
     if count == 0 {
         files::refused(
+            rt,
             b"laychain",
             0,
             1,
@@ -226,10 +246,11 @@ fn chains(count: usize, well: bool, tally: Sum) -> usize
 }
 
 // Prints how many lines were refused, and returns 0 for no chains.
-fn none(tally: Sum) -> usize
+fn none(rt: &impl EprintBytes, tally: Sum) -> usize
     ensures { result ≡ 0 }
 {
     files::lines_refused(
+        rt,
         b"laychain",
         tally.refused,
         tally.first,
@@ -286,54 +307,62 @@ fn by_refusal(number: u32) -> Verdict
 }
 
 // Prints the refusal of a line that is refused.
-fn report(line: u64, text: &[u8], verdict: Verdict) {
+fn report(rt: &impl EprintBytes, line: u64, text: &[u8], verdict: Verdict) {
     match verdict {
         Verdict::Chain => {}
         Verdict::Passed => {}
-        Verdict::Refused(number) => refuse(line, text, number),
+        Verdict::Refused(number) => refuse(rt, line, text, number),
     }
 }
 
-fn refuse(line: u64, text: &[u8], number: u32) {
+fn refuse(rt: &impl EprintBytes, line: u64, text: &[u8], number: u32) {
     match number {
-        1 => refuse_more(line),
-        5 => refuse_chain(line, text),
-        _ => refuse_form(line, text),
+        1 => refuse_more(rt, line),
+        5 => refuse_chain(rt, line, text),
+        _ => refuse_form(rt, line, text),
     }
 }
 
-fn refuse_more(line: u64) {
-    files::refused(b"laychain", line, 1, b"a table has at most 16 chains");
+fn refuse_more(rt: &impl EprintBytes, line: u64) {
+    files::refused(rt, b"laychain", line, 1, b"a table has at most 16 chains");
 }
 
-fn refuse_form(line: u64, text: &[u8]) {
-    files::refused_form(b"laychain", line, text, Form::Chain);
+fn refuse_form(rt: &impl EprintBytes, line: u64, text: &[u8]) {
+    files::refused_form(rt, b"laychain", line, text, Form::Chain);
 }
 
-fn refuse_chain(line: u64, text: &[u8]) {
+fn refuse_chain(rt: &impl EprintBytes, line: u64, text: &[u8]) {
     match parsing::chain(text) {
-        ParsedChain::Chain(c) => refuse_stations(line, text, parsing::chain_fault(c)),
+        ParsedChain::Chain(c) => refuse_stations(rt, line, text, parsing::chain_fault(c)),
         ParsedChain::Passed => {}
         ParsedChain::Refused(_) => {}
     }
 }
 
-fn refuse_stations(line: u64, text: &[u8], fault: ChainFault) {
+fn refuse_stations(rt: &impl EprintBytes, line: u64, text: &[u8], fault: ChainFault) {
     match fault {
-        ChainFault::Range(word) => refuse_range(line, text, word),
+        ChainFault::Range(word) => refuse_range(rt, line, text, word),
         ChainFault::Spot(word) => refused(
+            rt,
             line,
             text,
             word,
             b"this station stands on the spot of one before it",
         ),
-        ChainFault::Factor => refused(line, text, 6, b"a factor is 999000 to 1001000 millionths"),
+        ChainFault::Factor => refused(
+            rt,
+            line,
+            text,
+            6,
+            b"a factor is 999000 to 1001000 millionths",
+        ),
     }
 }
 
-fn refuse_range(line: u64, text: &[u8], word: usize) {
+fn refuse_range(rt: &impl EprintBytes, line: u64, text: &[u8], word: usize) {
     if word % 2 == 0 {
         refused(
+            rt,
             line,
             text,
             word,
@@ -342,6 +371,7 @@ fn refuse_range(line: u64, text: &[u8], word: usize) {
         return;
     }
     refused(
+        rt,
         line,
         text,
         word,
@@ -349,6 +379,6 @@ fn refuse_range(line: u64, text: &[u8], word: usize) {
     );
 }
 
-fn refused(line: u64, text: &[u8], word: usize, sentence: &[u8]) {
-    files::refused_word(b"laychain", line, 5, text, word, sentence);
+fn refused(rt: &impl EprintBytes, line: u64, text: &[u8], word: usize, sentence: &[u8]) {
+    files::refused_word(rt, b"laychain", line, 5, text, word, sentence);
 }

@@ -1,8 +1,7 @@
 -- If what waits before a line are records of accepted drafts, so is what waits after it.
-use Rattle.std.proofs.Common.{◌≡◌, ℕ, ◌+◌, ◌<◌, ◌≤◌, Bool, true, false, cond, ◌&&◌, eqb, leb, List, [], ◌∷◌, ◌++◌, length, take, sym, refl, ap, ◌∙◌, subst, inl, inr, append_assoc, append-nil, arith, eqb-true, le-leb}
+use Rattle.std.proofs.Common.{◌≡◌, ℕ, ◌+◌, ◌<◌, ◌≤◌, Bool, true, false, cond, ◌&&◌, eqb, leb, List, [], ◌∷◌, ◌++◌, length, take, sym, refl, ap, ◌∙◌, subst, append_assoc, append-nil, arith, eqb-true, le-leb}
 use mathlib.Core.Path.{subst⁻¹}
 use borrow.Author.Tests.{lt-leb}
-use denote.Enum.Declared.{tag_of}
 use Rattle.records.specs.LogRecords.{log_bytes}
 use Rattle.writing.specs.declared.Draft.{Draft}
 use Rattle.writing.specs.Writing.{refusal_of, buffer_of}
@@ -10,8 +9,6 @@ use Rattle.parsing.specs.declared.ParsedDraft.{ParsedDraft}
 use Rattle.parsing.specs.declared.ParsedDraft.TheVariants as parsed
 use Rattle.files.specs.declared.Input.{Input}
 use Rattle.files.specs.declared.Input.TheVariants as input
-use Rattle.files.specs.contracts.Input.{the_type}
-use types.Run.{OneOf}
 use Rattle.laywrite.specs.Waiting.{waiting_of, Wait, MayWait, KeptBy, IsKept, KeptAfter, chain_named, judged_of, JudgedBy, IsJudged, IsTaken, ended_by, records_of, AllAccepted, HoldRecords}
 use Rattle.laywrite.specs.declared.Judged.{Judged}
 use Rattle.laywrite.specs.declared.Judged.TheVariants as judged
@@ -119,11 +116,9 @@ hold_ended out input.End waiting keyboard held = held
 hold_ended out input.Failed waiting keyboard held = tt
 
 -- If a line comes next or reading failed, nothing is kept.
-pub not_kept : (i : Input) (waiting : Records) (keyboard : Bool) → OneOf (0 ∷ 3 ∷ []) (tag_of the_type i) → records.Dropped ≡ ended_by i waiting keyboard
+pub not_kept : (i : Input) (waiting : Records) (keyboard : Bool) → (i ≡ input.Cut → ⊥) → (i ≡ input.End → ⊥) → records.Dropped ≡ ended_by i waiting keyboard
 unfolding ended_by
-not_kept (input.Line start end stop) waiting keyboard key = refl
-not_kept input.Cut waiting keyboard (inl e) = absurd (omega (arith, e))
-not_kept input.Cut waiting keyboard (inr e) = absurd (omega (arith, e))
-not_kept input.End waiting keyboard (inl e) = absurd (omega (arith, e))
-not_kept input.End waiting keyboard (inr e) = absurd (omega (arith, e))
-not_kept input.Failed waiting keyboard key = refl
+not_kept (input.Line start end stop) waiting keyboard whole more = refl
+not_kept input.Cut waiting keyboard whole more = absurd (whole refl)
+not_kept input.End waiting keyboard whole more = absurd (more refl)
+not_kept input.Failed waiting keyboard whole more = refl

@@ -9,17 +9,20 @@ ghost use Rattle.parsing.specs.Parsed.{parsed_draft};
 ghost use Rattle.parsing.specs.declared.ParsedDraft.TheVariants as parsed;
 ghost use Rattle.laywrite.specs.Waiting.{waiting_of, all_dropped, Wait, IsKept, KeptAfter, chain_named, judged_of, IsJudged, IsTaken, kept_of, ended_by, HoldRecords};
 
-use files::{Begun, Filled, Input, Opened, Words};
-use libc::{SEEK_CUR, SEEK_END, SEEK_SET, STDIN_FILENO};
+use files::{Begun, EprintBytes, Filled, Input, Opened, Words};
 use parsing::{Form, ParsedDraft};
 use records::{ChainCount, LOG_BYTES};
+use std::fs::File;
+use std::io;
+use std::io::{IsTerminal, Print, Seek, SeekFrom};
+use std::rt::{Clock, Files};
 use writing::Draft;
 
 // The log that is there, open to read, and how many records it has; or that there is none yet. `Unfit`: it cannot be used, and the
 // reason has been printed on standard error.
-#[derive(Clone, Copy)]
+#[derive(Drop)]
 enum Log {
-    Old { file: i32, records: u64 },
+    Old { file: File, records: u64 },
     Missing,
     Unfit,
 }
@@ -78,8 +81,9 @@ enum Copying {
 // The size of the buffer in which records wait. They are written out when it is full.
 const WAIT_BYTES: usize = 65_536;
 
-fn main() {
+fn main(rt: HostRuntime) {
     let words = files::no_arguments(
+        &rt,
         b"laywrite",
         b"laywrite appends records to lay.dat, the log in this folder, or begins it where there is none.
 
@@ -105,41 +109,51 @@ appended. Readings of -100 m and -200 m in chain 1, as line 1 of the log:
         return;
     }
     let expected = b"the records are read from standard input, one line each";
-    if is_ready() && files::none_given(b"laywrite", words, expected) {
-        write_log();
+    if is_ready(&rt) && files::none_given(&rt, b"laywrite", words, expected) {
+        write_log(&rt, rt.stdin().is_terminal());
     }
 }
 
 // Whether records can be appended here: nobody else is writing the log, and the one that is there has whole records.
-fn is_ready() -> bool {
-    if !files::is_free(b"laywrite", b"lay.dat", b"lay.dat.new") {
+fn is_ready(rt: &(impl Files<File = File> + Clock + EprintBytes)) -> bool {
+    if !files::is_free(rt, b"laywrite", b"lay.dat", b"lay.dat.new") {
         return false;
     }
-    match open_log() {
+    match open_log(rt) {
         Log::Old { .. } => true,
         Log::Missing => true,
         Log::Unfit => false,
     }
 }
 
-fn open_log() -> Log {
-    match files::open(b"laywrite", b"lay.dat") {
-        Opened::File(file) => whole(file, libc::lseek(file, 0, SEEK_END)),
+fn open_log(rt: &(impl Files<File = File> + EprintBytes)) -> Log {
+    match files::open(rt, b"laywrite", b"lay.dat") {
+        Opened::File(file) => {
+            let length = end_of(&file);
+            whole(rt, file, length)
+        }
         Opened::Missing => Log::Missing,
         Opened::Failed => Log::Unfit,
     }
 }
 
-fn whole(file: i32, length: i64) -> Log {
-    if length < 0 {
-        files::failed(b"laywrite", b"lay.dat");
-        return Log::Unfit;
-    }
-    let bytes = metres::size(length);
+fn end_of(file: &File) -> io::Result<u64> {
+    let mut file = file;
+    file.seek(SeekFrom::End(0))
+}
+
+fn whole(rt: &impl EprintBytes, file: File, length: io::Result<u64>) -> Log {
+    let bytes = match length {
+        Ok(bytes) => bytes,
+        Err(error) => {
+            files::failed(rt, b"laywrite", b"lay.dat", error);
+            return Log::Unfit;
+        }
+    };
     if bytes % LOG_BYTES as u64 != 0 {
         let expected =
             b"lay.dat was expected to hold whole records of 32 bytes, and its last one is short";
-        files::refused(b"laywrite", 0, 1, expected);
+        files::refused(rt, b"laywrite", 0, 1, expected);
         return Log::Unfit;
     }
     let records = bytes / LOG_BYTES as u64;
@@ -147,40 +161,41 @@ fn whole(file: i32, length: i64) -> Log {
 }
 
 // The records stay in a scratch file until every line has been read.
-fn write_log() {
-    let Table::Chains(chains) = known_chains() else {
+fn write_log(
+    rt: &(impl Files<File = File> + Clock + Print + io::Input + EprintBytes),
+    keyboard: bool,
+) {
+    let Table::Chains(chains) = known_chains(rt) else {
         return;
     };
-    let scratch = make_scratch();
-    if scratch < 0 {
+    let Begun::File(scratch) = make_scratch(rt) else {
         return;
-    }
-    let keyboard = libc::isatty(STDIN_FILENO) == 1;
+    };
     let mut out = [0u8; WAIT_BYTES];
-    let read = read_records(&mut out, scratch, chains, keyboard);
+    let read = read_records(rt, &mut out, &scratch, chains, keyboard);
     let n = read.waiting;
     if !read.kept {
-        drop_all(read.tally);
+        drop_all(rt, read.tally);
         return;
     }
-    if written(scratch, &out[0..n]) {
-        append(scratch, read.tally);
+    if written(rt, &scratch, &out[0..n]) {
+        append(rt, &scratch, read.tally);
     }
 }
 
 // How many chains there are in chain.dat: none if it is missing or refused.
-fn known_chains() -> Table {
-    match files::open(b"laywrite", b"chain.dat") {
-        Opened::File(file) => chains_in(file),
+fn known_chains(rt: &(impl Files<File = File> + EprintBytes)) -> Table {
+    match files::open(rt, b"laywrite", b"chain.dat") {
+        Opened::File(file) => chains_in(rt, &file),
         Opened::Missing => Table::Chains(0),
         Opened::Failed => Table::Unfit,
     }
 }
 
-fn chains_in(file: i32) -> Table {
+fn chains_in(rt: &impl EprintBytes, file: &File) -> Table {
     // One byte more than the longest table, so that a file that is too long is noticed.
     let mut table = [0u8; records::TABLE_BYTES + 1];
-    let Filled::Bytes(n) = files::fill(b"laywrite", b"chain.dat", file, &mut table) else {
+    let Filled::Bytes(n) = files::fill(rt, b"laywrite", b"chain.dat", file, &mut table) else {
         return Table::Unfit;
     };
     match records::chain_count(&table[0..n]) {
@@ -189,32 +204,34 @@ fn chains_in(file: i32) -> Table {
     }
 }
 
-// Makes the scratch file. Its name is removed at once, so that nothing is left of it if the program is stopped later. The answer is
-// -1 if that fails.
-fn make_scratch() -> i32 {
-    let mut name = *b"lay.dat.XXXXXX";
-    let file = os::create_temp(&mut name);
-    if file < 0 {
-        files::failed(b"laywrite", b"lay.dat");
-        return -1;
-    }
-    if os::unlink(&name) < 0 {
-        files::failed(b"laywrite", b"lay.dat");
-        return -1;
-    }
-    file
+// Makes the scratch file. Its name is removed at once, so that nothing is left of it if the program is stopped later.
+fn make_scratch(rt: &(impl Files<File = File> + EprintBytes)) -> Begun {
+    files::scratch(rt, b"laywrite", b"lay.dat")
 }
 
 // Reads every line, and answers with what waits in `out` when all have been read.
-fn read_records(out: &mut [u8], scratch: i32, chains: usize, keyboard: bool) -> Read
+fn read_records(
+    rt: &(impl io::Input + EprintBytes),
+    out: &mut [u8],
+    scratch: &File,
+    chains: usize,
+    keyboard: bool,
+) -> Read
     requires { log_bytes ≤ length out.old }
     ensures { HoldRecords out.new (kept_of result) }
 {
     let mut buffer = [0u8; files::LINE_BYTES];
-    each_line(&mut buffer, out, scratch, chains, keyboard)
+    each_line(rt, &mut buffer, out, scratch, chains, keyboard)
 }
 
-fn each_line(buffer: &mut [u8], out: &mut [u8], scratch: i32, chains: usize, keyboard: bool) -> Read
+fn each_line(
+    rt: &(impl io::Input + EprintBytes),
+    buffer: &mut [u8],
+    out: &mut [u8],
+    scratch: &File,
+    chains: usize,
+    keyboard: bool,
+) -> Read
     requires { log_bytes ≤ length out.old }
     ensures { HoldRecords out.new (kept_of result) }
 {
@@ -225,14 +242,14 @@ fn each_line(buffer: &mut [u8], out: &mut [u8], scratch: i32, chains: usize, key
     let mut bytes = [0u8; LOG_BYTES];
     let mut line = 0u64;
     while line < u64::MAX {
-        let input = files::next_line(b"laywrite", buffer, from, to);
+        let input = files::next_line(rt, b"laywrite", buffer, from, to);
         line += 1;
         let Input::Line { start, end, stop } = input else {
-            return ended(input, line, records, tally, keyboard);
+            return ended(rt, input, line, records, tally, keyboard);
         };
         let judged = judge(&mut bytes, &buffer[start..end], tally.gap);
-        report(line, &buffer[start..end], judged);
-        records = take(out, records, scratch, judged, &bytes, keyboard);
+        report(rt, line, &buffer[start..end], judged);
+        records = take(rt, out, records, scratch, judged, &bytes, keyboard);
         tally = counted(tally, line, judged, chains, keyboard);
         from = end + 1;
         to = stop;
@@ -252,20 +269,28 @@ fn no_lines() -> Lines {
 }
 
 // What is kept when no line comes next. Text that is cut off is a refused line, and the last. If reading failed, nothing is kept.
-fn ended(input: Input, line: u64, records: Records, tally: Lines, keyboard: bool) -> Read
+fn ended(
+    rt: &impl EprintBytes,
+    input: Input,
+    line: u64,
+    records: Records,
+    tally: Lines,
+    keyboard: bool,
+) -> Read
     ensures { kept_of result ≡ ended_by input records keyboard }
 {
     match input {
-        Input::Cut => cut(line, records, tally, keyboard),
+        Input::Cut => cut(rt, line, records, tally, keyboard),
         Input::End => kept(records, tally),
         _ => kept(Records::Dropped, tally),
     }
 }
 
-fn cut(line: u64, records: Records, tally: Lines, keyboard: bool) -> Read
+fn cut(rt: &impl EprintBytes, line: u64, records: Records, tally: Lines, keyboard: bool) -> Read
     ensures { kept_of result ≡ (if keyboard then records else all_dropped) }
 {
     files::refused(
+        rt,
         b"laywrite",
         line,
         12,
@@ -349,9 +374,10 @@ fn chain_named(d: Draft) -> u32
 
 // What waits after a line. At a keyboard, a refused line drops nothing.
 fn take(
+    rt: &impl EprintBytes,
     out: &mut [u8],
     before: Records,
-    scratch: i32,
+    scratch: &File,
     judged: Judged,
     bytes: &[u8],
     keyboard: bool,
@@ -361,7 +387,7 @@ fn take(
     ensures { IsTaken before out.old judged bytes.now keyboard out.new result }
 {
     match judged {
-        Judged::Record(_) => keep_after(out, before, scratch, bytes),
+        Judged::Record(_) => keep_after(rt, out, before, scratch, bytes),
         Judged::Passed => before,
         Judged::Refused(_) => after_refusal(before, keyboard),
     }
@@ -376,7 +402,13 @@ fn after_refusal(before: Records, keyboard: bool) -> Records
     Records::Dropped
 }
 
-fn keep_after(out: &mut [u8], before: Records, scratch: i32, bytes: &[u8]) -> Records
+fn keep_after(
+    rt: &impl EprintBytes,
+    out: &mut [u8],
+    before: Records,
+    scratch: &File,
+    bytes: &[u8],
+) -> Records
     requires before_in_bounds { waiting_of before ≤ length out.old }
     requires bytes_in_bounds { length bytes.now ≤ length out.old }
     ensures { KeptAfter before out.old bytes.now out.new result }
@@ -384,11 +416,11 @@ fn keep_after(out: &mut [u8], before: Records, scratch: i32, bytes: &[u8]) -> Re
     let Records::Waiting(at) = before else {
         return Records::Dropped;
     };
-    keep(out, at, scratch, bytes)
+    keep(rt, out, at, scratch, bytes)
 }
 
 // Puts a record after those that wait. If there is no room for it, those are written out first.
-fn keep(out: &mut [u8], at: usize, scratch: i32, bytes: &[u8]) -> Records
+fn keep(rt: &impl EprintBytes, out: &mut [u8], at: usize, scratch: &File, bytes: &[u8]) -> Records
     requires at_in_bounds { at ≤ length out.old }
     requires bytes_in_bounds { length bytes.now ≤ length out.old }
     ensures { IsKept (take at out.old) bytes.now out.new result }
@@ -396,7 +428,7 @@ fn keep(out: &mut [u8], at: usize, scratch: i32, bytes: &[u8]) -> Records
     if out.len() - at >= bytes.len() {
         return put(out, at, bytes);
     }
-    if !written(scratch, &out[0..at]) {
+    if !written(rt, scratch, &out[0..at]) {
         return Records::Dropped;
     }
     put(out, 0, bytes)
@@ -410,8 +442,8 @@ fn put(out: &mut [u8], at: usize, bytes: &[u8]) -> Records
 }
 
 // Writes bytes to the scratch file. Returns whether all were written.
-fn written(scratch: i32, bytes: &[u8]) -> bool {
-    files::write(b"laywrite", b"lay.dat", scratch, bytes)
+fn written(rt: &impl EprintBytes, scratch: &File, bytes: &[u8]) -> bool {
+    files::write(rt, b"laywrite", b"lay.dat", scratch, bytes)
 }
 
 fn counted(tally: Lines, line: u64, judged: Judged, chains: usize, keyboard: bool) -> Lines {
@@ -453,72 +485,91 @@ fn first_of(before: u64, line: u64, such: bool) -> u64 {
 }
 
 // Makes the new log beside the old one, from its records and those of the scratch file, and puts it in its place.
-fn append(scratch: i32, tally: Lines) {
+fn append(
+    rt: &(impl Files<File = File> + Clock + Print + EprintBytes),
+    scratch: &File,
+    tally: Lines,
+) {
     if tally.unknown > 0 {
-        files::chains_unknown(b"laywrite", tally.unknown, tally.named);
+        files::chains_unknown(rt, b"laywrite", tally.unknown, tally.named);
     }
     if tally.accepted == 0 {
-        confirm_none(open_log(), tally);
+        confirm_none(rt, open_log(rt), tally);
         return;
     }
-    let Begun::File(file) = files::begin(b"laywrite", b"lay.dat", b"lay.dat.new", files::END_TRIES)
-    else {
+    let Begun::File(file) = files::begin(
+        rt,
+        b"laywrite",
+        b"lay.dat",
+        b"lay.dat.new",
+        files::END_TRIES,
+    ) else {
         return;
     };
-    let log = open_log();
-    let now = std::num::wrapping_add_u64(records_in(log), tally.accepted);
-    if !copied(log, scratch, file, now) {
-        files::give_up(b"lay.dat.new", file);
+    let log = open_log(rt);
+    let now = std::num::wrapping_add_u64(records_in(&log), tally.accepted);
+    if !copied(rt, &log, scratch, &file, now) {
+        files::give_up(rt, b"lay.dat.new", file);
         return;
     }
-    if files::finish(b"laywrite", b"lay.dat", b"lay.dat.new", file) {
-        confirm(now, tally, b"the accepted ones are written");
+    if files::finish(rt, b"laywrite", b"lay.dat", b"lay.dat.new", file) {
+        confirm(rt, now, tally, b"the accepted ones are written");
     }
 }
 
-fn confirm_none(log: Log, tally: Lines) {
+fn confirm_none(rt: &(impl Print + EprintBytes), log: Log, tally: Lines) {
     if let Log::Unfit = log {
         return;
     }
-    confirm(records_in(log), tally, b"nothing is written");
+    confirm(rt, records_in(&log), tally, b"nothing is written");
 }
 
 // Copies the old log and the scratch file to the fresh file, which then has `now` records. Returns whether that succeeded.
-fn copied(log: Log, scratch: i32, file: i32, now: u64) -> bool {
+fn copied(rt: &impl EprintBytes, log: &Log, scratch: &File, file: &File, now: u64) -> bool {
     match log {
-        Log::Old { file: old, .. } => copied_both(old, scratch, file, now),
-        Log::Missing => copy_all(scratch, file) && is_complete(file, now),
+        Log::Old { file: old, .. } => copied_both(rt, old, scratch, file, now),
+        Log::Missing => copy_all(rt, scratch, file) && is_complete(rt, file, now),
         Log::Unfit => false,
     }
 }
 
-fn copied_both(old: i32, scratch: i32, file: i32, now: u64) -> bool {
-    copy_all(old, file) && copy_all(scratch, file) && is_complete(file, now)
+fn copied_both(rt: &impl EprintBytes, old: &File, scratch: &File, file: &File, now: u64) -> bool {
+    copy_all(rt, old, file) && copy_all(rt, scratch, file) && is_complete(rt, file, now)
 }
 
 // Whether a file has so many records up to where it is written. A log that another program changes while it is copied may have more
 // or fewer.
-fn is_complete(file: i32, records: u64) -> bool {
-    let bytes = metres::size(libc::lseek(file, 0, SEEK_CUR));
+fn is_complete(rt: &impl EprintBytes, file: &File, records: u64) -> bool {
+    let bytes = place_of(file);
     if bytes % LOG_BYTES as u64 == 0 && bytes / LOG_BYTES as u64 == records {
         return true;
     }
     let changed = b"it was changed while it was copied; nothing is written";
-    files::trouble(b"laywrite", b"lay.dat", changed)
+    files::trouble(rt, b"laywrite", b"lay.dat", changed)
+}
+
+// How many bytes come before the place where a file is written. If that is not known, it is a number of bytes that no records have.
+fn place_of(file: &File) -> u64 {
+    let mut file = file;
+    match file.seek(SeekFrom::Current(0)) {
+        Ok(bytes) => bytes,
+        Err(_) => 1,
+    }
 }
 
 // Copies a file from its start.
-fn copy_all(from: i32, to: i32) -> bool {
-    if libc::lseek(from, 0, SEEK_SET) != 0 {
-        return files::failed(b"laywrite", b"lay.dat");
+fn copy_all(rt: &impl EprintBytes, from: &File, to: &File) -> bool {
+    let mut start = from;
+    if let Err(error) = start.seek(SeekFrom::Start(0)) {
+        return files::failed(rt, b"laywrite", b"lay.dat", error);
     }
-    copy_rest(from, to)
+    copy_rest(rt, from, to)
 }
 
-fn copy_rest(from: i32, to: i32) -> bool {
+fn copy_rest(rt: &impl EprintBytes, from: &File, to: &File) -> bool {
     let mut turns = files::MOST_STRETCHES;
     while turns > 0 {
-        let c = copy_some(from, to);
+        let c = copy_some(rt, from, to);
         if let Copying::All = c {
             return true;
         }
@@ -530,41 +581,42 @@ fn copy_rest(from: i32, to: i32) -> bool {
     false
 }
 
-fn copy_some(from: i32, to: i32) -> Copying {
-    let mut bytes = io::large_buffer();
-    let Filled::Bytes(n) = files::fill(b"laywrite", b"lay.dat", from, &mut bytes) else {
+fn copy_some(rt: &impl EprintBytes, from: &File, to: &File) -> Copying {
+    let mut bytes = [0u8; 65_536];
+    let Filled::Bytes(n) = files::fill(rt, b"laywrite", b"lay.dat", from, &mut bytes) else {
         return Copying::Failed;
     };
     if n == 0 {
         return Copying::All;
     }
-    if !files::write(b"laywrite", b"lay.dat", to, &bytes[0..n]) {
+    if !files::write(rt, b"laywrite", b"lay.dat", to, &bytes[0..n]) {
         return Copying::Failed;
     }
     Copying::Some
 }
 
 // Prints what was written, and that there are `now` records.
-fn confirm(now: u64, tally: Lines, sentence: &[u8]) {
+fn confirm(rt: &(impl Print + EprintBytes), now: u64, tally: Lines, sentence: &[u8]) {
     let new = tally.accepted;
-    files::written(b"laywrite", b"lay.dat", b"record", new, now);
+    files::written(rt, b"laywrite", b"lay.dat", b"record", new, now);
     if tally.refused > 0 {
-        files::lines_refused(b"laywrite", tally.refused, tally.first, new, sentence);
+        files::lines_refused(rt, b"laywrite", tally.refused, tally.first, new, sentence);
     }
 }
 
-fn records_in(log: Log) -> u64 {
+fn records_in(log: &Log) -> u64 {
     match log {
-        Log::Old { records, .. } => records,
+        Log::Old { records, .. } => *records,
         Log::Missing => 0,
         Log::Unfit => 0,
     }
 }
 
 // Prints that nothing is written, if lines were refused. Otherwise something failed, which has been printed.
-fn drop_all(tally: Lines) {
+fn drop_all(rt: &impl EprintBytes, tally: Lines) {
     if tally.refused > 0 {
         files::lines_refused(
+            rt,
             b"laywrite",
             tally.refused,
             tally.first,
@@ -575,44 +627,45 @@ fn drop_all(tally: Lines) {
 }
 
 // Prints the refusal of a line that is refused.
-fn report(line: u64, text: &[u8], judged: Judged) {
+fn report(rt: &impl EprintBytes, line: u64, text: &[u8], judged: Judged) {
     match judged {
         Judged::Record(_) => {}
         Judged::Passed => {}
-        Judged::Refused(number) => refuse(line, text, number),
+        Judged::Refused(number) => refuse(rt, line, text, number),
     }
 }
 
-fn refuse(line: u64, text: &[u8], number: u32) {
+fn refuse(rt: &impl EprintBytes, line: u64, text: &[u8], number: u32) {
     match number {
-        11 => refuse_hold(line),
-        12 => refuse_form(line, text),
-        _ => refuse_numbers(line, text, number),
+        11 => refuse_hold(rt, line),
+        12 => refuse_form(rt, line, text),
+        _ => refuse_numbers(rt, line, text, number),
     }
 }
 
-fn refuse_hold(line: u64) {
+fn refuse_hold(rt: &impl EprintBytes, line: u64) {
     let why = b"a hold has the place of the record before it, and that line was refused";
-    files::refused(b"laywrite", line, 11, why);
+    files::refused(rt, b"laywrite", line, 11, why);
 }
 
-fn refuse_form(line: u64, text: &[u8]) {
-    files::refused_form(b"laywrite", line, text, Form::Draft);
+fn refuse_form(rt: &impl EprintBytes, line: u64, text: &[u8]) {
+    files::refused_form(rt, b"laywrite", line, text, Form::Draft);
 }
 
-fn refuse_numbers(line: u64, text: &[u8], number: u32) {
+fn refuse_numbers(rt: &impl EprintBytes, line: u64, text: &[u8], number: u32) {
     match parsing::draft(text) {
         ParsedDraft::Draft(d) => {
-            refuse_word(line, text, number, parsing::draft_fault(number, d))
+            refuse_word(rt, line, text, number, parsing::draft_fault(number, d))
         }
         ParsedDraft::Passed => {}
         ParsedDraft::Refused(_) => {}
     }
 }
 
-fn refuse_word(line: u64, text: &[u8], number: u32, word: usize) {
+fn refuse_word(rt: &impl EprintBytes, line: u64, text: &[u8], number: u32, word: usize) {
     match number {
         2 => refused(
+            rt,
             line,
             text,
             number,
@@ -620,14 +673,16 @@ fn refuse_word(line: u64, text: &[u8], number: u32, word: usize) {
             b"the kind is 1, 2 or 3: readings, a place or a hold",
         ),
         3 => refused(
+            rt,
             line,
             text,
             number,
             word,
             b"a reading or a place is -1000000000 to 1000000000 centimetres",
         ),
-        4 => refuse_place(line, text, word),
+        4 => refuse_place(rt, line, text, word),
         _ => refused(
+            rt,
             line,
             text,
             number,
@@ -637,16 +692,23 @@ fn refuse_word(line: u64, text: &[u8], number: u32, word: usize) {
     }
 }
 
-fn refuse_place(line: u64, text: &[u8], word: usize) {
+fn refuse_place(rt: &impl EprintBytes, line: u64, text: &[u8], word: usize) {
     if word == 3 {
         let easting = b"the easting of a place is 0 to 100000000 centimetres";
-        refused(line, text, 4, word, easting);
+        refused(rt, line, text, 4, word, easting);
         return;
     }
     let northing = b"the northing of a place is 0 to 1000000000 centimetres";
-    refused(line, text, 4, word, northing);
+    refused(rt, line, text, 4, word, northing);
 }
 
-fn refused(line: u64, text: &[u8], number: u32, word: usize, sentence: &[u8]) {
-    files::refused_word(b"laywrite", line, number, text, word, sentence);
+fn refused(
+    rt: &impl EprintBytes,
+    line: u64,
+    text: &[u8],
+    number: u32,
+    word: usize,
+    sentence: &[u8],
+) {
+    files::refused_word(rt, b"laywrite", line, number, text, word, sentence);
 }
