@@ -1,3 +1,4 @@
+-- `layexpect::print_expected` prints only the text that `shown::expected` put into the buffer.
 use Rattle.std.proofs.Common.{◌∙◌, sym, arith}
 use Rattle.shown.proofs.Fitting.{text_fits}
 use Rattle.layexpect.proofs.print_expected.Goals as goal
