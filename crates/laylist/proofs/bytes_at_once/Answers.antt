@@ -1,6 +1,5 @@
 -- `laylist::bytes_at_once` meets its contract: it tests the allowance of the job that is read.
 use mathlib.Core.Path.{sym, ap, ◌∙◌}
-use borrow.Author.Rules.{rules}
 use Rattle.laylist.specs.Walks.{may_take_long, bytes_at_once}
 use Rattle.laylist.proofs.WalkLaws.{under_large, under_usual}
 use Rattle.laylist.proofs.bytes_at_once.Goals as goal

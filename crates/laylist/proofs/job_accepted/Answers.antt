@@ -1,6 +1,5 @@
 -- `laylist::job_accepted` meets its contract.
 use mathlib.Core.Path.{sym, ap, ◌∙◌}
-use borrow.Author.Rules.{rules}
 use Rattle.laylist.specs.Walks.{accepts_job}
 use Rattle.laylist.proofs.job_accepted.Goals as goal
 

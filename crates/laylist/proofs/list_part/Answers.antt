@@ -1,6 +1,5 @@
 -- `laylist::list_part` lists a part: there is room for it, so that it is not refused.
 use mathlib.Core.Path.{sym, ◌∙◌}
-use borrow.Author.Rules.{rules}
 use Rattle.listing.specs.Listings.{listing_from}
 use Rattle.listing.proofs.Fitting.{listing_fits, not_refused}
 use Rattle.laylist.proofs.WalkLaws.{roomy}

@@ -1,25 +1,10 @@
 -- `laylist::list_parts` returns the place that the whole stretch carries on: at each turn this is the place that the rest, starting
 -- from the place carried so far, carries on. It ends, since each turn leaves fewer bytes.
-use Prim.Native.Nat.{◌-◌, ◌≤◌}
-use mathlib.Core.Path.{◌≡◌, sym, ◌∙◌}
-use native.Mathlib.Omega.{arith}
+use mathlib.Core.Path.{sym, ◌∙◌}
 use borrow.Author.Rules.{rules}
-use lib.ListN.{length, drop}
 use Rattle.records.specs.Jobs.{job_of}
-use Rattle.listing.specs.Listings.{listing_from}
-use Rattle.laylist.proofs.WalkLaws.{at_once, whole_records, nothing_left, goes_on}
+use Rattle.laylist.proofs.WalkLaws.{whole_records, nothing_left, goes_on}
 use Rattle.laylist.proofs.list_parts.Goals as goal
-
-pub print_part-requires : goal.print_part-requires
-print_part-requires g c =
-    let a = c.args in
-    (search rules, at_once a.job.now _ (omega (arith, c.bytes_at_once-bytes.ensures, c.piece_end-next.ensures)))
-
-pub loop-done-smaller : goal.loop-done-smaller
-loop-done-smaller g c =
-    let a = c.args in
-    let some = (whole_records (job_of a.job.now) c.bytes_at_once-bytes.ensures).0 in
-    omega (arith, some, c.piece_end-next.ensures)
 
 pub loop-done-preserved : goal.loop-done-preserved
 loop-done-preserved g c =

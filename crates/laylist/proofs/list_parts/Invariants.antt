@@ -1,7 +1,7 @@
 -- `laylist::list_parts` returns the place that the whole stretch carries on: at each turn this is the place that the rest, starting
 -- from the place carried so far, carries on. It ends, since each turn leaves fewer bytes.
 use Prim.Native.Nat.{◌-◌, ◌≤◌}
-use mathlib.Core.Path.{◌≡◌, sym, ◌∙◌}
+use mathlib.Core.Path.{◌≡◌}
 use lib.ListN.{length, drop}
 use Rattle.listing.specs.Listings.{listing_from}
 use Rattle.laylist.proofs.list_parts.Given as goal

@@ -1,7 +1,6 @@
 -- `laylist::scale_accepted` meets its contract.
 use mathlib.Core.Path.{sym, ap, ◌∙◌}
 use Rattle.laylist.specs.Walks.{accepts_table}
-use borrow.Author.Rules.{rules}
 use Rattle.laylist.proofs.scale_accepted.Goals as goal
 
 pub returns-in-Chains : goal.returns-in-Chains

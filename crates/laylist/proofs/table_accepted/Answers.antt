@@ -1,6 +1,5 @@
 -- `laylist::table_accepted` meets its contract.
 use mathlib.Core.Path.{sym, ap, ◌∙◌}
-use borrow.Author.Rules.{rules}
 use Rattle.laylist.specs.Walks.{accepts_table}
 use Rattle.laylist.proofs.table_accepted.Goals as goal
 

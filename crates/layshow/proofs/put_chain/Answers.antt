@@ -1,6 +1,5 @@
 -- `layshow::put_chain` puts the line of a chain into its room.
 use native.Mathlib.Omega.{arith}
-use borrow.Author.Rules.{rules}
 use Rattle.shown.proofs.Fitting.{text_fits}
 use Rattle.layshow.proofs.LineLaws.{line_put}
 use Rattle.layshow.proofs.put_chain.Goals as goal

@@ -5,7 +5,7 @@ use lib.ListN.{length}
 use Rattle.records.specs.ChainTables.{chain_bytes}
 use Rattle.shown.specs.Lines.{chain_line}
 use Rattle.layshow.specs.Walks.{chains_room}
-use Rattle.layshow.proofs.WalkLaws.{ShownTo, shown_none, next-room, shown-more, shown_all}
+use Rattle.layshow.proofs.WalkLaws.{ShownTo}
 use Rattle.layshow.proofs.put_chains.Given as goal
 
 abbrev pub invariant-loop-done : goal.invariant-loop-done

@@ -1,5 +1,4 @@
 -- `layshow::put_files` puts the line of the job, then the lines of the table.
-use borrow.Author.Rules.{rules}
 use Rattle.text.proofs.PutLaws.{put_then}
 use Rattle.layshow.proofs.put_files.Goals as goal
 

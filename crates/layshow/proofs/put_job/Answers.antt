@@ -1,6 +1,5 @@
 -- `layshow::put_job` puts the line of a job into its room.
 use native.Mathlib.Omega.{arith}
-use borrow.Author.Rules.{rules}
 use Rattle.shown.proofs.Fitting.{text_fits}
 use Rattle.layshow.proofs.LineLaws.{line_put}
 use Rattle.layshow.proofs.put_job.Goals as goal

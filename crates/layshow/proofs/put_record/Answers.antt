@@ -1,6 +1,5 @@
 -- `layshow::put_record` puts the line of a record into its room.
 use native.Mathlib.Omega.{arith}
-use borrow.Author.Rules.{rules}
 use Rattle.shown.proofs.Fitting.{text_fits}
 use Rattle.layshow.proofs.LineLaws.{line_put}
 use Rattle.layshow.proofs.put_record.Goals as goal

@@ -1,10 +1,10 @@
 -- `layshow::put_records` puts the lines of all records, in their order: at each turn those so far are put, and those of the rest
 -- follow. It ends, since each turn leaves fewer bytes of the log.
-use Prim.Native.Nat.{ℕ, ◌+◌, ◌-◌, ◌≤◌}
+use Prim.Native.Nat.{ℕ, ◌-◌, ◌≤◌}
 use lib.ListN.{length}
 use Rattle.records.specs.LogRecords.{log_bytes}
 use Rattle.layshow.specs.Walks.{record_line_at}
-use Rattle.layshow.proofs.WalkLaws.{ShownTo, shown_none, next-room, shown-more, shown_all}
+use Rattle.layshow.proofs.WalkLaws.{ShownTo}
 use Rattle.layshow.proofs.put_records.Given as goal
 
 abbrev pub invariant-loop-done : goal.invariant-loop-done

@@ -2,7 +2,6 @@
 use native.Mathlib.Omega.{arith}
 use Rattle.shown.proofs.Fitting.{text_fits}
 use Rattle.layshow.proofs.LineLaws.{line_put}
-use borrow.Author.Rules.{rules}
 use Rattle.layshow.proofs.put_scale.Goals as goal
 
 pub after-requires : goal.after-requires

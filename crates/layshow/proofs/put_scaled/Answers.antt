@@ -3,7 +3,6 @@ use mathlib.Core.Bool.{Bool}
 use mathlib.Core.Path.{sym, ap}
 use Rattle.text.proofs.PutLaws.{put_as, put_then}
 use Rattle.layshow.specs.Walks.{scaled_lines}
-use borrow.Author.Rules.{rules}
 use Rattle.layshow.proofs.put_scaled.Goals as goal
 
 pub returns-then-fits : goal.returns-then-fits
