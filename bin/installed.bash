@@ -2,7 +2,7 @@
 # the place of the repository's.
 installed=$(CDPATH= cd "$(dirname "${BASH_SOURCE[0]}")" && pwd -P)
 
-# The programs are for x86-64. Where they were installed on another machine, a file names the toolchain's emulator.
+# The programs are for x86-64. Where they were installed on another machine, a file names the emulator.
 emulator=()
 if [ -f "$installed/emulator" ]; then
     emulator=("$(<"$installed/emulator")")

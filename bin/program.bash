@@ -8,12 +8,11 @@ unfit() {
 [ -f "$repository/crates.txt" ] || unfit 'this is a copy; make a link to the one that it was copied from'
 command -v rt >/dev/null || unfit 'the Rattle toolchain is missing: there is no command rt'
 
-# Programs of target/bin run under the toolchain's own loader and C library, which `rt doc` leads to; on a machine other than x86-64
-# under the toolchain's emulator.
-documents=$(rt doc)
-toolchain=$(CDPATH= cd "$(dirname "$documents")/.." && pwd -P)/on/$(uname -m)/toolchain
+# Programs of target/bin run under the toolchain's own loader and C library, which lie beside the page that `rt doc` names; on a machine
+# other than x86-64 under the emulator qemu-x86_64, if that is on the path.
+toolchain=$(CDPATH= cd "$(dirname "$(rt doc)")/toolchain" && pwd -P) || unfit 'the Rattle toolchain has no folder toolchain'
 emulator=()
-[ ! -x "$toolchain/bin/qemu-x86_64" ] || emulator=("$toolchain/bin/qemu-x86_64")
+[ "$(uname -m)" = x86_64 ] || emulator=($(command -v qemu-x86_64)) || emulator=()
 loader=("${emulator[@]}" "$toolchain/lib/ld-linux-x86-64.so.2" --library-path "$toolchain/lib")
 
 # program NAME ARGUMENTS...: runs it in the folder that the caller is in
@@ -21,17 +20,23 @@ program() { "${loader[@]}" "$repository/target/bin/$1" "${@:2}"; }
 
 is_program() { [ -f "$repository/crates/$1/src/main.rt" ]; }
 
-# crates_for [NAME...]: these crates and those of the repository that they rest on; without a name every crate
+# commands: the programs that bin/ has a command for, each a copy of bin/lay
+commands() {
+    local name
+    for name in $(ls "$repository/bin"); do ! is_program "$name" || echo "$name"; done
+}
+
+# crates_for [NAME...]: these crates and those of the repository that they rest on, lowest first; without a name every crate
 crates_for() {
     awk -v names="$*" '
         function take(name,    count, each, i) {
             if (taken[name]++ || !(name in rests)) return
-            print name
             count = split(rests[name], each, " ")
             for (i = 1; i <= count; i++) take(each[i])
+            print name
         }
         { sub(/#.*/, "") }
-        split($0, part, ":") == 2 { rests[part[1]] = part[2]; every = every " " part[1] }
+        split($0, part, ":") == 2 { split(part[1], word, " "); rests[word[1]] = part[2]; every = every " " word[1] }
         END {
             count = split(names == "" ? every : names, wanted, " ")
             for (i = 1; i <= count; i++) take(wanted[i])
@@ -66,36 +71,38 @@ alone() (
 # proved, with how many are left, and what the prover says only if it refuses.
 prove() { alone prove_each "$@"; }
 prove_each() {
-    local said left began
-    said=$(mktemp) left=$(crates_for "$@" | wc -l) began=$(date +%s.%N)
-    if (set -o pipefail && rt check "$@" </dev/null 2>&1 | tee "$said" | progress "$left"); then
-        rm "$said"
-        mark "$began" "$@"
-        return
-    fi
-    cat "$said"
-    rm "$said"
-    return 1
-}
-
-# progress COUNT: a line for each crate that rt says it has proved, of so many
-progress() {
-    local left=$1 first name word rest
-    while read -r first name word rest; do
-        [ "$first $word" = 'rt: proved' ] || continue
+    local name said left began seconds
+    mkdir -p target/bin target/stamp target/staticlib
+    said=$(mktemp) left=$(crates_for "$@" | wc -l)
+    for name in $(crates_for "$@"); do
         left=$((left - 1))
-        case $rest in
-        *unchanged*) ;;
-        *) echo "proved $name $rest, $left left" ;;
-        esac
+        ! made_since "target/stamp/$name" "$name" || continue
+        began=$(date +%s.%N) seconds=$SECONDS
+        if ! build "$name" >"$said" 2>&1 </dev/null; then
+            cat "$said"
+            echo "$name is not proved and built"
+            rm "$said"
+            return 1
+        fi
+        # as of the time when that began, so that a later change is seen
+        touch -d "@$began" "target/stamp/$name"
+        # rt proves nothing of what it finds unchanged, or proved in another clone
+        ! grep -q '^logic=proved' "$said" || echo "proved $name ($((SECONDS - seconds)) s), $left left"
     done
+    rm "$said"
 }
 
-# mark TIME [NAME...]: what was found proved is so as of the time when that began, and a later change is seen
-mark() {
-    local name
-    for name in $(crates_for "${@:2}"); do touch -c -d "@$1" "target/stamp/$name"; done
+# build NAME: by rt in the crate's folder. rt has no command that builds a program and does not run it: asked for its help, a program
+# reads no file and writes none. What was built goes to target/, where nothing of rt's removes it.
+build() {
+    local made=crates/$1/out
+    if is_program "$1"; then
+        (cd "crates/$1" && rt run -- --help) && place "$made/$1" "target/bin/$1"
+    else
+        (cd "crates/$1" && rt lib) && { [ "$1" != lay_c ] || place "$made/liblay_c.a" "$library"; }
+    fi
 }
+place() { cp "$1" "$2.new" && mv "$2.new" "$2"; }
 
 # ready NAME...: builds those of the programs that are not built, or that are older than something that they are made of
 ready() {
@@ -108,26 +115,18 @@ ready() {
     for name in "${stale[@]}"; do
         [ ! -x "$repository/target/bin/$name" ] || continue
         why='not built yet'
-        # rt builds nothing where its stamp says that it has
         rm -f "$repository/target/stamp/$name"
     done
     echo "${stale[*]}: $why; what is not proved of $(crates_for "${stale[@]}" | wc -l) crates is proved first, which may take some minutes" >&2
     prove "${stale[@]}" >&2 || exit
 }
 
-# ready_library: the same of the library for C
+# ready_library: the same of the library for C, whose functions the crate lay_c exports
 library=$repository/target/staticlib/liblay.a
 ready_library() { library_made || { writable && alone build_library; }; }
-library_made() { [ -f "$library" ] && made_since target/staticlib/liblay.made lay; }
+library_made() { [ -f "$library" ] && made_since target/stamp/lay_c lay_c; }
 build_library() {
-    local said began
     ! library_made || return 0
-    began=$(date +%s.%N)
-    prove_each lay || return
-    echo 'making the library, for which lay is proved once more'
-    said=$(rt staticlib lay </dev/null 2>&1) || {
-        echo "$said"
-        return 1
-    }
-    touch -d "@$began" target/staticlib/liblay.made
+    [ -f "$library" ] || rm -f target/stamp/lay_c
+    prove_each lay_c
 }

@@ -19,7 +19,7 @@ lay.dat laywrite 3 0 4 0 0'
 # The library of faults has every call by which a program reaches a file; else a program would make some that no fault is tried at.
 "$compiler" -std=c11 -O2 -Wall -Wextra -Werror -shared -fPIC -o "$folders/faults.so" tests/faults.c
 symbols() { "${compiler%gcc}nm" -D "$1" "$2" | sed 's/.* //; s/@.*//'; }
-others='__errno_location __libc_start_main __xpg_strerror_r memcpy memmove memset memcmp bcmp isatty'
+others='__errno_location __libc_start_main __sysv_signal __write __x86_get_cpuid_feature_leaf __xpg_strerror_r memcpy memmove memset memcmp bcmp isatty'
 for tool in "${tools[@]}"; do
     unknown=$(comm -23 <(symbols --undefined-only "target/bin/$tool" | grep -v '^__gmon\|^_ITM\|^__cxa' | sort -u) \
         <({ tr ' ' '\n' <<<"$others"; symbols --defined-only "$folders/faults.so"; } | sort -u))

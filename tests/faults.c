@@ -24,6 +24,7 @@
 #include <stdio.h>
 #include <stdlib.h>
 #include <string.h>
+#include <sys/file.h>
 #include <sys/stat.h>
 #include <time.h>
 #include <unistd.h>
@@ -124,16 +125,21 @@ int close(int file) {
 }
 
 int fsync(int file) { return NUMBERED(file) ? -1 : REAL(fsync, file); }
+int fdatasync(int file) { return NUMBERED(file) ? -1 : REAL(fdatasync, file); }
+int flock(int file, int how) { return NUMBERED(file) ? -1 : REAL(flock, file, how); }
 int fchmod(int file, mode_t mode) { return NUMBERED(file) ? -1 : REAL(fchmod, file, mode); }
 int fchown(int file, uid_t owner, gid_t group) { return NUMBERED(file) ? -1 : REAL(fchown, file, owner, group); }
 int ftruncate(int file, off_t length) { return NUMBERED(file) ? -1 : REAL(ftruncate, file, length); }
 off_t lseek(int file, off_t offset, int whence) { return NUMBERED(file) ? -1 : REAL(lseek, file, offset, whence); }
-int fstat(int file, struct stat *s) { return NUMBERED(file) ? -1 : REAL(fstat, file, s); }
-int stat(const char *path, struct stat *s) { return NAMED(path) ? -1 : REAL(stat, path, s); }
-int lstat(const char *path, struct stat *s) { return NAMED(path) ? -1 : REAL(lstat, path, s); }
-ssize_t readlink(const char *path, char *s, size_t n) { return NAMED(path) ? -1 : REAL(readlink, path, s, n); }
-int access(const char *path, int mode) { return NAMED(path) ? -1 : REAL(access, path, mode); }
-int mkstemp(char *name) { return NAMED(name) ? -1 : REAL(mkstemp, name); }
+
+/* std looks at files by this call alone: at an open one, at a name, and at a name that may be a link. Each has the word of the call
+   that is there for it alone. */
+int statx(int folder, const char *path, int flags, unsigned wanted, struct statx *s) {
+    const char *call = flags & AT_SYMLINK_NOFOLLOW ? "lstat" : "stat";
+    int failed = *path ? fails(call, path, 0) : fails("fstat", NULL, folder);
+    return failed ? -1 : REAL(statx, folder, path, flags, wanted, s);
+}
+
 int unlink(const char *path) { return NAMED(path) ? -1 : REAL(unlink, path); }
 int rename(const char *from, const char *to) { return NAMED(from) ? -1 : REAL(rename, from, to); }
 

@@ -27,7 +27,7 @@ installs "$asked/new/desk"
 pass_if "an installation: $(cat "$said")" ended_well
 pass_if 'it says what was installed' grep -qF "$asked/new/desk: laychain layexpect layjob laylist layone layshow laywrite, lib/liblay.a" "$printed"
 mv "$asked/new/desk" "$desk"
-pass_if 'there is a program for each link of bin/' [ "$(ls "$desk/bin")" = "$(find bin -type l -printf '%f\n' | sort)" ]
+pass_if 'there is a program for each command of bin/' [ "$(ls "$desk/bin")" = "$(commands)" ]
 names_neither() { ! grep -rlF -e "$repository" -e "${emulator[0]:-$toolchain}" "$desk"; }
 [ ${#emulator[@]} -gt 0 ] || pass_if 'nothing that is installed names the repository or the toolchain' names_neither
 
@@ -153,21 +153,20 @@ done
 # A machine that is not x86-64: `uname` and the toolchain's folder are stand-ins, and so is the emulator, which just runs what it is given.
 if [ "$(uname -m)" = x86_64 ]; then
     played=$asked/played kit=$asked/played/kit
-    mkdir -p "$kit/on/aarch64/toolchain/bin"
-    ln -s "$toolchain/lib" "$kit/on/aarch64/toolchain/lib"
+    mkdir -p "$kit/toolchain"
+    ln -s "$toolchain/lib" "$kit/toolchain/lib"
     printf '#!/bin/sh\necho aarch64\n' >"$played/uname"
-    printf '#!/bin/sh\necho "%s/docs/START-HERE.md"\n' "$kit" >"$played/rt"
-    printf '#!/bin/sh\ntouch "%s/emulated"\nexec "$@"\n' "$played" >"$kit/on/aarch64/toolchain/bin/qemu-x86_64"
-    mkdir "$kit/docs"
-    chmod +x "$played/uname" "$played/rt" "$kit/on/aarch64/toolchain/bin/qemu-x86_64"
+    printf '#!/bin/sh\necho "%s/START-HERE.md"\n' "$kit" >"$played/rt"
+    printf '#!/bin/sh\ntouch "%s/emulated"\nexec "$@"\n' "$played" >"$played/qemu-x86_64"
+    chmod +x "$played/uname" "$played/rt" "$played/qemu-x86_64"
     PATH=$played:$PATH installs "$asked/arm"
     pass_if "an installation on aarch64: $(cat "$said")" ended_well
-    pass_if 'it says what runs there, and how' grep -qF "this machine is aarch64, and the programs are for x86-64: they run under the toolchain's emulator, $kit" "$printed"
+    pass_if 'it says what runs there, and how' grep -qF "this machine is aarch64, and the programs are for x86-64: they run under the emulator $played/qemu-x86_64" "$printed"
     status=0
     PATH=$played:$PATH "$asked/arm/bin/laylist" "$example" >"$printed" 2>"$said" || status=$?
     pass_if "laylist under the emulator: $(cat "$said")" prints "$(<"$example/listing")"
     pass_if 'the emulator was used' [ -e "$played/emulated" ]
-    rm "$kit/on/aarch64/toolchain/bin/qemu-x86_64"
+    rm "$played/qemu-x86_64"
     status=0
     PATH=$played:$PATH "$asked/arm/bin/laylist" "$example" >"$printed" 2>"$said" || status=$?
     pass_if 'without the emulator it ends with 2' ended 2 'under which the programs run on this machine, is missing'

@@ -7,7 +7,7 @@ import re
 def listed():
     """crates.txt: each crate with what it rests on, libraries of the toolchain left out."""
     lines = [line.split("#")[0].split(":") for line in open("crates.txt")]
-    rests = {line[0].strip(): line[1].split() for line in lines if len(line) == 2}
+    rests = {line[0].split()[0]: line[1].split() for line in lines if len(line) == 2}
     return {name: [other for other in others if other in rests] for name, others in rests.items()}
 
 

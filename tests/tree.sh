@@ -3,20 +3,21 @@
 # function a full contract with one answer, its row in docs/CONTRACTS.md and its faults; and that documents name what there is.
 cd "$(dirname "$0")/.." && . tests/common.bash
 
-pass_if 'every file is in the layout of rt fmt' rt fmt --check
+sources=$(find crates -path '*/out' -prune -o -path 'crates/*/*/*' \( -name '*.rt' -o -name '*.antt' \) -print)
+pass_if 'every file is in the layout of rt fmt' "$toolchain/../bin/rattle" fmt --check $sources
 
 # headed FILE: that it begins with a comment, after a line `#!` if there is one
 headed() { awk '/^#!/ { next } { found = /^(--|\/\/|#|\/\*|""")/; exit } END { exit !found }' "$1"; }
 while read -r file; do
     pass_if "$file has a head that says what it is for" headed "$file"
-done < <(find .ci bench bin crates crates.txt install second tests -type f -not -path '*/data/*' -not -path '*/target/*' \
+done < <(find .ci bench bin crates crates.txt install second tests -type f -not -path '*/data/*' -not -path '*/target/*' -not -path '*/out/*' \
     -not -name stdin -not -name stdout -not -name args -not -name '*.md' -not -name Cargo.lock)
 
 # The words of a proof, outside comments.
 no_proof() { ! grep -vE '^ *--' "$1" | grep -nwE 'omega|refl|rw|simp|cc|subst|ap|absurd'; }
 while read -r file; do
     pass_if "$file holds no proof" no_proof "$file"
-done < <(find crates -path '*/specs/*.antt' | sort)
+done < <(grep /specs/ <<<"$sources" | sort)
 
 # declared FILE...: the names that they declare: types, definitions, and laws at the top of a file; a line each, sorted.
 declared() {
@@ -54,7 +55,7 @@ faulty() { [ "$(cut -d ' ' -f 2- | grep -cw "$1")" -ge "$2" ]; }
 # one_answer CRATE FUNCTION: that it is proved to have one, or named as one that cannot
 one_answer() {
     local alias
-    alias=$(sed -n "s/^use Rattle·$1\.proofs\.$2 as //p" crates/demands/proofs/OnlyAnswers.antt)
+    alias=$(sed -n "s/^use Rattle\.$1\.specs\.contracts\.$2 as //p" crates/demands/proofs/OnlyAnswers.antt)
     [ -n "$alias" ] && grep -qF "OneAnswer 𝓤 $alias.ended ($alias.clauses " crates/demands/proofs/OnlyAnswers.antt ||
         grep -q "^No one answer: .*\`$1::$2\`" docs/CONTRACTS.md
 }
@@ -62,8 +63,21 @@ one_answer() {
 # rows CRATE: the functions that have a row, those of a program's too, which has no public one.
 rows() { sed -n "s/^| \`$1::\([a-z_0-9]*\)\` |.*/\1/p" docs/CONTRACTS.md; }
 
+# promise CRATE FUNCTION: its parameters, its result and its clauses, without layout and without how C calls it
+promise() {
+    awk -v start="^ *pub (extern \"C\" )?fn $2[(<]" '$0 ~ start { found = 1 } found && /^{/ { exit } found' "crates/$1/src/lib.rt" |
+        tr -d ' \n' | sed 's/extern"C"//; s/,)/)/g'
+}
+
+# The library for C has the functions of lay, which promise the same: what is said and tried of those below is said of these.
+while read -r function kind; do
+    pass_if "lay_c::$function promises what lay::$function does" [ "$(promise lay_c "$function")" = "$(promise lay "$function")" ]
+    pass_if "lay_c::$function calls it" grep -q "^    lay::$function(" crates/lay_c/src/lib.rt
+done < <(public crates/lay_c/src/lib.rt)
+
 for crate in crates/*/; do
     name=$(basename "$crate")
+    [ "$name" != lay_c ] || continue
     there=$(faults "$name") rows=$(rows "$name")
     while read -r function kind; do
         pass_if "$name::$function fixes what it returns and requires nothing" [ "$kind" = full ]

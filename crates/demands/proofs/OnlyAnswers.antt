@@ -9,8 +9,18 @@ use seplogic.Ra.Ura.{Ura}
 use base.Logic.{SProp}
 use contract.Monad.{Fun}
 use types.Logic.{Logic}
+use denote.RattleType.{RattleType}
+use mir.Syntax.{Dict}
 use prog.Memory.{Memory}
 use prog.Routine.{Routine}
+use Rattle.std.specs.declared.env.Env as Env
+use Rattle.std.specs.declared.io.Print as Print
+use Rattle.std.specs.declared.fs.files.Files as Files
+use Rattle.std.specs.declared.fs.files.OpenFile as OpenFile
+use Rattle.std.specs.declared.io.traits.Read as Read
+use Rattle.std.specs.declared.io.traits.Seek as Seek
+use Rattle.std.specs.declared.io.traits.Write as Write
+use Rattle.files.specs.declared.EprintBytes as EprintBytes
 use Rattle.demands.specs.OneAnswer.{OneAnswer}
 use Rattle.demands.proofs.OnlyLaws.{same, told, ◌beside◌, only, ◌&◌}
 use Rattle.squares.specs.contracts.root as root
@@ -360,47 +370,52 @@ module _ {M : Type 1} {𝓤 : Ura M} (𝓛 : Logic 𝓤) (mem : Memory → SProp
   pub shown_how_many_only : OneAnswer 𝓤 shown-how-many.ended (shown-how-many.clauses 𝓛 mem run)
   shown_how_many_only κs a g x y = only 𝓤 (same beside same) (λ (answer, out). answer & out & refl)
 
-  pub none_given_only : OneAnswer 𝓤 none-given.ended (none-given.clauses 𝓛 mem run)
-  none_given_only κs a g x y = only 𝓤 same (λ answer. answer & refl)
+  pub none_given_only : (t : RattleType) (env : Env.Ghosts t.Denot) (env-dict : Dict) (eprint : EprintBytes.Ghosts t.Denot) (eprint-dict : Dict) → OneAnswer 𝓤 (none-given.ended t env env-dict eprint eprint-dict) (none-given.clauses t env env-dict eprint eprint-dict 𝓛 mem run)
+  none_given_only t env env-dict eprint eprint-dict κs a g x y = only 𝓤 same (λ answer. answer & refl)
 
-  pub refused_only : OneAnswer 𝓤 refused.ended (refused.clauses 𝓛 mem run)
-  refused_only κs a g x y = only 𝓤 same (λ answer. answer & refl)
+  pub refused_only : (t : RattleType) (eprint : EprintBytes.Ghosts t.Denot) (eprint-dict : Dict) → OneAnswer 𝓤 (refused.ended t eprint eprint-dict) (refused.clauses t eprint eprint-dict 𝓛 mem run)
+  refused_only t eprint eprint-dict κs a g x y = only 𝓤 same (λ answer. answer & refl)
 
-  pub files_missing_only : OneAnswer 𝓤 files-missing.ended (files-missing.clauses 𝓛 mem run)
-  files_missing_only κs a g x y = only 𝓤 same (λ answer. answer & refl)
+  pub files_missing_only : (t : RattleType) (eprint : EprintBytes.Ghosts t.Denot) (eprint-dict : Dict) → OneAnswer 𝓤 (files-missing.ended t eprint eprint-dict) (files-missing.clauses t eprint eprint-dict 𝓛 mem run)
+  files_missing_only t eprint eprint-dict κs a g x y = only 𝓤 same (λ answer. answer & refl)
 
-  pub files_written_only : OneAnswer 𝓤 files-written.ended (files-written.clauses 𝓛 mem run)
-  files_written_only κs a g x y = only 𝓤 same (λ answer. answer & refl)
+  pub files_written_only : (t : RattleType) (print : Print.Ghosts t.Denot) (print-dict : Dict) (eprint : EprintBytes.Ghosts t.Denot) (eprint-dict : Dict) → OneAnswer 𝓤 (files-written.ended t print print-dict eprint eprint-dict) (files-written.clauses t print print-dict eprint eprint-dict 𝓛 mem run)
+  files_written_only t print print-dict eprint eprint-dict κs a g x y = only 𝓤 same (λ answer. answer & refl)
 
-  pub files_job_written_only : OneAnswer 𝓤 files-job-written.ended (files-job-written.clauses 𝓛 mem run)
-  files_job_written_only κs a g x y = only 𝓤 same (λ answer. answer & refl)
+  pub files_job_written_only : (t : RattleType) (print : Print.Ghosts t.Denot) (print-dict : Dict) (eprint : EprintBytes.Ghosts t.Denot) (eprint-dict : Dict) → OneAnswer 𝓤 (files-job-written.ended t print print-dict eprint eprint-dict) (files-job-written.clauses t print print-dict eprint eprint-dict 𝓛 mem run)
+  files_job_written_only t print print-dict eprint eprint-dict κs a g x y = only 𝓤 same (λ answer. answer & refl)
 
-  pub files_chains_unknown_only : OneAnswer 𝓤 files-chains-unknown.ended (files-chains-unknown.clauses 𝓛 mem run)
-  files_chains_unknown_only κs a g x y = only 𝓤 same (λ answer. answer & refl)
+  pub files_chains_unknown_only : (t : RattleType) (eprint : EprintBytes.Ghosts t.Denot) (eprint-dict : Dict) → OneAnswer 𝓤 (files-chains-unknown.ended t eprint eprint-dict) (files-chains-unknown.clauses t eprint eprint-dict 𝓛 mem run)
+  files_chains_unknown_only t eprint eprint-dict κs a g x y = only 𝓤 same (λ answer. answer & refl)
 
-  pub files_give_up_only : OneAnswer 𝓤 files-give-up.ended (files-give-up.clauses 𝓛 mem run)
-  files_give_up_only κs a g x y = only 𝓤 same (λ answer. answer & refl)
+  pub files_give_up_only :
+      (t file dir : RattleType) (files : Files.Ghosts t.Denot file.Denot dir.Denot) (files-dict : Dict)
+      (read : Read.Ghosts file.Denot) (read-dict : Dict) (write : Write.Ghosts file.Denot) (write-dict : Dict)
+      (seek : Seek.Ghosts file.Denot) (seek-dict : Dict) (opening : OpenFile.Ghosts file.Denot) (opening-dict : Dict)
+      (listed : Read.Ghosts dir.Denot) (listed-dict file-destruct dir-destruct : Dict) →
+      OneAnswer 𝓤 (files-give-up.ended t file dir files files-dict read read-dict write write-dict seek seek-dict opening opening-dict listed listed-dict file-destruct dir-destruct) (files-give-up.clauses t file dir files files-dict read read-dict write write-dict seek seek-dict opening opening-dict listed listed-dict file-destruct dir-destruct 𝓛 mem run)
+  files_give_up_only t file dir files files-dict read read-dict write write-dict seek seek-dict opening opening-dict listed listed-dict file-destruct dir-destruct κs a g x y = only 𝓤 same (λ answer. answer & refl)
 
-  pub files_note_only : OneAnswer 𝓤 files-note.ended (files-note.clauses 𝓛 mem run)
-  files_note_only κs a g x y = only 𝓤 same (λ answer. answer & refl)
+  pub files_note_only : (t : RattleType) (eprint : EprintBytes.Ghosts t.Denot) (eprint-dict : Dict) → OneAnswer 𝓤 (files-note.ended t eprint eprint-dict) (files-note.clauses t eprint eprint-dict 𝓛 mem run)
+  files_note_only t eprint eprint-dict κs a g x y = only 𝓤 same (λ answer. answer & refl)
 
-  pub files_failed_only : OneAnswer 𝓤 files-failed.ended (files-failed.clauses 𝓛 mem run)
-  files_failed_only κs a g x y = only 𝓤 same (λ answer. answer & refl)
+  pub files_failed_only : (t : RattleType) (eprint : EprintBytes.Ghosts t.Denot) (eprint-dict : Dict) → OneAnswer 𝓤 (files-failed.ended t eprint eprint-dict) (files-failed.clauses t eprint eprint-dict 𝓛 mem run)
+  files_failed_only t eprint eprint-dict κs a g x y = only 𝓤 same (λ answer. answer & refl)
 
-  pub files_trouble_only : OneAnswer 𝓤 files-trouble.ended (files-trouble.clauses 𝓛 mem run)
-  files_trouble_only κs a g x y = only 𝓤 same (λ answer. answer & refl)
+  pub files_trouble_only : (t : RattleType) (eprint : EprintBytes.Ghosts t.Denot) (eprint-dict : Dict) → OneAnswer 𝓤 (files-trouble.ended t eprint eprint-dict) (files-trouble.clauses t eprint eprint-dict 𝓛 mem run)
+  files_trouble_only t eprint eprint-dict κs a g x y = only 𝓤 same (λ answer. answer & refl)
 
-  pub files_refused_word_only : OneAnswer 𝓤 files-refused-word.ended (files-refused-word.clauses 𝓛 mem run)
-  files_refused_word_only κs a g x y = only 𝓤 same (λ answer. answer & refl)
+  pub files_refused_word_only : (t : RattleType) (eprint : EprintBytes.Ghosts t.Denot) (eprint-dict : Dict) → OneAnswer 𝓤 (files-refused-word.ended t eprint eprint-dict) (files-refused-word.clauses t eprint eprint-dict 𝓛 mem run)
+  files_refused_word_only t eprint eprint-dict κs a g x y = only 𝓤 same (λ answer. answer & refl)
 
-  pub files_refused_argument_only : OneAnswer 𝓤 files-refused-argument.ended (files-refused-argument.clauses 𝓛 mem run)
-  files_refused_argument_only κs a g x y = only 𝓤 same (λ answer. answer & refl)
+  pub files_refused_argument_only : (t : RattleType) (env : Env.Ghosts t.Denot) (env-dict : Dict) (eprint : EprintBytes.Ghosts t.Denot) (eprint-dict : Dict) → OneAnswer 𝓤 (files-refused-argument.ended t env env-dict eprint eprint-dict) (files-refused-argument.clauses t env env-dict eprint eprint-dict 𝓛 mem run)
+  files_refused_argument_only t env env-dict eprint eprint-dict κs a g x y = only 𝓤 same (λ answer. answer & refl)
 
-  pub files_refused_form_only : OneAnswer 𝓤 files-refused-form.ended (files-refused-form.clauses 𝓛 mem run)
-  files_refused_form_only κs a g x y = only 𝓤 same (λ answer. answer & refl)
+  pub files_refused_form_only : (t : RattleType) (eprint : EprintBytes.Ghosts t.Denot) (eprint-dict : Dict) → OneAnswer 𝓤 (files-refused-form.ended t eprint eprint-dict) (files-refused-form.clauses t eprint eprint-dict 𝓛 mem run)
+  files_refused_form_only t eprint eprint-dict κs a g x y = only 𝓤 same (λ answer. answer & refl)
 
-  pub files_lines_refused_only : OneAnswer 𝓤 files-lines-refused.ended (files-lines-refused.clauses 𝓛 mem run)
-  files_lines_refused_only κs a g x y = only 𝓤 same (λ answer. answer & refl)
+  pub files_lines_refused_only : (t : RattleType) (eprint : EprintBytes.Ghosts t.Denot) (eprint-dict : Dict) → OneAnswer 𝓤 (files-lines-refused.ended t eprint eprint-dict) (files-lines-refused.clauses t eprint eprint-dict 𝓛 mem run)
+  files_lines_refused_only t eprint eprint-dict κs a g x y = only 𝓤 same (λ answer. answer & refl)
 
   pub list_only : OneAnswer 𝓤 list.ended (list.clauses 𝓛 mem run)
   list_only κs a g x y = only 𝓤 (same beside same) (λ (answer, out). answer & out & refl)

@@ -29,7 +29,7 @@ pub(crate) fn may_replace(rt: &(impl Files + EprintBytes), tool: &[u8], name: &[
     let link = system::is_link(rt, name);
     let old = system::of_name(rt, name);
     let missing = is_error(old.error, ENOENT);
-    let writable = system::may_write(rt, name, old);
+    let writable = !link && system::may_write(rt, name, old);
     may_be_replaced(rt, tool, name, link, old, missing, writable)
 }
 

@@ -88,16 +88,14 @@ const CHAIN_READINGS: usize = 2;
 const HALF: usize = 1 << 32;
 
 // The version of lay.h that this is made for.
-#[unsafe(no_mangle)]
-pub extern "C" fn lay_version() -> u32
+pub fn lay_version() -> u32
     ensures { result ≡ version }
 {
     VERSION
 }
 
 // Metres to whole centimetres, and how they were rounded.
-#[unsafe(no_mangle)]
-pub extern "C" fn lay_centimetres(metres: f64, centimetres: &mut i64, mark: &mut u32) -> u32
+pub fn lay_centimetres(metres: f64, centimetres: &mut i64, mark: &mut u32) -> u32
     ensures answer { result ≡ (whole_figures (centimetres_of metres)).refusal }
     ensures centimetres { centimetres.new ≡ (whole_figures (centimetres_of metres)).centimetres }
     ensures mark { mark.new ≡ mark_figure (mark_of metres) }
@@ -113,8 +111,7 @@ pub extern "C" fn lay_centimetres(metres: f64, centimetres: &mut i64, mark: &mut
 }
 
 // Whole centimetres to metres.
-#[unsafe(no_mangle)]
-pub extern "C" fn lay_metres(centimetres: i64, metres: &mut f64) -> u32
+pub fn lay_metres(centimetres: i64, metres: &mut f64) -> u32
     ensures answer { result ≡ (length_figures (metres_of centimetres)).refusal }
     ensures metres { metres.new ≡ (length_figures (metres_of centimetres)).metres }
 {
@@ -124,14 +121,7 @@ pub extern "C" fn lay_metres(centimetres: i64, metres: &mut f64) -> u32
 }
 
 // The readings expected at a place, for the chain in the bytes with its factor.
-#[unsafe(no_mangle)]
-pub extern "C" fn lay_expected(
-    readings: &mut [i64],
-    chain: &[u8],
-    factor: u32,
-    e: u32,
-    n: u32,
-) -> u32
+pub fn lay_expected(readings: &mut [i64], chain: &[u8], factor: u32, e: u32, n: u32) -> u32
     ensures answer { result ≡ (expected_told (length readings.old) chain.now factor e n).refusal }
     ensures readings { readings.new ≡ (expected_told (length readings.old) chain.now factor e n).holds }
 {
@@ -143,8 +133,7 @@ pub extern "C" fn lay_expected(
 }
 
 // Every cell of a job's window that matches the readings, in chart order. Chain and job are given as bytes, the chain with its factor.
-#[unsafe(no_mangle)]
-pub extern "C" fn lay_search(
+pub fn lay_search(
     list: &mut [u32],
     chain: &[u8],
     factor: u32,
@@ -167,8 +156,7 @@ pub extern "C" fn lay_search(
 }
 
 // Whether no cell of a job's window matches the readings, one, or several. Chain and job are given as bytes, the chain with its factor.
-#[unsafe(no_mangle)]
-pub extern "C" fn lay_how_many(
+pub fn lay_how_many(
     chain: &[u8],
     factor: u32,
     readings: &[i64],
@@ -194,8 +182,7 @@ pub extern "C" fn lay_how_many(
 }
 
 // Reads a log record, in whole centimetres.
-#[unsafe(no_mangle)]
-pub extern "C" fn lay_read_record(
+pub fn lay_read_record(
     bytes: &[u8],
     kind: &mut u32,
     chain: &mut u32,
@@ -229,8 +216,7 @@ pub extern "C" fn lay_read_record(
 }
 
 // Writes a log record into a buffer.
-#[unsafe(no_mangle)]
-pub extern "C" fn lay_write_record(
+pub fn lay_write_record(
     buffer: &mut [u8],
     kind: u32,
     chain: u32,
@@ -254,8 +240,7 @@ pub extern "C" fn lay_write_record(
 }
 
 // Reads the job in 32 bytes.
-#[unsafe(no_mangle)]
-pub extern "C" fn lay_read_job(
+pub fn lay_read_job(
     bytes: &[u8],
     e: &mut u32,
     n: &mut u32,
@@ -280,15 +265,7 @@ pub extern "C" fn lay_read_job(
 }
 
 // Writes a job into a buffer.
-#[unsafe(no_mangle)]
-pub extern "C" fn lay_write_job(
-    buffer: &mut [u8],
-    ce: u32,
-    cn: u32,
-    k: u32,
-    t: u32,
-    allowance: u64,
-) -> u32
+pub fn lay_write_job(buffer: &mut [u8], ce: u32, cn: u32, k: u32, t: u32, allowance: u64) -> u32
     ensures answer { result ≡ job_refusal_of (length buffer.old) (job_by ce cn k t allowance) }
     ensures buffer { buffer.new ≡ job_buffer_of (length buffer.old) (job_by ce cn k t allowance) }
 {
@@ -309,8 +286,7 @@ pub extern "C" fn lay_write_job(
 }
 
 // How many chains a table has.
-#[unsafe(no_mangle)]
-pub extern "C" fn lay_count_chains(table: &[u8], count: &mut usize) -> u32
+pub fn lay_count_chains(table: &[u8], count: &mut usize) -> u32
     ensures answer { result ≡ (count_told table.now).refusal }
     ensures count { count.new ≡ (count_told table.now).count }
 {
@@ -320,8 +296,7 @@ pub extern "C" fn lay_count_chains(table: &[u8], count: &mut usize) -> u32
 }
 
 // The bytes and the factor of the chain with a given number in a table and its side file.
-#[unsafe(no_mangle)]
-pub extern "C" fn lay_chain(
+pub fn lay_chain(
     buffer: &mut [u8],
     table: &[u8],
     scale: &[u8],
@@ -339,8 +314,7 @@ pub extern "C" fn lay_chain(
 }
 
 // The stations of a chain from its bytes and its factor, easting and northing in turn.
-#[unsafe(no_mangle)]
-pub extern "C" fn lay_read_chain(chain: &[u8], factor: u32, stations: &mut [u32]) -> u32
+pub fn lay_read_chain(chain: &[u8], factor: u32, stations: &mut [u32]) -> u32
     ensures answer { result ≡ (stations_told (length stations.old) chain.now factor).refusal }
     ensures stations { stations.new ≡ (stations_told (length stations.old) chain.now factor).holds }
 {
@@ -348,8 +322,7 @@ pub extern "C" fn lay_read_chain(chain: &[u8], factor: u32, stations: &mut [u32]
 }
 
 // Writes a chain into a buffer, from the numbers of its stations and its factor.
-#[unsafe(no_mangle)]
-pub extern "C" fn lay_write_chain(buffer: &mut [u8], stations: &[u32], factor: u32) -> u32
+pub fn lay_write_chain(buffer: &mut [u8], stations: &[u32], factor: u32) -> u32
     ensures answer { result ≡ (chain_written (length buffer.old) stations.now factor).refusal }
     ensures buffer { buffer.new ≡ (chain_written (length buffer.old) stations.now factor).holds }
 {
@@ -357,8 +330,7 @@ pub extern "C" fn lay_write_chain(buffer: &mut [u8], stations: &[u32], factor: u
 }
 
 // Writes a factor into a buffer.
-#[unsafe(no_mangle)]
-pub extern "C" fn lay_write_factor(buffer: &mut [u8], factor: u32) -> u32
+pub fn lay_write_factor(buffer: &mut [u8], factor: u32) -> u32
     ensures answer { result ≡ factor_refusal_of (length buffer.old) factor }
     ensures buffer { buffer.new ≡ factor_buffer_of (length buffer.old) factor }
 {
@@ -367,8 +339,7 @@ pub extern "C" fn lay_write_factor(buffer: &mut [u8], factor: u32) -> u32
 
 // Puts the listing of a log, or of a further part of one, into a buffer as text. On entry `part` has the place carried to it; on
 // return, the length of the text and the place carried on.
-#[unsafe(no_mangle)]
-pub extern "C" fn lay_list(
+pub fn lay_list(
     text: &mut [u8],
     job: &[u8],
     table: &[u8],

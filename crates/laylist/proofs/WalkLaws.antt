@@ -1,6 +1,6 @@
 -- A part is no longer than what is listed at once, the buffer has room for its listing, and the listing of the rest goes on from the
 -- place that the part carries on.
-use Prim.Native.Nat.{ℕ, ◌+◌, ◌-◌, ◌/◌, ◌%◌, ◌≤◌, ◌<◌}
+use Prim.Native.Nat.{ℕ, ◌-◌, ◌/◌, ◌%◌, ◌≤◌, ◌<◌}
 use mathlib.Core.Bool.{Bool, true, false, true≢false, cond}
 use mathlib.Core.List.{List}
 use mathlib.Core.Path.{◌≡◌, refl, sym, ap, ◌∙◌, subst}
@@ -26,7 +26,7 @@ use Rattle.listing.specs.Listings.{Part, lines_from, listing_by, listing_from, h
 use Rattle.listing.proofs.Theorems.{in_parts}
 use Rattle.laylist.specs.declared.Next.{Next}
 use Rattle.laylist.specs.declared.Next.TheVariants as follows
-use Rattle.laylist.specs.Walks.{accepts_job, accepts_table, AllGood, part_bytes, part_room, may_take_long, bytes_at_once, AtOnce, GoesOn}
+use Rattle.laylist.specs.Walks.{accepts_job, accepts_table, AllGood, part_bytes, part_room, may_take_long, bytes_at_once, GoesOn}
 
 -- The buffer has room for the listing of a part.
 pub roomy : (out part : List ℕ) → length out ≡ part_room → length part ≤ part_bytes → has_listing_room (length out) part ≡ true
@@ -41,23 +41,7 @@ pub under_usual : (j : Job) → j.allowance ≤ usual_allowance → part_bytes �
 unfolding may_take_long
 under_usual j h = rw (le-ltb usual_allowance j.allowance h)
 
--- Whether searches may take long or not, at most 128 records are listed at once, and if they may, at most one.
-few_at_once : (long : Bool) (n : ℕ) → n ≤ cond long log_bytes part_bytes → n ≤ part_bytes
-few_at_once true n h = omega arith
-few_at_once false n h = h
-
-one_at_once : (long : Bool) (n : ℕ) → n ≤ cond long log_bytes part_bytes → long ≡ true → (n + (log_bytes - 1)) / log_bytes ≤ 1
-one_at_once true n h is = omega arith
-one_at_once false n h is = absurd (true≢false (sym is))
-
-pub at_once : (job part : List ℕ) → length part ≤ bytes_at_once (job_of job) → AtOnce job part
-at_once job part h =
-    record {
-      few = few_at_once (may_take_long (job_of job)) (length part) h;
-      line_by_line = one_at_once (may_take_long (job_of job)) (length part) h;
-    }
-
--- They are whole records, and at least one.
+-- What is listed at once are whole records, and at least one.
 whole_at_once : (long : Bool) → (0 < cond long log_bytes part_bytes) × (cond long log_bytes part_bytes % log_bytes ≡ 0)
 whole_at_once true = (omega arith, refl)
 whole_at_once false = (omega arith, refl)

@@ -8,9 +8,12 @@ ghost use Rattle.records.specs.Jobs.{job_of};
 ghost use Rattle.listing.specs.Listings.{listing_from};
 ghost use Rattle.laylist.specs.Walks.{accepts_job, accepts_table, AllGood, part_room, bytes_at_once, AtOnce, BeginsWith, GoesOn};
 
-use files::{Filled, Opened};
+use files::{EprintBytes, Filled, Opened};
 use listing::{Carried, Listed};
 use records::{ChainCount, JobAnswer};
+use std::fs::File;
+use std::io::Print;
+use std::rt::Files;
 
 // A listing, whose text is the first `length` bytes of a buffer, and the place carried on from it.
 #[derive(Clone, Copy)]
@@ -32,8 +35,9 @@ const PART_BYTES: usize = 128 * records::LOG_BYTES;
 // Room for 129 longest lines: one for each of these records and one more, as `listing::list` requires.
 const PART_ROOM: usize = 129 * listing::LONGEST_LINE;
 
-fn main() {
+fn main(rt: HostRuntime) {
     let words = files::no_arguments(
+        &rt,
         b"laylist",
         b"laylist lists a lay log: it reads job.dat, chain.dat, scale.dat and lay.dat in this folder, and
 prints one line for each record.
@@ -52,19 +56,19 @@ not fit the table SCALE REFUSED. A missing file counts as empty, and a note says
   laylist FOLDER    lists that folder
 ",
     );
-    if files::none_given(b"laylist", words, b"no argument was expected") {
-        list_files();
+    if files::none_given(&rt, b"laylist", words, b"no argument was expected") {
+        list_files(&rt);
     }
 }
 
-fn list_files() {
+fn list_files(rt: &(impl Files<File = File> + Print + EprintBytes)) {
     let mut out = out_buffer();
     // One byte more than a job has, so that a file that is too long is noticed.
     let mut job = [0u8; records::JOB_BYTES + 1];
-    let Filled::Bytes(n) = files::start(b"laylist", b"job.dat", &mut job) else {
+    let Filled::Bytes(n) = files::start(rt, b"laylist", b"job.dat", &mut job) else {
         return;
     };
-    by_job(&mut out, &job[0..n]);
+    by_job(rt, &mut out, &job[0..n]);
 }
 
 // The buffer for the text. It is made in a function of its own, so that proofs elsewhere know only its length.
@@ -73,30 +77,30 @@ fn out_buffer() -> [u8; PART_ROOM] {
 }
 
 // A refused job is printed before the table is read, because reading may fail.
-fn by_job(out: &mut [u8], job: &[u8])
+fn by_job(rt: &(impl Files<File = File> + Print + EprintBytes), out: &mut [u8], job: &[u8])
     requires { length out.old ≡ part_room }
 {
-    if !job_accepted(out, job) {
+    if !job_accepted(rt, out, job) {
         return;
     }
     // One byte more than the longest table has, for the same reason.
     let mut table = [0u8; records::TABLE_BYTES + 1];
-    let file = files::open(b"laylist", b"chain.dat");
-    let Filled::Bytes(n) = files::start_of(file, b"laylist", b"chain.dat", &mut table) else {
+    let file = files::open(rt, b"laylist", b"chain.dat");
+    let Filled::Bytes(n) = files::start_of(rt, &file, b"laylist", b"chain.dat", &mut table) else {
         return;
     };
-    by_table(out, job, &table[0..n], file);
+    by_table(rt, out, job, &table[0..n], file);
 }
 
 // Whether the job is accepted. If not, its refusal is all that is printed, whatever the table and the log.
-fn job_accepted(out: &mut [u8], job: &[u8]) -> bool
+fn job_accepted(rt: &(impl Print + EprintBytes), out: &mut [u8], job: &[u8]) -> bool
     requires { length out.old ≡ part_room }
     ensures { result ≡ accepts_job (job_of job.now) }
 {
     match records::job_of(job) {
         JobAnswer::Job(_) => true,
         JobAnswer::Refused(_) => {
-            print_part(out, job, b"", b"", b"", Carried::Nothing);
+            print_part(rt, out, job, b"", b"", b"", Carried::Nothing);
             false
         }
     }
@@ -104,78 +108,109 @@ fn job_accepted(out: &mut [u8], job: &[u8]) -> bool
 
 // A refused table is printed before the side file is read. `file` is the table's: it must still be there when the side file has been
 // read, since the two belong together.
-fn by_table(out: &mut [u8], job: &[u8], table: &[u8], file: Opened)
+fn by_table(
+    rt: &(impl Files<File = File> + Print + EprintBytes),
+    out: &mut [u8],
+    job: &[u8],
+    table: &[u8],
+    file: Opened,
+)
     requires { (length out.old ≡ part_room) × (accepts_job (job_of job.now) ≡ true) }
 {
-    if !table_accepted(out, job, table) {
+    if !table_accepted(rt, out, job, table) {
         return;
     }
     let mut scale = [0u8; records::SCALE_BYTES + 1];
-    let Filled::Bytes(n) = files::start(b"laylist", b"scale.dat", &mut scale) else {
+    let Filled::Bytes(n) = files::start(rt, b"laylist", b"scale.dat", &mut scale) else {
         return;
     };
-    if files::is_still(b"laylist", b"chain.dat", file) {
-        by_scale(out, job, table, &scale[0..n]);
+    if files::is_still(rt, b"laylist", b"chain.dat", &file) {
+        by_scale(rt, out, job, table, &scale[0..n]);
     }
 }
 
 // Whether the table is accepted. If not, its refusal is all that is printed, whatever the side file and the log.
-fn table_accepted(out: &mut [u8], job: &[u8], table: &[u8]) -> bool
+fn table_accepted(rt: &(impl Print + EprintBytes), out: &mut [u8], job: &[u8], table: &[u8]) -> bool
     requires { length out.old ≡ part_room }
     ensures { result ≡ accepts_table (chain_count_of table.now) }
 {
     match records::chain_count(table) {
         ChainCount::Chains(_) => true,
         ChainCount::Refused(_) => {
-            print_part(out, job, table, b"", b"", Carried::Nothing);
+            print_part(rt, out, job, table, b"", b"", Carried::Nothing);
             false
         }
     }
 }
 
-fn by_scale(out: &mut [u8], job: &[u8], table: &[u8], scale: &[u8])
+fn by_scale(
+    rt: &(impl Files<File = File> + Print + EprintBytes),
+    out: &mut [u8],
+    job: &[u8],
+    table: &[u8],
+    scale: &[u8],
+)
     requires { (length out.old ≡ part_room) × (accepts_job (job_of job.now) ≡ true) }
 {
-    if scale_accepted(out, job, table, scale) {
-        list_log(out, job, table, scale);
+    if scale_accepted(rt, out, job, table, scale) {
+        list_log(rt, out, job, table, scale);
     }
 }
 
 // Whether the side file fits the table. If not, its refusal is all that is printed, whatever the log.
-fn scale_accepted(out: &mut [u8], job: &[u8], table: &[u8], scale: &[u8]) -> bool
+fn scale_accepted(
+    rt: &(impl Print + EprintBytes),
+    out: &mut [u8],
+    job: &[u8],
+    table: &[u8],
+    scale: &[u8],
+) -> bool
     requires { length out.old ≡ part_room }
     ensures { result ≡ accepts_table (scaled_count_of table.now scale.now) }
 {
     match records::scaled_count(table, scale) {
         ChainCount::Chains(_) => true,
         ChainCount::Refused(_) => {
-            print_part(out, job, table, scale, b"", Carried::Nothing);
+            print_part(rt, out, job, table, scale, b"", Carried::Nothing);
             false
         }
     }
 }
 
 // Opens the log and prints its lines.
-fn list_log(out: &mut [u8], job: &[u8], table: &[u8], scale: &[u8])
+fn list_log(
+    rt: &(impl Files<File = File> + Print + EprintBytes),
+    out: &mut [u8],
+    job: &[u8],
+    table: &[u8],
+    scale: &[u8],
+)
     requires { (length out.old ≡ part_room) × AllGood job.now table.now scale.now }
 {
-    match files::open(b"laylist", b"lay.dat") {
-        Opened::File(log) => list_stretches(out, job, table, scale, log),
+    match files::open(rt, b"laylist", b"lay.dat") {
+        Opened::File(log) => list_stretches(rt, out, job, table, scale, &log),
         Opened::Missing => {
-            files::missing(b"laylist", b"lay.dat");
+            files::missing(rt, b"laylist", b"lay.dat");
         }
         Opened::Failed => {}
     }
 }
 
 // Prints the lines of the log, stretch by stretch.
-fn list_stretches(out: &mut [u8], job: &[u8], table: &[u8], scale: &[u8], log: i32)
+fn list_stretches(
+    rt: &(impl Print + EprintBytes),
+    out: &mut [u8],
+    job: &[u8],
+    table: &[u8],
+    scale: &[u8],
+    log: &File,
+)
     requires { (length out.old ≡ part_room) × AllGood job.now table.now scale.now }
 {
     let mut carried = Carried::Nothing;
     let mut turns = files::MOST_STRETCHES;
     while turns > 0 {
-        let Next::From(last) = list_stretch(out, job, table, scale, log, carried) else {
+        let Next::From(last) = list_stretch(rt, out, job, table, scale, log, carried) else {
             return;
         };
         carried = last;
@@ -185,20 +220,21 @@ fn list_stretches(out: &mut [u8], job: &[u8], table: &[u8], scale: &[u8], log: i
 
 // Reads a stretch of the log and prints its lines before the next stretch is read, because reading may fail.
 fn list_stretch(
+    rt: &(impl Print + EprintBytes),
     out: &mut [u8],
     job: &[u8],
     table: &[u8],
     scale: &[u8],
-    log: i32,
+    log: &File,
     before: Carried,
 ) -> Next
     requires { (length out.old ≡ part_room) × AllGood job.now table.now scale.now }
 {
-    let mut stretch = io::large_buffer();
-    let Filled::Bytes(n) = files::fill(b"laylist", b"lay.dat", log, &mut stretch) else {
+    let mut stretch = [0u8; 65_536];
+    let Filled::Bytes(n) = files::fill(rt, b"laylist", b"lay.dat", log, &mut stretch) else {
         return Next::End;
     };
-    let next = list_parts(out, job, table, scale, &stretch[0..n], before);
+    let next = list_parts(rt, out, job, table, scale, &stretch[0..n], before);
     if n < stretch.len() {
         return Next::End;
     }
@@ -207,6 +243,7 @@ fn list_stretch(
 
 // Lists a stretch of the log, part by part, each with the place carried from the one before.
 fn list_parts(
+    rt: &(impl Print + EprintBytes),
     out: &mut [u8],
     job: &[u8],
     table: &[u8],
@@ -222,7 +259,8 @@ fn list_parts(
     let mut done = 0;
     while done < log.len() {
         let next = records::piece_end(done, bytes, log.len());
-        let Next::From(place) = print_part(out, job, table, scale, &log[done..next], carried) else {
+        let Next::From(place) = print_part(rt, out, job, table, scale, &log[done..next], carried)
+        else {
             return Next::End;
         };
         carried = place;
@@ -247,6 +285,7 @@ fn bytes_at_once(job: &[u8]) -> usize
 
 // Lists a part of the log and prints its text.
 fn print_part(
+    rt: &(impl Print + EprintBytes),
     out: &mut [u8],
     job: &[u8],
     table: &[u8],
@@ -259,7 +298,7 @@ fn print_part(
 {
     let listing = list_part(out, job, table, scale, part, before);
     let n = listing.length;
-    if !printed(&out[..n], job, table, scale, part, before) {
+    if !printed(rt, &out[..n], job, table, scale, part, before) {
         return Next::End;
     }
     let carried = listing.carried;
@@ -291,6 +330,7 @@ fn list_part(
 // Prints a text and returns whether that succeeded. Everything that is printed except the help goes through here, and must be the
 // listing of a part. The other parameters are there only to state this.
 fn printed(
+    rt: &(impl Print + EprintBytes),
     text: &[u8],
     job: &[u8],
     table: &[u8],
@@ -300,5 +340,5 @@ fn printed(
 ) -> bool
     requires { text.now ≡ (listing_from job.now table.now scale.now part.now before).text }
 {
-    files::print(b"laylist", text)
+    files::print(rt, b"laylist", text)
 }

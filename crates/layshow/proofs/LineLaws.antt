@@ -7,8 +7,6 @@ use native.Mathlib.Omega.{arith}
 use borrow.Author.Tests.{le-leb}
 use lib.ListN.{length, take, drop, take-append-drop, length-append, length-drop}
 use lib.Seq.{length-take-le, drop-append-le, drop-drop}
-use Rattle.text.specs.Puts.{Put}
-use Rattle.text.proofs.PutLaws.{put_length}
 use Rattle.shown.specs.declared.Line.{Line}
 use Rattle.shown.specs.declared.Line.TheVariants.{Text}
 use Rattle.shown.specs.Rooms.{Says, line_for, buffer_for, text_of, line_room, has_line_room, in_room}
@@ -53,7 +51,3 @@ module _ (o : List ℕ) (at bytes : ℕ) (fits : at + line_room bytes ≤ length
         };
         short = omega (arith, ends, short, room_long);
       }
-
--- A text that was put ends inside its buffer.
-pub ends_within : {o : List ℕ} {at : ℕ} {x o' : List ℕ} {end : ℕ} → Put o at x o' end → end ≤ length o'
-ends_within p = omega (arith, p.fits, p.end_is, put_length p)

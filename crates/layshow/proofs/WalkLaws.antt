@@ -7,7 +7,6 @@ use lib.ListN.{length, take, drop, length-take, length-drop, drop_of_length-le}
 use Rattle.records.specs.Bytes.{pieces_in, piece_end}
 use Rattle.records.proofs.Pieces.{Width, next_piece, room_left}
 use Rattle.text.specs.Puts.{Put}
-use Rattle.text.proofs.PutLaws.{put_length}
 use Rattle.text.proofs.Series.{Reached, reached_none, reached_more, reached_all}
 use Rattle.shown.specs.Rooms.{line_room}
 use Rattle.layshow.specs.Walks.{piece_lines, all_lines, PutLine}
@@ -42,9 +41,6 @@ module _ {line : ℕ → List ℕ → List ℕ} {width : ℕ} (w : Width width) 
 
       left : end + (line_room width * pieces_in width (drop next s) + line_room width) ≤ most
       left = room_left w s done next some e end (line_room width) r.room
-
-      pub next-room : end + line_room (length piece) ≤ length o'
-      next-room = omega (arith, left, r.within, put_length r.lines.put, piece-long, e)
 
       -- When its line is put, the buffer has the lines of one more piece.
       pub shown-more : {o'' : List ℕ} {end' : ℕ} → PutLine o' end (line number piece) (length piece) o'' end' →

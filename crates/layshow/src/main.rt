@@ -9,9 +9,12 @@ ghost use Rattle.shown.specs.Lines.{job_line, chain_line, scale_line, record_lin
 ghost use Rattle.shown.specs.Rooms.{text_of, line_room};
 ghost use Rattle.layshow.specs.Walks.{record_lines, chain_lines, scaled_lines, table_lines, file_lines, PutLine, longest_job, longest_table, longest_scale, whole_table, chains_room, table_room, stretch_bytes, stretch_room};
 
-use files::{Filled, Opened};
+use files::{EprintBytes, Filled, Opened};
 use records::ChainCount;
 use shown::Line;
+use std::fs::File;
+use std::io::Print;
+use std::rt::Files;
 
 // How many bytes of the log are read at a time.
 const STRETCH_BYTES: usize = 65_536;
@@ -20,8 +23,9 @@ const STRETCH_BYTES: usize = 65_536;
 const STRETCH_ROOM: usize = STRETCH_BYTES / records::LOG_BYTES
     * (shown::LINE_ROOM + 2 * records::LOG_BYTES);
 
-fn main() {
+fn main(rt: HostRuntime) {
     let words = files::no_arguments(
+        &rt,
         b"layshow",
         b"layshow prints what job.dat, chain.dat, scale.dat and lay.dat in this folder hold, as layjob, laychain and
 laywrite take it:
@@ -41,36 +45,36 @@ text, and written again.
   layshow | sed -n 's/^LOG //p' >log.txt
 ",
     );
-    if files::none_given(b"layshow", words, b"no argument was expected") {
-        show();
+    if files::none_given(&rt, b"layshow", words, b"no argument was expected") {
+        show(&rt);
     }
 }
 
-fn show() {
+fn show(rt: &(impl Files<File = File> + Print + EprintBytes)) {
     let mut out = out_buffer();
     // One byte more than a job has, so that a file that is too long is noticed.
     let mut job = [0u8; records::JOB_BYTES + 1];
-    let Filled::Bytes(n) = files::start(b"layshow", b"job.dat", &mut job) else {
+    let Filled::Bytes(n) = files::start(rt, b"layshow", b"job.dat", &mut job) else {
         return;
     };
-    show_with(&mut out, &job[0..n]);
+    show_with(rt, &mut out, &job[0..n]);
 }
 
 // Table and side file belong together: the table must still be there when the side file has been read.
-fn show_with(out: &mut [u8], job: &[u8])
+fn show_with(rt: &(impl Files<File = File> + Print + EprintBytes), out: &mut [u8], job: &[u8])
     requires { (length out.old ≡ stretch_room) × (length job.now ≤ longest_job) }
 {
     let mut table = [0u8; records::TABLE_BYTES + 1];
     let mut scale = [0u8; records::SCALE_BYTES + 1];
-    let file = files::open(b"layshow", b"chain.dat");
-    let Filled::Bytes(t) = files::start_of(file, b"layshow", b"chain.dat", &mut table) else {
+    let file = files::open(rt, b"layshow", b"chain.dat");
+    let Filled::Bytes(t) = files::start_of(rt, &file, b"layshow", b"chain.dat", &mut table) else {
         return;
     };
-    let Filled::Bytes(f) = files::start(b"layshow", b"scale.dat", &mut scale) else {
+    let Filled::Bytes(f) = files::start(rt, b"layshow", b"scale.dat", &mut scale) else {
         return;
     };
-    if files::is_still(b"layshow", b"chain.dat", file) {
-        show_files(out, job, &table[0..t], &scale[0..f]);
+    if files::is_still(rt, b"layshow", b"chain.dat", &file) {
+        show_files(rt, out, job, &table[0..t], &scale[0..f]);
     }
 }
 
@@ -80,20 +84,32 @@ fn out_buffer() -> [u8; STRETCH_ROOM] {
 }
 
 // Prints the lines of job, table and side file before the log is opened, because opening may fail.
-fn show_files(out: &mut [u8], job: &[u8], table: &[u8], scale: &[u8])
+fn show_files(
+    rt: &(impl Files<File = File> + Print + EprintBytes),
+    out: &mut [u8],
+    job: &[u8],
+    table: &[u8],
+    scale: &[u8],
+)
     requires { (length out.old ≡ stretch_room) × (length job.now ≤ longest_job) × (length table.now ≤ longest_table) × (length scale.now ≤ longest_scale) }
 {
     let n = put_files(out, job, table, scale);
-    if files_printed(&out[..n], job, table, scale) {
-        show_log(out);
+    if files_printed(rt, &out[..n], job, table, scale) {
+        show_log(rt, out);
     }
 }
 
 // Prints the text of job, table and side file, and returns whether that succeeded. These are there only for the contract.
-fn files_printed(text: &[u8], job: &[u8], table: &[u8], scale: &[u8]) -> bool
+fn files_printed(
+    rt: &(impl Print + EprintBytes),
+    text: &[u8],
+    job: &[u8],
+    table: &[u8],
+    scale: &[u8],
+) -> bool
     requires { text.now ≡ file_lines job.now table.now scale.now }
 {
-    files::print(b"layshow", text)
+    files::print(rt, b"layshow", text)
 }
 
 fn put_files(out: &mut [u8], job: &[u8], table: &[u8], scale: &[u8]) -> usize
@@ -183,25 +199,25 @@ fn after(at: usize, line: Line) -> usize
 }
 
 // Opens the log and prints its lines.
-fn show_log(out: &mut [u8])
+fn show_log(rt: &(impl Files<File = File> + Print + EprintBytes), out: &mut [u8])
     requires { length out.old ≡ stretch_room }
 {
-    match files::open(b"layshow", b"lay.dat") {
-        Opened::File(log) => show_stretches(out, log),
+    match files::open(rt, b"layshow", b"lay.dat") {
+        Opened::File(log) => show_stretches(rt, out, &log),
         Opened::Missing => {
-            files::missing(b"layshow", b"lay.dat");
+            files::missing(rt, b"layshow", b"lay.dat");
         }
         Opened::Failed => {}
     }
 }
 
 // Prints the lines of the log, stretch by stretch.
-fn show_stretches(out: &mut [u8], log: i32)
+fn show_stretches(rt: &(impl Print + EprintBytes), out: &mut [u8], log: &File)
     requires { length out.old ≡ stretch_room }
 {
     let mut turns = files::MOST_STRETCHES;
     while turns > 0 {
-        if !show_stretch(out, log) {
+        if !show_stretch(rt, out, log) {
             return;
         }
         turns -= 1;
@@ -210,31 +226,31 @@ fn show_stretches(out: &mut [u8], log: i32)
 
 // Reads a stretch of the log and prints all its lines before the next stretch is read, because reading may fail. Returns whether
 // there may be a next stretch.
-fn show_stretch(out: &mut [u8], log: i32) -> bool
+fn show_stretch(rt: &(impl Print + EprintBytes), out: &mut [u8], log: &File) -> bool
     requires { length out.old ≡ stretch_room }
 {
-    let mut stretch = io::large_buffer();
-    let Filled::Bytes(n) = files::fill(b"layshow", b"lay.dat", log, &mut stretch) else {
+    let mut stretch = [0u8; 65_536];
+    let Filled::Bytes(n) = files::fill(rt, b"layshow", b"lay.dat", log, &mut stretch) else {
         return false;
     };
-    if !show_records(out, &stretch[0..n]) {
+    if !show_records(rt, out, &stretch[0..n]) {
         return false;
     }
     n == stretch.len()
 }
 
-fn show_records(out: &mut [u8], log: &[u8]) -> bool
+fn show_records(rt: &(impl Print + EprintBytes), out: &mut [u8], log: &[u8]) -> bool
     requires { (length out.old ≡ stretch_room) × (length log.now ≤ stretch_bytes) }
 {
     let n = put_records(out, log);
-    records_printed(&out[..n], log)
+    records_printed(rt, &out[..n], log)
 }
 
 // Prints the text of a stretch, and returns whether that succeeded. `log` is there only for the contract.
-fn records_printed(text: &[u8], log: &[u8]) -> bool
+fn records_printed(rt: &(impl Print + EprintBytes), text: &[u8], log: &[u8]) -> bool
     requires { text.now ≡ record_lines log.now }
 {
-    files::print(b"layshow", text)
+    files::print(rt, b"layshow", text)
 }
 
 fn put_records(out: &mut [u8], log: &[u8]) -> usize

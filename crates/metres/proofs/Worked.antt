@@ -4,7 +4,7 @@ use mathlib.Core.Bool.{true, false}
 use lib.IntN.{pos, negsuc}
 use lib.Ieee.{nan, inf, of_bits, to_bits}
 use Rattle.metres.specs.declared.Whole.TheVariants as whole
-use Rattle.metres.specs.declared.Length.TheVariants as length
+use Rattle.metres.specs.declared.Length.TheVariants as metres_length
 use Rattle.metres.specs.Metres.{centimetres_of, metres_of, whole_figures, length_figures, plus_zero}
 use Rattle.metres.specs.declared.Mark.TheVariants as mark
 use Rattle.metres.specs.Marks.{seen_from, mark_by, mark_of}
@@ -77,12 +77,12 @@ unfolding is_plus_zero to_bits
 plus_zero_told = refl
 
 -- 0 centimetres in metres are plus zero.
-none_in_metres : metres_of (pos 0) ≡ length.Metres plus_zero
+none_in_metres : metres_of (pos 0) ≡ metres_length.Metres plus_zero
 unfolding metres_of
 none_in_metres = refl
 
 -- One centimetre in metres; and -1,000,000,001, the first number beyond the limit, is refused with 3 and plus zero.
-one_hundredth : metres_of (pos 1) ≡ length.Metres (number_of 0x3f84_7ae1_47ae_147b)
+one_hundredth : metres_of (pos 1) ≡ metres_length.Metres (number_of 0x3f84_7ae1_47ae_147b)
 unfolding metres_of of_bits
 one_hundredth = refl
 

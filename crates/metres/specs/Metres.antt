@@ -7,7 +7,7 @@ use Rattle.std.specs.Float.Ieee.Nearest.{closest}
 use Rattle.metres.specs.declared.Whole.{Whole}
 use Rattle.metres.specs.declared.Whole.TheVariants as whole
 use Rattle.metres.specs.declared.Length.{Length}
-use Rattle.metres.specs.declared.Length.TheVariants as length
+use Rattle.metres.specs.declared.Length.TheVariants as metres_length
 use Rattle.metres.specs.declared.WholeFigures.{WholeFigures}
 use Rattle.metres.specs.declared.LengthFigures.{LengthFigures}
 
@@ -47,7 +47,7 @@ hundredth_of z = div binary64 (of_int binary64 z) (of_int binary64 (pos 100))
 -- Whole centimetres in metres.
 unfoldable pub metres_of : ℤ → Length
 unfolding hundredth_of
-metres_of z = cond (leb (nat_abs z) most_centimetres) (length.Metres (hundredth_of z)) length.Refused
+metres_of z = cond (leb (nat_abs z) most_centimetres) (metres_length.Metres (hundredth_of z)) metres_length.Refused
 
 -- Both answers in figures: the number of the refusal, 0 for none, and the centimetres, 0 on a refusal, or the metres, plus
 -- zero on a refusal.
@@ -59,8 +59,8 @@ abbrev pub plus_zero : Float
 plus_zero = fin false 0 (pos 0)
 
 unfoldable pub length_figures : Length → LengthFigures
-length_figures (length.Metres x) = record { refusal = 0; metres = x }
-length_figures length.Refused = record { refusal = 3; metres = plus_zero }
+length_figures (metres_length.Metres x) = record { refusal = 0; metres = x }
+length_figures metres_length.Refused = record { refusal = 3; metres = plus_zero }
 
 -- Read again, the metres give back the centimetres z that they were made from, if z is within the limit.
 abbrev pub ReadsBack : ℤ → Length → Type 0

@@ -16,7 +16,3 @@ unfolding listing_by bytes_in
 returns-in-Refused c =
     let a = c.args in
     gives_as (by_count a.table.now a.scale.now a.log.now a.before a.j _ (sym c.chain_count.ensures ∙ c.in-Refused.is)) c.notice.ensures
-
--- GONE: slice-aggregate-notice
--- slice-aggregate-notice : tie.Need-slice-aggregate-notice
--- slice-aggregate-notice c = search rules

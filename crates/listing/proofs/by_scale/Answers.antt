@@ -26,7 +26,3 @@ unfolding listing_by
 returns c =
     let a = c.args in
     gives_as (ap (λ (b : Bool). cond b (lines_of a.j a.table.now a.scale.now a.before a.log.now) (notice_of (bytes_in "SCALE") 1)) (sym (fits (goal.at.returns c).Else-not-is_scale))) c.lines.ensures
-
--- GONE: slice-aggregate-notice
--- slice-aggregate-notice : tie.Need-slice-aggregate-notice
--- slice-aggregate-notice c = search rules

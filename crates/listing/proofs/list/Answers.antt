@@ -25,7 +25,3 @@ returns-in-Refused c =
     let told = with_room _ _ _ c.if-out-log.false _ _
     (gives_as (by_job a.table.now a.scale.now a.log.now a.before a.job.now _ (sym c.job_of.ensures ∙ c.in-Refused.is)) c.notice.ensures) in
     record { answer = told.0; out = told.1 }
-
--- GONE: slice-aggregate-notice
--- slice-aggregate-notice : tie.Need-slice-aggregate-notice
--- slice-aggregate-notice c = search rules

@@ -9,7 +9,3 @@ returns c =
     let few = digits_64 c.args.n c.ranges.n.fits in
     let both = put_both (put_from (c.put-a.ensures.end, c.put-a.ensures.out)) (put_from (c.put_number.ensures.end, c.put_number.ensures.out)) (omega (arith, c.requires, few)) in
     record { text = both; end = end_within both (omega (arith, few)) }
-
--- GONE: slice-aggregate-put
--- slice-aggregate-put : tie.Need-slice-aggregate-put
--- slice-aggregate-put c = search rules

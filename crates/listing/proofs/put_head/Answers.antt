@@ -23,7 +23,3 @@ pub returns-in-Refused : goal.returns-in-Refused
 unfolding bytes_in
 returns-in-Refused c =
     let dash = put_from (c.put.ensures.end, c.put.ensures.out) (omega arith) in record { text = put_as (head_dash _ _ (sym c.raw_record.ensures ∙ c.in-Refused.is)) dash; end = end_within dash (omega arith) }
-
--- GONE: slice-aggregate-put
--- slice-aggregate-put : tie.Need-slice-aggregate-put
--- slice-aggregate-put c = search rules

@@ -29,19 +29,3 @@ unfolding word_text bytes_in
 returns-in-Refused c =
     let told = put_from (c.put-in-Refused.ensures.end, c.put-in-Refused.ensures.out) (omega arith) in
     record { text = put_as (sym (ap word_text c.in-Refused.is)) told; end = end_within told (omega arith) }
-
--- GONE: slice-aggregate-put
--- slice-aggregate-put : tie.Need-slice-aggregate-put
--- slice-aggregate-put c = search rules
-
--- GONE: slice-aggregate-put-2
--- slice-aggregate-put-2 : tie.Need-slice-aggregate-put-2
--- slice-aggregate-put-2 c = search rules
-
--- GONE: slice-aggregate-put-3
--- slice-aggregate-put-3 : tie.Need-slice-aggregate-put-3
--- slice-aggregate-put-3 c = search rules
-
--- GONE: slice-aggregate-put-4
--- slice-aggregate-put-4 : tie.Need-slice-aggregate-put-4
--- slice-aggregate-put-4 c = search rules

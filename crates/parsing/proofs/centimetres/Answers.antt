@@ -49,19 +49,3 @@ pub returns-in-Large : goal.returns-in-Large
 returns-in-Large c =
     let w = c.args.w.now in
     sym (metres_large w (metres (goal.at.returns-in-Large c).Else-not-is_metres) (front (goal.at.returns-in-Large c).After-value-2 ∙ c.in-Large.is))
-
--- GONE: slice-bounds-value-start
--- part-value-start : tie.Need-slice-bounds-value-start
--- part-value-start c = search rules
-
--- GONE: slice-bounds-value-end
--- part-value-end : tie.Need-slice-bounds-value-end
--- part-value-end c = search rules
-
--- GONE: slice-bounds-value-from-start
--- part-value-from-start : tie.Need-slice-bounds-value-from-start
--- part-value-from-start c = search rules
-
--- GONE: slice-bounds-value-from-end
--- part-value-from-end : tie.Need-slice-bounds-value-from-end
--- part-value-from-end c = search rules

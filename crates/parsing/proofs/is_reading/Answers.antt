@@ -25,11 +25,3 @@ returns-then-is_below c =
 
 pub returns : goal.returns
 returns c = rw (sym c.is_below.ensures ∙ c.if-is_below.false) c.is_length-2.ensures
-
--- GONE: slice-bounds-is-length-start
--- part-is-length-start : tie.Need-slice-bounds-is-length-start
--- part-is-length-start c = search (rules, some c)
-
--- GONE: slice-bounds-is-length-end
--- part-is-length-end : tie.Need-slice-bounds-is-length-end
--- part-is-length-end c = search rules

@@ -5,11 +5,3 @@ use Rattle.parsing.proofs.is_taken_at.Goals as goal
 
 pub returns : goal.returns
 returns c = c.is_taken.ensures ∙ ap (is_taken c.args.taken) c.word-start.ensures.span.word
-
--- GONE: slice-bounds-is-taken-start
--- part-is-taken-start : tie.Need-slice-bounds-is-taken-start
--- part-is-taken-start c = search rules
-
--- GONE: slice-bounds-is-taken-end
--- part-is-taken-end : tie.Need-slice-bounds-is-taken-end
--- part-is-taken-end c = search rules

@@ -8,11 +8,3 @@ use Rattle.parsing.proofs.length.Goals as goal
 
 pub returns : goal.returns
 returns c = c.centimetres.ensures ∙ ap (λ (w : List ℕ). sized_of (centimetres_in w)) c.word-start.ensures.span.word
-
--- GONE: slice-bounds-centimetres-start
--- part-centimetres-start : tie.Need-slice-bounds-centimetres-start
--- part-centimetres-start c = search rules
-
--- GONE: slice-bounds-centimetres-end
--- part-centimetres-end : tie.Need-slice-bounds-centimetres-end
--- part-centimetres-end c = search rules

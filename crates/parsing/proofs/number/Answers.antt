@@ -8,11 +8,3 @@ use Rattle.parsing.proofs.number.Goals as goal
 
 pub returns : goal.returns
 returns c = c.value.ensures ∙ ap (λ (w : List ℕ). sized_of (numeral w)) c.word-start.ensures.span.word
-
--- GONE: slice-bounds-value-start
--- part-value-start : tie.Need-slice-bounds-value-start
--- part-value-start c = search rules
-
--- GONE: slice-bounds-value-end
--- part-value-end : tie.Need-slice-bounds-value-end
--- part-value-end c = search rules

@@ -45,19 +45,3 @@ pub returns : goal.returns
 returns c =
     to_z_pos w64 c.as_63-n.result (small (goal.at.returns c).After-as_63-n)
     ∙ ap₂ signed (sym c.if-below.false ∙ sign (goal.at.returns c).After-as_63-n) (number (goal.at.returns c).After-as_63-n)
-
--- GONE: slice-bounds-is-below-start
--- part-is-below-start : tie.Need-slice-bounds-is-below-start
--- part-is-below-start c = search rules
-
--- GONE: slice-bounds-is-below-end
--- part-is-below-end : tie.Need-slice-bounds-is-below-end
--- part-is-below-end c = search rules
-
--- GONE: slice-bounds-centimetres-start
--- part-centimetres-start : tie.Need-slice-bounds-centimetres-start
--- part-centimetres-start c = search rules
-
--- GONE: slice-bounds-centimetres-end
--- part-centimetres-end : tie.Need-slice-bounds-centimetres-end
--- part-centimetres-end c = search rules

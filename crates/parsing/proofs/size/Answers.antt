@@ -18,11 +18,3 @@ pub returns : goal.returns
 returns c =
     let told = c.word-start.ensures.span in
     span_behind_sign told (ap is_below (sym told.word) ∙ sym c.is_below.ensures ∙ not-false _ c.if-not-is_below.false-raw)
-
--- GONE: slice-bounds-is-below-start
--- part-is-below-start : tie.Need-slice-bounds-is-below-start
--- part-is-below-start c = search rules
-
--- GONE: slice-bounds-is-below-end
--- part-is-below-end : tie.Need-slice-bounds-is-below-end
--- part-is-below-end c = search rules

@@ -27,11 +27,3 @@ returns c =
     let a = c.args in
     rw (there (goal.at.returns c).Else-no_word, lt-ltb a.i (words_of a.form) (omega (arith, c.words_of.ensures, c.if-i-words_of.false)))
     (c.wrong_in.ensures ∙ ap₂ wrong_in c.taken_for.ensures c.word-start.ensures.span.word)
-
--- GONE: slice-bounds-wrong-in-start
--- part-wrong-in-start : tie.Need-slice-bounds-wrong-in-start
--- part-wrong-in-start c = search rules
-
--- GONE: slice-bounds-wrong-in-end
--- part-wrong-in-end : tie.Need-slice-bounds-wrong-in-end
--- part-wrong-in-end c = search rules

@@ -29,7 +29,3 @@ returns c s h =
     (sym c.near.ensures ∙ not-false _ c.if-not-near.false-raw)
     c.if-h-n.false
     c.requires.2
-
--- GONE: overflow-add-t12
--- add-t12 : tie.Need-overflow-add-t12
--- add-t12 c = search rules

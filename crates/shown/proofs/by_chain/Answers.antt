@@ -14,11 +14,3 @@ pub returns-in-Refused : goal.returns-in-Refused
 unfolding by_chain said_by
 returns-in-Refused c =
     sym (ap (λ (n : NamedChain). by_chain n c.args.place) c.in-Refused.is)
-
--- GONE: enum-known-chain
--- enum-known-chain : tie.Need-enum-known-chain
--- enum-known-chain c = search rules
-
--- GONE: enum-known-chain-2
--- enum-known-chain-2 : tie.Need-enum-known-chain-2
--- enum-known-chain-2 c = search rules

@@ -100,19 +100,3 @@ returns-in-Refused c =
     let out = c.args.out.now in
     let reply = ap many_reply (sym c.in-Refused.is) ∙ asked (goal.at.returns-in-Refused c).After-counted ∙ with_room (length out) 0 _ (room (goal.at.returns-in-Refused c).Else-not-has_line_room) in
     record { answer = ap line_for reply; out = ap (buffer_for out) reply }
-
--- GONE: overflow-cast-t34
--- cast-t34 : tie.Need-overflow-cast-t34
--- cast-t34 c = search rules
-
--- GONE: slice-aggregate-put-many-4
--- slice-aggregate-put-many-4 : tie.Need-slice-aggregate-put-many-4
--- slice-aggregate-put-many-4 c = search rules
-
--- GONE: slice-aggregate-put-many-5
--- slice-aggregate-put-many-5 : tie.Need-slice-aggregate-put-many-5
--- slice-aggregate-put-many-5 c = search rules
-
--- GONE: slice-aggregate-put-many-6
--- slice-aggregate-put-many-6 : tie.Need-slice-aggregate-put-many-6
--- slice-aggregate-put-many-6 c = search rules

@@ -31,7 +31,3 @@ returns c =
     (put_both (put_from (c.put-a.ensures.end, c.put-a.ensures.out)) (put_both c.put_job-b.ensures.text (puts_as same c.put_end.ensures.text)))
     (omega (arith, length-append (bytes_in "JOB") (job_text s ++ behind), length-append (job_text s) behind, c.put_job-b.ensures.few, subst (λ (x : List ℕ). length x ≤ 31 + 2 * length s) same c.put_end.ensures.few)) in
     record { answer = told.0; out = told.1 }
-
--- GONE: slice-aggregate-put
--- slice-aggregate-put : tie.Need-slice-aggregate-put
--- slice-aggregate-put c = search rules

@@ -11,7 +11,3 @@ pub returns : goal.returns
 unfolding bytes_in
 returns c =
     let n = c.args.n in record { text = put_both (put_from (c.put_number-a.ensures.end, c.put_number-a.ensures.out)) (put_both (put_from (c.put-b.ensures.end, c.put-b.ensures.out)) (put_from (c.put.ensures.end, c.put.ensures.out))); few = rw (length-append (digits_of (n / 100))) (omega (arith, digits_64 (n / 100) (omega (arith, c.ranges.n.fits)))) }
-
--- GONE: slice-aggregate-put-2
--- slice-aggregate-put-2 : tie.Need-slice-aggregate-put-2
--- slice-aggregate-put-2 c = search rules

@@ -10,7 +10,3 @@ pub returns : goal.returns
 unfolding bytes_in
 returns c =
     let a = c.args in record { text = put_both c.put_refused-a.ensures.text (put_from (c.put.ensures.end, c.put.ensures.out)); few = omega (arith, length-append (refused_text a.number a.s.now) (bytes_in "\n"), c.put_refused-a.ensures.few) }
-
--- GONE: slice-aggregate-put
--- slice-aggregate-put : tie.Need-slice-aggregate-put
--- slice-aggregate-put c = search rules

@@ -44,7 +44,3 @@ returns c =
     let all : take loop.i a.ns.now ≡ a.ns.now =
     ap (λ (n : ℕ). take n a.ns.now) ended ∙ take-length a.ns.now in
     record { text = puts_as (ap figures_text all) loop.invariant.0; few = omega (arith, ap (λ (x : List ℕ). length (figures_text x)) all, loop.invariant.2, ended) }
-
--- GONE: slice-aggregate-put
--- slice-aggregate-put : tie.Need-slice-aggregate-put invariant_loop decreases_loop
--- slice-aggregate-put c = search rules

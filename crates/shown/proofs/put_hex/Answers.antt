@@ -17,7 +17,3 @@ returns c =
     let s = c.args.s.now in
     let text = hex_some s c.if-s-eq0.false in
     record { text = puts_as (sym text) (put_both (put_from (c.put-a.ensures.end, c.put-a.ensures.out)) (put_from (c.put_bytes.ensures.end, c.put_bytes.ensures.out))); few = rw text (omega (arith, length_hex s)) }
-
--- GONE: slice-aggregate-put
--- slice-aggregate-put : tie.Need-slice-aggregate-put
--- slice-aggregate-put c = search rules

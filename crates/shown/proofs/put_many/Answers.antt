@@ -18,7 +18,3 @@ returns c =
     (put_both (put_from (c.put-a.ensures.end, c.put-a.ensures.out)) (put_both c.put_figures-b.ensures.text (put_from (c.put.ensures.end, c.put.ensures.out))))
     (omega (arith, c.requires, length-append a.word.now behind, length-append (figures_text a.figures.now) (bytes_in "\n"), c.put_figures-b.ensures.few)) in
     record { answer = told.0; out = told.1 }
-
--- GONE: slice-aggregate-put
--- slice-aggregate-put : tie.Need-slice-aggregate-put
--- slice-aggregate-put c = search rules

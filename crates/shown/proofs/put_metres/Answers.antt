@@ -34,7 +34,3 @@ returns c =
     let z = c.args.z in
     let n = c.size-2.ensures ∙ ap nat_abs (same (goal.at.returns c).Start) in
     let text = ap decimal_text n ∙ metres_above z (ap is_below (sym (same (goal.at.returns c).Start)) ∙ c.if-z-lt0.false) in record { text = puts_as text c.put_decimal-2.ensures.text; few = subst (λ (x : List ℕ). length x ≤ 24) text (omega (arith, c.put_decimal-2.ensures.few)) }
-
--- GONE: slice-aggregate-put
--- slice-aggregate-put : tie.Need-slice-aggregate-put
--- slice-aggregate-put c = search rules

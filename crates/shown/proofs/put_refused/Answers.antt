@@ -23,7 +23,3 @@ returns c =
     let s = a.s.now in
     let n = figures_text (a.number ∷ []) in
     let text = refused_some a.number s c.if-number-eq0.false in record { text = puts_as text (put_both (put_from (c.put-a.ensures.end, c.put-a.ensures.out)) (put_both c.put_figures-b.ensures.text c.put_hex.ensures.text)); few = subst (λ (x : List ℕ). length x ≤ 30 + 2 * length s) text (omega (arith, length-append (bytes_in " REFUSED") (n ++ hex_text s), length-append n (hex_text s), c.put_figures-b.ensures.few, c.put_hex.ensures.few)) }
-
--- GONE: slice-aggregate-put
--- slice-aggregate-put : tie.Need-slice-aggregate-put
--- slice-aggregate-put c = search rules

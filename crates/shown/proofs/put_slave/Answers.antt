@@ -28,11 +28,3 @@ returns c =
     let first = puts_as (ap whole_text (same (goal.at.returns c).Start)) (put_from (c.put_whole-c.ensures.end, c.put_whole-c.ensures.out)) in
     let second = puts_as (ap written_text (same (goal.at.returns c).Start)) c.put_written-d.ensures.text in
     let few = subst (λ (y : ℤ). length (written_text y) ≤ 73) (same (goal.at.returns c).Start) c.put_written-d.ensures.few in record { text = put_both (put_from (c.put-a.ensures.end, c.put-a.ensures.out)) (put_both (put_both (put_from (c.put-b.ensures.end, c.put-b.ensures.out)) first) (put_both second (put_from (c.put.ensures.end, c.put.ensures.out)))); few = omega (arith, length-append (32 ∷ whole_text z) (written_text z ++ bytes_in "\n"), length-append (written_text z) (bytes_in "\n"), whole_64 z (nat_abs-le z c.ranges.z.sfits), few) }
-
--- GONE: slice-aggregate-put-2
--- slice-aggregate-put-2 : tie.Need-slice-aggregate-put-2
--- slice-aggregate-put-2 c = search rules
-
--- GONE: slice-aggregate-put-3
--- slice-aggregate-put-3 : tie.Need-slice-aggregate-put-3
--- slice-aggregate-put-3 c = search rules

@@ -40,15 +40,3 @@ returns c =
     let few = subst (λ (y : ℤ). length (metres_text y) ≤ 24) (same (goal.at.returns c).Start) c.put_metres-b.ensures.few in
     let hex : List ℕ = 32 ∷ hex_of (metres_bytes z) in
     let sixteen = subst (λ (y : ℤ). length (hex_of (metres_bytes y)) ≤ 16) (same (goal.at.returns c).Start) c.put_number_bytes-d.ensures.few in record { text = puts_as text (put_both (put_both (put_from (c.put-a.ensures.end, c.put-a.ensures.out)) shown) (put_both (put_both (put_from (c.put-c.ensures.end, c.put-c.ensures.out)) written) last)); few = subst (λ (x : List ℕ). length x ≤ 73) text (omega (arith, length-append (32 ∷ metres_text z) (hex ++ flag_text (is_rounded_back z)), length-append hex (flag_text (is_rounded_back z)), flag_length (is_rounded_back z), few, sixteen)) }
-
--- GONE: slice-aggregate-put
--- slice-aggregate-put : tie.Need-slice-aggregate-put
--- slice-aggregate-put c = search rules
-
--- GONE: slice-aggregate-put-2
--- slice-aggregate-put-2 : tie.Need-slice-aggregate-put-2
--- slice-aggregate-put-2 c = search rules
-
--- GONE: slice-aggregate-put-3
--- slice-aggregate-put-3 : tie.Need-slice-aggregate-put-3
--- slice-aggregate-put-3 c = search rules

@@ -26,7 +26,3 @@ returns c =
     (put_both (put_from (c.put-a.ensures.end, c.put-a.ensures.out)) c.put_end.ensures.text)
     (omega (arith, length-append (bytes_in "SCALE") (refused_text 1 s ++ bytes_in "\n"), c.put_end.ensures.few)) in
     record { answer = told.0; out = told.1 }
-
--- GONE: slice-aggregate-put
--- slice-aggregate-put : tie.Need-slice-aggregate-put
--- slice-aggregate-put c = search rules
