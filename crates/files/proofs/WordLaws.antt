@@ -6,13 +6,13 @@ use Rattle.files.specs.Answers.{AreWords, none, one, more, IsLineOf, IsArguments
 use Rattle.files.specs.declared.Words.{Words}
 use Rattle.files.specs.declared.Words.TheVariants as words
 
-first_of : (a b : Bool) → a && b ≡ true → a ≡ true
-first_of true b h = refl
-first_of false b h = h
+first_holds : (a b : Bool) → a && b ≡ true → a ≡ true
+first_holds true b h = refl
+first_holds false b h = h
 
 -- A word has at least one byte.
 word_size : (w : List ℕ) → is_one_word w ≡ true → 1 ≤ length w
-word_size w h = leb-true 1 (length w) (first_of (leb 1 (length w)) (eqb (run is_in_word w) (length w)) h)
+word_size w h = leb-true 1 (length w) (first_holds (leb 1 (length w)) (eqb (run is_in_word w) (length w)) h)
 
 -- A line without bytes has no words, and a line with bytes has at least one.
 words_none : {n : ℕ} {s : List ℕ} → AreWords n s → length s ≡ 0 → n ≡ 0

@@ -373,7 +373,7 @@ pub fn next_line(
 // Whether a program may begin that will replace a file in the end: no other tool is writing it, which is waited for, and it may be
 // replaced.
 pub fn is_free(
-    rt: &(impl Files + Clock + EprintBytes),
+    rt: &(impl Files<File = File> + Clock + EprintBytes),
     tool: &[u8],
     name: &[u8],
     fresh: &[u8],

@@ -149,7 +149,7 @@ fn create(files: &impl Files<File = File>, fresh: &[u8]) -> io::Result<File> {
 
 // Whether nothing is in the way: there is no fresh file, the folder may be written to, and the file may be replaced.
 pub(crate) fn is_free(
-    rt: &(impl Files + Clock + EprintBytes),
+    rt: &(impl Files<File = File> + Clock + EprintBytes),
     tool: &[u8],
     name: &[u8],
     fresh: &[u8],

@@ -2,15 +2,13 @@
 ghost use Rattle.std.specs.Prelude.{◌≡◌, IfOk};
 ghost use Rattle.files.specs.Replacing.{is_regular, same_file, may_make};
 
+use crate::unnamed;
 use std::fs::{File, Metadata, OpenOptions};
 use std::io::ErrorKind;
 use std::os::unix::fs::MetadataExt;
 use std::rt::{Clock, Files};
 use std::time::Duration;
 use std::{fs, io, thread};
-
-// The error of a call that is not allowed.
-const EACCES: i32 = 13;
 
 // A file, as the operating system knows it: its kind and permissions, how many names it has, what tells it from every other
 // file, and whose it is. If it is not found, `error` says why, and the rest means nothing.
@@ -72,16 +70,19 @@ pub(crate) fn may_write(files: &impl Files, name: &[u8], old: Seen) -> bool {
     }
 }
 
-// Whether this user may make a file in the folder, as far as its mode tells; or the error that making one would give. The folder
-// /proc/self is the user's own, as the process runs.
-pub(crate) fn folder_error(files: &impl Files) -> Option<io::Error> {
+// The error that making a file in the folder would give, or none. As a rule its mode tells, and the folder /proc/self is the user's
+// own, as the process runs. Where the mode says no, a file is made, since a user may have a right that modes do not tell.
+pub(crate) fn folder_error(files: &impl Files<File = File>) -> Option<io::Error> {
     let folder = of_name(files, b".");
     if !folder.found {
         return Some(folder.error);
     }
     let process = of_name(files, b"/proc/self");
     if process.found && !may_make(folder, process.owner, process.group) {
-        return Some(io::Error::from_raw_os_error(EACCES));
+        return match unnamed::made(files, b"lay") {
+            Ok(_) => None,
+            Err(error) => Some(error),
+        };
     }
     None
 }

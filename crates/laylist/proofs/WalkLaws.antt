@@ -55,17 +55,17 @@ unfolding accepts_job
 job_of_lem (job.Job j) h = (j, refl)
 job_of_lem (job.Refused number) h = absurd (true≢false (sym h))
 
-count_of : (a : ChainCount) → accepts_table a ≡ true → (n : ℕ) × (a ≡ count.Chains n)
+chains_of : (a : ChainCount) → accepts_table a ≡ true → (n : ℕ) × (a ≡ count.Chains n)
 unfolding accepts_table
-count_of (count.Chains n) h = (n, refl)
-count_of (count.Refused number) h = absurd (true≢false (sym h))
+chains_of (count.Chains n) h = (n, refl)
+chains_of (count.Refused number) h = absurd (true≢false (sym h))
 
 -- If nothing is left of a log, the place carried so far is the one that is carried on.
 pub nothing_left : (job table scale : List ℕ) → AllGood job table scale → (log : List ℕ) (done : ℕ) (place : Carried) → length log ≤ done →
     (listing_from job table scale (drop done log) place).carried ≡ place
 unfolding lines_from listing_by listing_from
 nothing_left job table scale ok log done place all =
-    let chains = scaled_says table scale (count_of (scaled_count_of table scale) ok.by_table).1 in
+    let chains = scaled_says table scale (chains_of (scaled_count_of table scale) ok.by_table).1 in
     rw (drop_of_length-le log {i = done} all, (job_of_lem (job_of job) ok.by_job).1, chains.0, chains.1)
 
 module _ (job table scale : List ℕ) (ok : AllGood job table scale) (bytes : ℕ) (whole : bytes % log_bytes ≡ 0) where
@@ -84,7 +84,7 @@ module _ (job table scale : List ℕ) (ok : AllGood job table scale) (bytes : �
       go : Dec (bytes ≤ length log) → (listing_from job table scale log place).carried ≡ (listing_from job table scale (drop bytes log) after).carried
       go (yes h) =
           let j = job_of_lem (job_of job) ok.by_job in
-          let n = count_of (scaled_count_of table scale) ok.by_table in
+          let n = chains_of (scaled_count_of table scale) ok.by_table in
           let chains = scaled_says table scale n.1 in
           ap (λ (l : List ℕ). (listing_from job table scale l place).carried) (sym (take-append-drop bytes log))
           ∙ ap (λ (p : Part). p.carried)
