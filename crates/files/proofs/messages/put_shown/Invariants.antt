@@ -1,3 +1,4 @@
+-- `files::messages::put_shown`: what holds at each turn of its loop.
 use Rattle.std.proofs.Common.{length, ◌-◌, ◌≤◌}
 use Rattle.files.proofs.messages.put_shown.Given as goal
 
