@@ -6,11 +6,11 @@ cd "$(dirname "$0")/.." && . tests/common.bash
 sources=$(find crates -path '*/out' -prune -o -path 'crates/*/*/*' \( -name '*.rt' -o -name '*.antt' \) -print)
 pass_if 'every file is in the layout of rt fmt' "$toolchain/../bin/rattle" fmt --check $sources
 
-# headed FILE: that it begins with a comment, after a line `#!` if there is one. The invariants of a function's loops have that of its
-# answers beside them.
-headed() { awk '/^#!/ { next } { found = /^(--|\/\/|#|\/\*|""")/; exit } END { exit !found }' "$1"; }
+# headed FILE: that it begins with a comment, after a line `#!` if there is one; invariants may have the head of the answers beside them.
+headed() { begins "$1" || { [[ $1 == */Invariants.antt ]] && begins "${1/%Invariants.antt/Answers.antt}"; }; }
+begins() { [ -f "$1" ] && awk '/^#!/ { next } { found = /^(--|\/\/|#|\/\*|""")/; exit } END { exit !found }' "$1"; }
 while read -r file; do
-    pass_if "$file has a head that says what it is for" headed "${file/%Invariants.antt/Answers.antt}"
+    pass_if "$file has a head that says what it is for" headed "$file"
 done < <(find .ci bench bin crates crates.txt install second tests -type f -not -path '*/data/*' -not -path '*/target/*' -not -path '*/out/*' \
     -not -name stdin -not -name stdout -not -name args -not -name '*.md' -not -name Cargo.lock)
 
@@ -53,11 +53,11 @@ faults() { cat "crates/$1/must-fail/"*.edit 2>/dev/null | sed -n 's/ for / /; s/
 # faulty FUNCTION COUNT: that so many of the faults on standard input, or more, are in the function or for it
 faulty() { [ "$(cut -d ' ' -f 2- | grep -cw "$1")" -ge "$2" ]; }
 
-# one_answer CRATE FUNCTION: that it is proved to have one, or named as one that cannot
+# one_answer CRATE FUNCTION: that it is proved to have one, whatever the runtime is that it is given, or named as one that cannot
 one_answer() {
     local alias
     alias=$(sed -n "s/^use Rattle\.$1\.specs\.contracts\.$2 as //p" crates/demands/proofs/OnlyAnswers.antt)
-    [ -n "$alias" ] && grep -qF "OneAnswer 𝓤 $alias.ended ($alias.clauses " crates/demands/proofs/OnlyAnswers.antt ||
+    [ -n "$alias" ] && grep -qE "OneAnswer 𝓤 ($alias\.ended|\($alias\.ended [^()]*\)) \($alias\.clauses " crates/demands/proofs/OnlyAnswers.antt ||
         grep -q "^No one answer: .*\`$1::$2\`" docs/CONTRACTS.md
 }
 
