@@ -80,6 +80,13 @@ for crate in crates/*/; do
     name=$(basename "$crate")
     [ "$name" != lay_c ] || continue
     there=$(faults "$name") rows=$(rows "$name")
+    # a crate without code has rows for its theorems
+    if ! grep -q '\bfn ' "$crate"/src/*.rt; then
+        for theorem in $rows; do
+            pass_if "$name::$theorem is a theorem" grep -qE "^ *pub $theorem :" "$crate"/proofs/*.antt
+        done
+        continue
+    fi
     while read -r function kind; do
         pass_if "$name::$function fixes what it returns and requires nothing" [ "$kind" = full ]
         pass_if "$name::$function is proved to have one answer" one_answer "$name" "$function"
