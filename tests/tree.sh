@@ -70,10 +70,13 @@ promise() {
         tr -d ' \n' | sed 's/extern"C"//; s/,)/)/g'
 }
 
-# The library for C has the functions of lay, which promise the same: what is said and tried of those below is said of these.
+# The library for C has the functions of lay, which promise the same: what is said of those below is said of these.
+there=$(faults lay_c)
+pass_if 'no two faults of lay_c have one name' none $(cut -d ' ' -f 1 <<<"$there" | sort | uniq -d)
 while read -r function kind; do
     pass_if "lay_c::$function promises what lay::$function does" [ "$(promise lay_c "$function")" = "$(promise lay "$function")" ]
     pass_if "lay_c::$function calls it" grep -q "^    lay::$function(" crates/lay_c/src/lib.rt
+    pass_if "lay_c::$function has two faults" faulty "$function" 2 <<<"$there"
 done < <(public crates/lay_c/src/lib.rt)
 
 for crate in crates/*/; do
