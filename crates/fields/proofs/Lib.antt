@@ -1,4 +1,3 @@
 -- What follows from the definition of a field.
 pub mod FieldLaws
-mod Gathering
-mod Scattering
+mod Words

@@ -1,9 +1,5 @@
 -- Numbers of any width in bytes, the lowest byte first (01, The records: "little-endian").
-use Rattle.std.specs.Prelude.{ℕ, zero, suc, ◌+◌, ◌*◌, ◌/◌, ◌%◌, ◌<◌, Bool, cond, List, [], ◌∷◌, ◌++◌, leb, length, get_or, take, drop}
-use Rattle.fields.specs.declared.Four.{Four}
-use Rattle.fields.specs.declared.Four.TheVariants as four
-use Rattle.fields.specs.declared.Eight.{Eight}
-use Rattle.fields.specs.declared.Eight.TheVariants as eight
+use Rattle.std.specs.Prelude.{ℕ, zero, suc, ◌+◌, ◌*◌, ◌/◌, ◌%◌, ◌<◌, Bool, cond, List, [], ◌∷◌, ◌++◌, leb, length, get_or, take, drop, Option, Some, None}
 
 -- The number that some bytes stand for.
 unfoldable pub value_of : List ℕ → ℕ
@@ -44,8 +40,8 @@ unfoldable pub answer_at : {A : Type 0} → ℕ → (ℕ → A) → A → List �
 answer_at width value outside s at = cond (inside width s at) (value (field_at width s at)) outside
 
 -- What reading four bytes answers, and what reading eight.
-abbrev pub four_at : List ℕ → ℕ → Four
-four_at = answer_at 4 four.Value four.Outside
+abbrev pub four_at : List ℕ → ℕ → Option ℕ
+four_at = answer_at 4 Some None
 
-abbrev pub eight_at : List ℕ → ℕ → Eight
-eight_at = answer_at 8 eight.Value eight.Outside
+abbrev pub eight_at : List ℕ → ℕ → Option ℕ
+eight_at = answer_at 8 Some None

@@ -1,26 +1,19 @@
--- `fields::eight_at` meets its contract: a field outside the slice answers `Outside`, and one inside is read by `gathered`.
-use Prim.Native.Nat.{◌+◌}
-use mathlib.Core.Path.{◌≡◌, sym, ap, ◌∙◌}
-use mathlib.Core.Bool.{true}
+-- `fields::eight_at` meets its contract: the eight bytes after `at` are those of the field, and if they are not there the field is outside.
 use native.Mathlib.Omega.{arith}
-use borrow.Author.Tests.{leb-true, not-true, not-false}
-use lib.ListN.{length}
-use Rattle.fields.specs.declared.Eight.TheVariants.{Value, Outside}
-use Rattle.fields.specs.Fields.{inside}
-use Rattle.fields.proofs.FieldLaws.{answer_inside, answer_outside}
-use Rattle.fields.proofs.eight_at.Goals.{Else-not-lies_inside}
+use mathlib.Core.Path.{sym, ap, ◌∙◌}
+use Rattle.std.specs.Prelude.{Some}
+use Rattle.fields.proofs.Words.{none_past, some_first, first_long, value_eight}
 use Rattle.fields.proofs.eight_at.Goals as goal
 
-pub returns-then-not-lies_inside : goal.returns-then-not-lies_inside
-returns-then-not-lies_inside c = sym (answer_outside 8 Value Outside _ _ (sym c.lies_inside.ensures ∙ not-true _ c.if-not-lies_inside.true-raw))
+pub returns-in_err-get : goal.returns-in_err-get
+returns-in_err-get c = c.from_residual.ensures ∙ sym (none_past 8 c.args.s.now c.args.at (omega (arith, c.in_err-get.ensures.lookup.0)))
 
-is-inside : (c : Else-not-lies_inside) → inside 8 c.args.s.now c.args.at ≡ true
-is-inside c = sym c.lies_inside.ensures ∙ not-false _ c.if-not-lies_inside.false-raw
-
-pub gathered-requires : goal.gathered-requires
-gathered-requires c =
-    let start = c.args in
-    omega (arith, leb-true (start.at + 8) (length start.s.now) (is-inside c))
+pub returns-in_err-bytes : goal.returns-in_err-bytes
+returns-in_err-bytes c = c.from_residual-in_err-bytes.ensures ∙ sym (none_past 8 c.args.s.now c.args.at (omega (arith, c.in_err-bytes.ensures.cases, c.in_ok-get.ensures.lookup.0)))
 
 pub returns : goal.returns
-returns c = ap Value c.gathered.ensures.0 ∙ sym (answer_inside 8 Value Outside _ _ (is-inside (goal.at.returns c).Else-not-lies_inside))
+returns c =
+    let tail = c.in_ok-get.ensures.lookup.0 in
+    let first = c.in_ok-bytes.ensures.cases in
+    ap Some (c.from_le_bytes.ensures ∙ value_eight c.in_ok-bytes.bytes.now (first_long 8 c.in_ok-get.field-0.now c.in_ok-bytes.bytes.now first))
+    ∙ sym (some_first 8 c.args.s.now c.args.at c.in_ok-get.field-0.now c.in_ok-bytes.bytes.now tail.0 tail.2 first)

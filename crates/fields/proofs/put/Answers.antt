@@ -1,24 +1,12 @@
--- `fields::put` meets its contract: nothing changes if the field is outside the slice, and a field inside is filled.
-use mathlib.Core.Path.{◌≡◌, sym, ◌∙◌}
-use mathlib.Core.Bool.{true, false}
-use borrow.Author.Tests.{leb-true, not-true, not-false}
-use Rattle.fields.specs.Fields.{inside}
-use Rattle.fields.proofs.FieldLaws.{put_inside, put_outside}
-use Rattle.fields.proofs.put.Goals.{Else-not-lies_inside}
+-- `fields::put` meets its contract: nothing changes if the bytes do not lie inside the slice, and else they take their place in it.
+use mathlib.Core.Path.{sym, ◌∙◌}
+use Rattle.fields.proofs.Words.{bytes_put, none_put}
 use Rattle.fields.proofs.put.Goals as goal
 
-pub returns-then-not-lies_inside : goal.returns-then-not-lies_inside
-returns-then-not-lies_inside c =
-    let outside : inside c.args.width c.args.s.now c.args.at ≡ false = sym c.lies_inside.ensures ∙ not-true _ c.if-not-lies_inside.true-raw in
-    record { answer = sym outside; buffer = sym (put_outside _ _ _ _ outside) }
+pub returns-then-not-lies_inside-clause-buffer : goal.returns-then-not-lies_inside-clause-buffer
+returns-then-not-lies_inside-clause-buffer c width n e =
+    none_put width n c.args.at c.args.s.now c.args.bytes.now e (sym c.lies_inside.ensures ∙ c.if-not-lies_inside.true)
 
-is-inside : (c : Else-not-lies_inside) → inside c.args.width c.args.s.now c.args.at ≡ true
-is-inside c = sym c.lies_inside.ensures ∙ not-false _ c.if-not-lies_inside.false-raw
-
-pub scatter-requires : goal.scatter-requires
-scatter-requires c = leb-true _ _ (is-inside (goal.at.scatter-requires c).Else-not-lies_inside)
-
-pub returns : goal.returns
-returns c =
-    let yes-inside = is-inside (goal.at.returns c).Else-not-lies_inside in
-    record { answer = sym yes-inside; buffer = c.scatter.ensures ∙ sym (put_inside _ _ _ _ yes-inside) }
+pub returns-clause-buffer : goal.returns-clause-buffer
+returns-clause-buffer c width n e =
+    bytes_put width n c.args.at c.args.s.now c.args.bytes.now _ e (sym c.lies_inside.ensures ∙ c.if-not-lies_inside.false) c.copy_from_slice.ensures.after
