@@ -3,13 +3,15 @@
 
 ghost use Rattle.std.specs.Prelude.{◌≡◌, true, ◌<◌, ◌^◌};
 ghost use Rattle.std.proofs.Math.IntN.{sub_ℕ};
-ghost use Rattle.chart.specs.Places.{in_range, same_place, apart, distance_of};
+ghost use Rattle.chart.specs.Places.{in_range, apart, distance_of};
 ghost use Rattle.chart.specs.Factors.{is_factor, on_ground};
 ghost use Rattle.chart.specs.Chains.{stations_of, all_in_range, no_two_equal, is_sound};
 ghost use Rattle.chart.specs.Readings.{range_of, expected_at, said_by, figures_of};
 
+use refusals::Refusal;
+
 // A cell of the grid, by its easting and northing.
-#[derive(Clone, Copy)]
+#[derive(Clone, Copy, PartialEq, Eq)]
 pub struct Place {
     pub easting: u32,
     pub northing: u32,
@@ -24,14 +26,14 @@ pub struct Chain {
     pub factor: u32,
 }
 
-// The readings expected at a place, or the number of the refusal in 01's table.
+// The readings of a place, one for each slave.
 #[derive(Clone, Copy)]
-pub enum Expected {
-    Readings { a: i64, b: i64 },
-    Refused(u32),
+pub struct BothReadings {
+    pub a: i64,
+    pub b: i64,
 }
 
-// The readings as figures: the number of the refusal, 0 for none, and both readings.
+// The readings as figures, for C: the number of the refusal, 0 for none, and both readings.
 #[derive(Clone, Copy)]
 pub struct Figures {
     pub refusal: u32,
@@ -51,103 +53,72 @@ const LEAST_FACTOR: u32 = 999_000;
 const MOST_FACTOR: u32 = 1_001_000;
 
 // Whether a place is in range.
+#[tactic(auto, unfolding(crate::specs::Places::in_range))]
 pub fn in_range(p: Place) -> bool
     ensures { result ≡ in_range p }
 {
-    if p.easting > MOST_EASTING {
-        return false;
-    }
-    p.northing <= MOST_NORTHING
+    p.easting <= MOST_EASTING && p.northing <= MOST_NORTHING
 }
 
 // Whether a scale factor is allowed.
+#[tactic(auto, unfolding(crate::specs::Factors::is_factor))]
 pub fn is_factor(f: u32) -> bool
     ensures { result ≡ is_factor f }
 {
-    if f < LEAST_FACTOR {
-        return false;
-    }
-    f <= MOST_FACTOR
+    LEAST_FACTOR <= f && f <= MOST_FACTOR
 }
 
 // Whether a chain is sound: its factor is allowed, all its stations are in range, and no two of them are equal.
+#[tactic(auto, unfolding(crate::specs::Chains::is_sound))]
 pub fn sound(c: Chain) -> bool
     ensures { result ≡ is_sound c }
 {
-    if !is_factor(c.factor) {
-        return false;
-    }
-    if !all_in_range(c) {
-        return false;
-    }
-    no_two_equal(c)
+    is_factor(c.factor) && all_in_range(c) && no_two_equal(c)
 }
 
 // The readings expected at a place: what a log would hold there.
-pub fn readings(c: Chain, p: Place) -> Expected
+#[tactic(auto, using(crate::proofs::ChainLaws::factor_allowed, crate::proofs::ChainLaws::stations_in_range), unfolding(crate::specs::Readings::said_by, crate::specs::Readings::expected_at))]
+pub fn readings(c: Chain, p: Place) -> Result<BothReadings, Refusal>
     ensures { said_by result ≡ expected_at c p }
 {
-    let place = in_range(p);
-    let chain = sound(c);
-    if !place {
-        return Expected::Refused(4); // the place is out of range
+    if !in_range(p) {
+        return Err(Refusal::Place);
     }
-    if !chain {
-        return Expected::Refused(5); // the chain is not sound
+    if !sound(c) {
+        return Err(Refusal::Chain);
     }
     let m = range(c, p, c.master);
     let a = less(range(c, p, c.a), m);
     let b = less(range(c, p, c.b), m);
-    Expected::Readings { a, b }
+    Ok(BothReadings { a, b })
 }
 
 // An answer of `readings` as figures.
-pub fn as_figures(e: Expected) -> Figures
+#[tactic(auto, unfolding(crate::specs::Readings::said_by, crate::specs::Readings::figures_of))]
+pub fn as_figures(e: Result<BothReadings, Refusal>) -> Figures
     ensures { result ≡ figures_of (said_by e) }
 {
     match e {
-        Expected::Readings { a, b } => told(0, a, b),
-        Expected::Refused(number) => told(number, 0, 0),
+        Ok(BothReadings { a, b }) => Figures { refusal: 0, a, b },
+        Err(why) => Figures {
+            refusal: why.number(),
+            a: 0,
+            b: 0,
+        },
     }
-}
-
-fn told(refusal: u32, a: i64, b: i64) -> Figures
-    ensures { result ≡ record { refusal = refusal; a = a; b = b } }
-{
-    Figures { refusal, a, b }
 }
 
 fn all_in_range(c: Chain) -> bool
     ensures { result ≡ all_in_range (stations_of c) }
 {
-    if !in_range(c.master) {
-        return false;
-    }
-    if !in_range(c.a) {
-        return false;
-    }
-    in_range(c.b)
+    in_range(c.master) && in_range(c.a) && in_range(c.b)
 }
 
+#[tactic(auto, unfolding(crate::specs::Places::same_place))]
 fn no_two_equal(c: Chain) -> bool
     ensures { result ≡ no_two_equal (stations_of c) }
 {
-    if same(c.master, c.a) {
-        return false;
-    }
-    if same(c.master, c.b) {
-        return false;
-    }
-    !same(c.a, c.b)
-}
-
-fn same(p: Place, q: Place) -> bool
-    ensures { result ≡ same_place p q }
-{
-    if p.easting != q.easting {
-        return false;
-    }
-    p.northing == q.northing
+    c.master != c.a && c.master != c.b && c.a != c.b
 }
 
 // The range from a place to a station of a chain.
@@ -180,10 +151,7 @@ fn distance(p: Place, station: Place) -> u64
 pub fn gap(a: u32, b: u32) -> u64
     ensures { result ≡ apart a b }
 {
-    if a < b {
-        return (b - a) as u64;
-    }
-    (a - b) as u64
+    a.abs_diff(b) as u64
 }
 
 // The difference of two ranges, below 0 if the first is the smaller.
