@@ -11,8 +11,7 @@ use lib.Ieee.{Float, nan, inf, fin, up, down}
 use lib.Ieee.Fits.{down_pos}
 use lib.Ieee.Nearest.{closest}
 use borrow.Author.Tests.{ltb-true, ltb-false, leb-true, leb-false, le-leb, lt-leb}
-use Rattle.metres.specs.declared.Whole.{Whole}
-use Rattle.metres.specs.declared.Whole.TheVariants.{Centimetres, Refused}
+use Rattle.std.specs.Prelude.{Option, Some, None}
 use Rattle.metres.specs.Metres.{most_metres, signed, is_readable, hundredfold, centimetres_of}
 use Rattle.metres.specs.Nearest.{off, IsNearest, MayAnswer}
 use Rattle.metres.proofs.Rounding.{Near, closest_near, near_only}
@@ -96,11 +95,11 @@ only_nearest true false m e (suc n) h = absurd (too_far (hundredfold m e) (down 
 
 -- What a finite number gives, within the limit and beyond it.
 module _ (s : Bool) (m : ℕ) (e : ℤ) where
-  pub given : m * up e ≤ most_metres * down e → centimetres_of (fin s m e) ≡ Centimetres (signed s (closest (hundredfold m e) (down e)))
+  pub given : m * up e ≤ most_metres * down e → centimetres_of (fin s m e) ≡ Some (signed s (closest (hundredfold m e) (down e)))
   unfolding centimetres_of
   given h = rw (le-leb (m * up e) (most_metres * down e) h)
 
-  pub refused : most_metres * down e < m * up e → centimetres_of (fin s m e) ≡ Refused
+  pub refused : most_metres * down e < m * up e → centimetres_of (fin s m e) ≡ None
   unfolding centimetres_of
   refused h = rw (lt-leb (m * up e) (most_metres * down e) h)
 
@@ -111,17 +110,17 @@ answers nan = tt
 answers (inf s) = tt
 answers (fin s m e) = go (is_readable m e) refl
   where
-    go : (t : Bool) → is_readable m e ≡ t → MayAnswer (fin s m e) (cond t (Centimetres (signed s (closest (hundredfold m e) (down e)))) Refused)
+    go : (t : Bool) → is_readable m e ≡ t → MayAnswer (fin s m e) (cond t (Some (signed s (closest (hundredfold m e) (down e)))) None)
     go true h = (leb-true (m * up e) (most_metres * down e) h, from_near s m e (closest (hundredfold m e) (down e)) (closest_near (hundredfold m e) (down e) (down_pos e)))
     go false h = leb-false (m * up e) (most_metres * down e) h
 
 -- And nothing else is allowed.
-pub answers_only : (x : Float) (w : Whole) → MayAnswer x w → w ≡ centimetres_of x
+pub answers_only : (x : Float) (w : Option ℤ) → MayAnswer x w → w ≡ centimetres_of x
 unfolding centimetres_of
-answers_only nan Refused h = refl
-answers_only nan (Centimetres z) h = absurd h
-answers_only (inf s) Refused h = refl
-answers_only (inf s) (Centimetres z) h = absurd h
-answers_only (fin s m e) Refused h = sym (refused s m e h)
-answers_only (fin s m e) (Centimetres (pos n)) h = ap Centimetres (only_nearest s false m e n h.1) ∙ sym (given s m e h.0)
-answers_only (fin s m e) (Centimetres (negsuc n)) h = ap Centimetres (only_nearest s true m e (suc n) h.1) ∙ sym (given s m e h.0)
+answers_only nan None h = refl
+answers_only nan (Some z) h = absurd h
+answers_only (inf s) None h = refl
+answers_only (inf s) (Some z) h = absurd h
+answers_only (fin s m e) None h = sym (refused s m e h)
+answers_only (fin s m e) (Some (pos n)) h = ap Some (only_nearest s false m e n h.1) ∙ sym (given s m e h.0)
+answers_only (fin s m e) (Some (negsuc n)) h = ap Some (only_nearest s true m e (suc n) h.1) ∙ sym (given s m e h.0)

@@ -17,9 +17,7 @@ use lib.Ieee.Fits.{round_is, down_pos}
 use lib.Ieee.Nearest.{closest, closest_mono, closest_same}
 use lib.Ieee.Scale.{round_same}
 use borrow.Author.Tests.{le-leb, lt-leb}
-use Rattle.metres.specs.declared.Whole.TheVariants.{Centimetres}
-use Rattle.metres.specs.declared.Length.{Length}
-use Rattle.metres.specs.declared.Length.TheVariants.{Metres, Refused}
+use Rattle.std.specs.Prelude.{Option, Some, None}
 use Rattle.metres.specs.Metres.{most_metres, most_centimetres, signed, hundredfold, centimetres_of, hundredth_of, metres_of, length_figures, ReadsBack}
 use Rattle.metres.proofs.Rounding.{Near, less_than_half, closest_near, near_only}
 use Rattle.metres.proofs.Answers.{given}
@@ -82,7 +80,7 @@ module _ (n : ℕ) (h : n ≤ most_centimetres) where
       (units_val binary64 s q k (lt_of_le_of_lt limited (lit< tt)))
 
 -- A number that is `units` times 2 ^ -1074 is read as its hundredfold, rounded.
-of_value : (x : Float) (s : Bool) (units n : ℕ) → HasValue x s units (2 ^ 1074) → units ≤ most_metres * 2 ^ 1074 → n ≡ closest (100 * units) (2 ^ 1074) → centimetres_of x ≡ Centimetres (signed s n)
+of_value : (x : Float) (s : Bool) (units n : ℕ) → HasValue x s units (2 ^ 1074) → units ≤ most_metres * 2 ^ 1074 → n ≡ closest (100 * units) (2 ^ 1074) → centimetres_of x ≡ Some (signed s n)
 of_value nan s units n v h is = absurd v
 of_value (inf t) s units n v h is = absurd v
 of_value (fin t m e) s units n v h is =
@@ -90,7 +88,7 @@ of_value (fin t m e) s units n v h is =
     le_of_mul-le-mul_right (le_trans (le_of_eq v.1) (le_trans (mul-le-mul_right (down e) h) (le_of_eq (mul_right_comm most_metres (2 ^ 1074) (down e))))) (pow_pos 1074) in
     let same : closest (hundredfold m e) (down e) ≡ closest (100 * units) (2 ^ 1074) =
     closest_same (hundredfold m e) (down e) (100 * units) (2 ^ 1074) (down_pos e) (pow_pos 1074) (hundredfold_value t s m units (2 ^ 1074) e v) in
-    given t m e within ∙ ap₂ (λ (u : Bool) (c : ℕ). Centimetres (signed u c)) v.0 (same ∙ sym is)
+    given t m e within ∙ ap₂ (λ (u : Bool) (c : ℕ). Some (signed u c)) v.0 (same ∙ sym is)
 
 -- A whole number n divided by 100 is `round` of the fraction n / 100.
 hundred_is : of_int binary64 (pos 100) ≡ fin false 25 (pos 2)
@@ -110,28 +108,28 @@ divided (inf t) s n v = absurd v
 divided (fin true m e) s n v = quotient true s m n e v
 divided (fin false m e) s n v = quotient false s m n e v
 
-size_back : (s : Bool) (n : ℕ) → n ≤ most_centimetres → centimetres_of (div binary64 (round binary64 s n 1) (of_int binary64 (pos 100))) ≡ Centimetres (signed s n)
+size_back : (s : Bool) (n : ℕ) → n ≤ most_centimetres → centimetres_of (div binary64 (round binary64 s n 1) (of_int binary64 (pos 100))) ≡ Some (signed s n)
 size_back s n h =
     ap (λ (y : Float). centimetres_of (div binary64 (round binary64 s n 1) y)) hundred_is
     ∙ ap centimetres_of (divided (round binary64 s n 1) s n (round_whole binary64 s n (le_trans h (lit≤ tt))))
     ∙ of_value (round binary64 s n 100) s (q n h * 2 ^ k n h) n (value n h s) (limited n h) (again n h)
 
 -- Divided by 100 and read again, every number up to 1,000,000,000 in size gives itself.
-pub hundredth_back : (z : ℤ) → nat_abs z ≤ most_centimetres → centimetres_of (hundredth_of z) ≡ Centimetres z
+pub hundredth_back : (z : ℤ) → nat_abs z ≤ most_centimetres → centimetres_of (hundredth_of z) ≡ Some z
 unfolding hundredth_of of_int
 hundredth_back (pos n) h = size_back false n h
 hundredth_back (negsuc n) h = size_back true (suc n) h
 
 -- What is written within the limit and beyond it.
-pub written : (z : ℤ) → nat_abs z ≤ most_centimetres → metres_of z ≡ Metres (hundredth_of z)
+pub written : (z : ℤ) → nat_abs z ≤ most_centimetres → metres_of z ≡ Some (hundredth_of z)
 unfolding metres_of
 written z h = rw (le-leb (nat_abs z) most_centimetres h)
 
-pub not_written : (z : ℤ) → most_centimetres < nat_abs z → metres_of z ≡ Refused
+pub not_written : (z : ℤ) → most_centimetres < nat_abs z → metres_of z ≡ None
 unfolding metres_of
 not_written z h = rw (lt-leb (nat_abs z) most_centimetres h)
 
 -- The way back, for all 2,000,000,001 numbers of centimetres that are written: read again, each gives itself.
 pub way_back : (z : ℤ) → ReadsBack z (metres_of z)
 unfolding length_figures
-way_back z h = ap (λ (l : Length). centimetres_of (length_figures l).metres) (written z h) ∙ hundredth_back z h
+way_back z h = ap (λ (l : Option Float). centimetres_of (length_figures l).metres) (written z h) ∙ hundredth_back z h

@@ -14,14 +14,14 @@ use lib.Ieee.Bits.{of_bits-to_bits}
 use lib.Ieee.Exact.{HasValue, odd_sign}
 use lib.Ieee.Compare.{differs_from_itself}
 use borrow.Author.Tests.{ltb-true, ltb-false}
-use Rattle.metres.specs.declared.Hundredfold.TheVariants.{Exact, Refused}
+use Rattle.std.specs.Prelude.{Some, None}
 use Rattle.metres.specs.Metres.{most_metres, hundredfold}
 use Rattle.metres.specs.Hundredfolds.{IsHundredfold}
 use Rattle.metres.proofs.Exact.{hundredfold_value}
 
 -- What is refused: NaN, and a number beyond a bound that is itself at least the limit in size.
-pub refused_nan : (x : Float) → ne x x ≡ true → IsHundredfold x Refused
-refused_nan x h = subst⁻¹ (λ (y : Float). IsHundredfold y Refused) (differs_from_itself x (subst⁻¹ T h tt)) tt
+pub refused_nan : (x : Float) → ne x x ≡ true → IsHundredfold x None
+refused_nan x h = subst⁻¹ (λ (y : Float). IsHundredfold y None) (differs_from_itself x (subst⁻¹ T h tt)) tt
 
 beyond : (a m : ℕ) (f e : ℤ) → most_metres * down f ≤ a * up f → ltb (a * up f * down e) (m * up e * down f) ≡ true → most_metres * down e < m * up e
 beyond a m f e least h =
@@ -29,14 +29,14 @@ beyond a m f e least h =
     (lt_of_le_of_lt (le_of_eq (mul_right_comm most_metres (down e) (down f)))
     (lt_of_le_of_lt (mul-le-mul_right (down e) least) (ltb-true (a * up f * down e) (m * up e * down f) h)))
 
-pub refused_above : (a : ℕ) (f : ℤ) (x : Float) → most_metres * down f ≤ a * up f → lt (fin false a f) x ≡ true → IsHundredfold x Refused
+pub refused_above : (a : ℕ) (f : ℤ) (x : Float) → most_metres * down f ≤ a * up f → lt (fin false a f) x ≡ true → IsHundredfold x None
 unfolding lt
 refused_above a f nan least h = tt
 refused_above a f (inf s) least h = tt
 refused_above a f (fin false m e) least h = beyond a m f e least h
 refused_above a f (fin true m e) least h = absurd (false≢true h)
 
-pub refused_below : (a : ℕ) (f : ℤ) (x : Float) → most_metres * down f ≤ a * up f → lt x (fin true a f) ≡ true → IsHundredfold x Refused
+pub refused_below : (a : ℕ) (f : ℤ) (x : Float) → most_metres * down f ≤ a * up f → lt x (fin true a f) ≡ true → IsHundredfold x None
 unfolding lt
 refused_below a f nan least h = tt
 refused_below a f (inf s) least h = tt
@@ -109,13 +109,12 @@ exponent_limit j digits h = le_of_suc-le-suc (lt_of_not-le (λ (many : 1046 ≤ 
         lt_of_le_of_lt low (lt_of_le_of_lt h (lt_of_lt_of_le high more))
 
 -- From a number of n units to its exact hundredfold.
-exact_of : (x : Float) (s : Bool) (n parts halvings : ℕ) → HasValue x s n (2 ^ 1074) → Readable x → parts < 2 ^ 60 → 100 * n * 2 ^ halvings ≡ parts * 2 ^ 1074 → IsHundredfold x (Exact s parts halvings)
-exact_of nan s n parts halvings v h few same = absurd h
-exact_of (inf t) s n parts halvings v h few same = absurd h
-exact_of (fin t m e) s n parts halvings v h few same = record {
+exact_of : (x : Float) (s : Bool) (n parts halvings : ℕ) (few : parts < 2 ^ 60) → HasValue x s n (2 ^ 1074) → Readable x → 100 * n * 2 ^ halvings ≡ parts * 2 ^ 1074 → IsHundredfold x (Some (record { minus = s; parts = parts; halvings = halvings; few = few }))
+exact_of nan s n parts halvings few v h same = absurd h
+exact_of (inf t) s n parts halvings few v h same = absurd h
+exact_of (fin t m e) s n parts halvings few v h same = record {
   readable = h;
   sign = sym v.0;
-  few = few;
   exact = eq_of_mul-eq-mul_right (2 ^ 1074) (pow_pos 1074) (hundredfold m e * 2 ^ halvings) (parts * down e)
       (mul_right_comm (hundredfold m e) (2 ^ halvings) (2 ^ 1074)
       ∙ ap (λ (y : ℕ). y * 2 ^ halvings) (hundredfold_value t s m n (2 ^ 1074) e v)
@@ -159,13 +158,13 @@ module _ (x : Float) (held : T (fits binary64 x)) (h : Readable x) where
       subst (λ (y : ℕ). HasValue x is_minus (units y digits) (2 ^ 1074)) e
       (subst⁻¹ (λ (y : Float). HasValue y is_minus (units exponent digits) (2 ^ 1074)) is (fields_value is_minus exponent digits (subst Readable is h)))
 
-  digits_few : digits < 2 ^ 52
+  pub digits_few : digits < 2 ^ 52
   digits_few = mod-lt pattern (pow_pos 52)
 
   -- With an exponent of 0, the digits alone are the number.
-  pub without_lead : exponent ≡ 0 → IsHundredfold x (Exact is_minus (digits * 100) 1074)
-  without_lead e =
-      exact_of x is_minus (digits * 2 ^ 0) (digits * 100) 1074 (value 0 e) h (omega (arith, digits_few))
+  pub without_lead : (few : digits * 100 < 2 ^ 60) → exponent ≡ 0 → IsHundredfold x (Some (record { minus = is_minus; parts = digits * 100; halvings = 1074; few = few }))
+  without_lead few e =
+      exact_of x is_minus (digits * 2 ^ 0) (digits * 100) 1074 few (value 0 e) h
       (ap (λ (y : ℕ). y * 2 ^ 1074) (ap (λ (y : ℕ). 100 * y) (mul-one digits) ∙ mul_comm 100 digits))
 
   past_zero : (exponent ≡ 0 → ⊥) → exponent ≡ suc (exponent - 1)
@@ -179,8 +178,8 @@ module _ (x : Float) (held : T (fits binary64 x)) (h : Readable x) where
   exponent_few e = omega (arith, low e)
 
   -- With any other exponent, the digits follow a leading 1.
-  pub with_lead : (exponent ≡ 0 → ⊥) → IsHundredfold x (Exact is_minus ((2 ^ 52 + digits) * 100) (1075 - exponent))
-  with_lead e =
+  pub with_lead : (few : (2 ^ 52 + digits) * 100 < 2 ^ 60) → (exponent ≡ 0 → ⊥) → IsHundredfold x (Some (record { minus = is_minus; parts = (2 ^ 52 + digits) * 100; halvings = 1075 - exponent; few = few }))
+  with_lead few e =
       let halvings : 1074 - (exponent - 1) ≡ 1075 - exponent = omega (arith, low e, e) in
-      subst (λ (k : ℕ). IsHundredfold x (Exact is_minus ((2 ^ 52 + digits) * 100) k)) halvings
-      (exact_of x is_minus ((2 ^ 52 + digits) * 2 ^ (exponent - 1)) ((2 ^ 52 + digits) * 100) (1074 - (exponent - 1)) (value (suc (exponent - 1)) (past_zero e)) h (omega (arith, digits_few)) (halved (2 ^ 52 + digits) (exponent - 1) (omega (arith, low e))))
+      subst (λ (k : ℕ). IsHundredfold x (Some (record { minus = is_minus; parts = (2 ^ 52 + digits) * 100; halvings = k; few = few }))) halvings
+      (exact_of x is_minus ((2 ^ 52 + digits) * 2 ^ (exponent - 1)) ((2 ^ 52 + digits) * 100) (1074 - (exponent - 1)) few (value (suc (exponent - 1)) (past_zero e)) h (halved (2 ^ 52 + digits) (exponent - 1) (omega (arith, low e))))

@@ -10,36 +10,30 @@ use lib.Ieee.{Float, nan, inf, fin, up, down}
 use lib.Ieee.Exact.{HasValue}
 use lib.Ieee.Fits.{down_pos, nearest-le}
 use lib.Ieee.Nearest.{closest, closest_same}
-use Rattle.metres.specs.declared.Whole.TheVariants as whole
-use Rattle.metres.specs.declared.Hundredfold.TheVariants.{Exact, Refused}
+use Rattle.std.specs.Prelude.{Some, None}
+use Rattle.metres.specs.declared.hundredfold.Hundredfold.{Hundredfold}
 use Rattle.metres.specs.Metres.{signed, hundredfold, centimetres_of}
 use Rattle.metres.specs.Hundredfolds.{IsHundredfold}
 use Rattle.metres.proofs.Answers.{given, refused}
 
 -- A number whose hundredfold is refused is refused.
-pub of_refused : (x : Float) → IsHundredfold x Refused → whole.Refused ≡ centimetres_of x
+pub of_refused : (x : Float) → IsHundredfold x None → None ≡ centimetres_of x
 unfolding centimetres_of
 of_refused nan h = refl
 of_refused (inf s) h = refl
 of_refused (fin s m e) h = sym (refused s m e h)
 
 -- A number with an exact hundredfold has the centimetres that this rounds to.
-pub of_exact : (x : Float) (minus : Bool) (parts halvings : ℕ) → IsHundredfold x (Exact minus parts halvings) → whole.Centimetres (signed minus (closest parts (2 ^ halvings))) ≡ centimetres_of x
-of_exact nan minus parts halvings h = absurd h
-of_exact (inf s) minus parts halvings h = absurd h
-of_exact (fin s m e) minus parts halvings h =
+pub of_exact : (x : Float) (h : Hundredfold) → IsHundredfold x (Some h) → Some (signed h.minus (closest h.parts (2 ^ h.halvings))) ≡ centimetres_of x
+of_exact nan h is = absurd is
+of_exact (inf s) h is = absurd is
+of_exact (fin s m e) h is =
     sym
-    (given s m e h.readable
-    ∙ ap₂ (λ (t : Bool) (n : ℕ). whole.Centimetres (signed t n)) (sym h.sign)
-    (closest_same (hundredfold m e) (down e) parts (2 ^ halvings) (down_pos e) (pow_pos halvings) h.exact))
+    (given s m e is.readable
+    ∙ ap₂ (λ (t : Bool) (n : ℕ). Some (signed t n)) (sym is.sign)
+    (closest_same (hundredfold m e) (down e) h.parts (2 ^ h.halvings) (down_pos e) (pow_pos h.halvings) is.exact))
 
--- An exact hundredfold has fewer than 2 ^ 60 parts, so that twice a remainder fits in 64 bits.
-pub exact_few : (x : Float) (minus : Bool) (parts halvings : ℕ) → IsHundredfold x (Exact minus parts halvings) → parts < 2 ^ 60
-exact_few nan minus parts halvings h = absurd h
-exact_few (inf s) minus parts halvings h = absurd h
-exact_few (fin s m e) minus parts halvings h = h.few
-
--- So the rounded number is small as well.
+-- A hundredfold has fewer than 2 ^ 60 parts, so the rounded number is small as well.
 pub closest_few : (parts b : ℕ) → parts < 2 ^ 60 → closest parts b < 2 ^ 62
 closest_few parts b few = omega (arith, nearest-le (parts / b) (compare (parts % b * 2) b), div-le_self parts b)
 

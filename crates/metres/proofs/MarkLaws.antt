@@ -14,11 +14,10 @@ use lib.Ieee.{Float, nan, inf, fin, down}
 use lib.Ieee.Fits.{down_pos}
 use lib.Ieee.Nearest.{closest}
 use borrow.Author.Tests.{ltb-true, ltb-false, lt-ltb, le-ltb}
-use Rattle.metres.specs.declared.Whole.{Whole}
-use Rattle.metres.specs.declared.Whole.TheVariants.{Centimetres, Refused}
+use Rattle.std.specs.Prelude.{Option, Some, None}
 use Rattle.metres.specs.declared.Mark.{Mark}
 use Rattle.metres.specs.declared.Mark.TheVariants.{Equal, Below, Above}
-use Rattle.metres.specs.declared.Hundredfold.TheVariants as exact
+use Rattle.metres.specs.declared.hundredfold.Hundredfold.{Hundredfold}
 use Rattle.metres.specs.Metres.{signed, hundredfold, centimetres_of}
 use Rattle.metres.specs.Marks.{as_parts, exact_parts, Lies, MayMark, seen_from, mark_by, mark_of, marked_of}
 use Rattle.metres.specs.Hundredfolds.{IsHundredfold, nearest_to}
@@ -67,22 +66,22 @@ seen_only Below z x h = rw (less h)
 seen_only Above z x h = rw (not_both z x (less h), less h)
 
 -- The mark beside an answer in centimetres is allowed, and no other is.
-pub mark_allowed : (x : Float) (w : Whole) → MayMark x w (mark_by x w)
+pub mark_allowed : (x : Float) (w : Option ℤ) → MayMark x w (mark_by x w)
 unfolding mark_by
-mark_allowed x Refused = refl
-mark_allowed nan (Centimetres z) = refl
-mark_allowed (inf s) (Centimetres z) = refl
-mark_allowed (fin s m e) (Centimetres z) = seen_true (as_parts e z) (exact_parts s m e)
+mark_allowed x None = refl
+mark_allowed nan (Some z) = refl
+mark_allowed (inf s) (Some z) = refl
+mark_allowed (fin s m e) (Some z) = seen_true (as_parts e z) (exact_parts s m e)
 
-pub mark_only : (x : Float) (w : Whole) (mark : Mark) → MayMark x w mark → mark ≡ mark_by x w
+pub mark_only : (x : Float) (w : Option ℤ) (mark : Mark) → MayMark x w mark → mark ≡ mark_by x w
 unfolding mark_by
-mark_only x Refused mark h = h
-mark_only nan (Centimetres z) mark h = h
-mark_only (inf s) (Centimetres z) mark h = h
-mark_only (fin s m e) (Centimetres z) mark h = seen_only mark (as_parts e z) (exact_parts s m e) h
+mark_only x None mark h = h
+mark_only nan (Some z) mark h = h
+mark_only (inf s) (Some z) mark h = h
+mark_only (fin s m e) (Some z) mark h = seen_only mark (as_parts e z) (exact_parts s m e) h
 
 -- So a number with the answer w has exactly the mark that is allowed beside w.
-pub mark_says : (x : Float) (w : Whole) → centimetres_of x ≡ w → (mark : Mark) → (mark_of x ≡ mark) ↔ MayMark x w mark
+pub mark_says : (x : Float) (w : Option ℤ) → centimetres_of x ≡ w → (mark : Mark) → (mark_of x ≡ mark) ↔ MayMark x w mark
 unfolding mark_of
 mark_says x w h mark = (
   (λ e. subst (MayMark x w) (sym (ap (mark_by x) h) ∙ e) (mark_allowed x w)),
@@ -132,17 +131,17 @@ module _ (d p : ℕ) (some : 0 < d) (some-parts : 0 < p) where
   same_signed true a b x y f g = seen_minus b a ∙ same_mark b a y x g f ∙ sym (seen_minus y x)
 
 -- A number that is refused, and one with an exact hundredfold: its centimetres and its mark.
-pub marked_refused : (x : Float) → IsHundredfold x exact.Refused → record { whole = Refused; mark = Equal } ≡ marked_of x
+pub marked_refused : (x : Float) → IsHundredfold x None → record { whole = None; mark = Equal } ≡ marked_of x
 unfolding marked_of mark_of mark_by
-marked_refused x h = ap (λ (w : Whole). record { whole = w; mark = mark_by x w }) (of_refused x h)
+marked_refused x h = ap (λ (w : Option ℤ). record { whole = w; mark = mark_by x w }) (of_refused x h)
 
-pub marked_exact : (x : Float) (minus : Bool) (parts halvings : ℕ) → IsHundredfold x (exact.Exact minus parts halvings) → nearest_to minus parts halvings ≡ marked_of x
+pub marked_exact : (x : Float) (h : Hundredfold) → IsHundredfold x (Some h) → nearest_to h ≡ marked_of x
 unfolding marked_of mark_of mark_by
-marked_exact nan minus parts halvings h = absurd h
-marked_exact (inf s) minus parts halvings h = absurd h
-marked_exact (fin s m e) minus parts halvings h =
-    let n = closest parts (2 ^ halvings) in
-    let other-parts = same_signed (down e) (2 ^ halvings) (down_pos e) (pow_pos halvings) minus (hundredfold m e) (n * down e) parts (n * 2 ^ halvings) h.exact (mul_right_comm n (down e) (2 ^ halvings)) in
-    let mark = sym other-parts ∙ ap₂ seen_from (sym (times minus n (down e))) (ap (λ (t : Bool). signed t (hundredfold m e)) h.sign) in
-    ap (λ (k : Mark). record { whole = Centimetres (signed minus n); mark = k }) mark
-    ∙ ap (λ (w : Whole). record { whole = w; mark = mark_by (fin s m e) w }) (of_exact (fin s m e) minus parts halvings h)
+marked_exact nan h is = absurd is
+marked_exact (inf s) h is = absurd is
+marked_exact (fin s m e) h is =
+    let n = closest h.parts (2 ^ h.halvings) in
+    let other-parts = same_signed (down e) (2 ^ h.halvings) (down_pos e) (pow_pos h.halvings) h.minus (hundredfold m e) (n * down e) h.parts (n * 2 ^ h.halvings) is.exact (mul_right_comm n (down e) (2 ^ h.halvings)) in
+    let mark = sym other-parts ∙ ap₂ seen_from (sym (times h.minus n (down e))) (ap (λ (t : Bool). signed t (hundredfold m e)) is.sign) in
+    ap (λ (k : Mark). record { whole = Some (signed h.minus n); mark = k }) mark
+    ∙ ap (λ (w : Option ℤ). record { whole = w; mark = mark_by (fin s m e) w }) (of_exact (fin s m e) h is)

@@ -8,12 +8,8 @@ use lib.Dec.{T, ltb, eqb}
 use lib.Ieee.{Float, nan, inf, fin, binary64, fits, is_nan, of_bits, to_bits}
 use lib.Ieee.Bits.{of_bits-to_bits, to_bits-lt, to_bits-of_bits, nan_bits_is, nan_bits_above}
 use borrow.Author.Tests.{ne_eqb}
-use Rattle.fields.specs.Fields.{inside, answer_at, eight_at}
-use Rattle.fields.specs.declared.Eight.{Eight}
-use Rattle.fields.specs.declared.Eight.TheVariants as eight
-use Rattle.fields.proofs.FieldLaws.{answer_inside, answer_outside, put_answer}
-use Rattle.metres.specs.declared.Number.{Number}
-use Rattle.metres.specs.declared.Number.TheVariants.{Value, Outside}
+use Rattle.std.specs.Prelude.{Some, None, option_map}
+use Rattle.fields.proofs.FieldLaws.{put_answer}
 use Rattle.metres.specs.Patterns.{number_of, pattern_of, is_plus_zero, number_at, put_number_at, ReadsThere}
 
 -- A pattern is one of NaN exactly if, without its sign, it is above the pattern of infinity.
@@ -55,23 +51,8 @@ plus_zero_bytes pattern small = go (is_nan (number_of pattern)) refl
         ∙ nan_pattern
         ∙ sym (ne_eqb pattern 0 (λ z. false≢true (sym zero_no_nan ∙ ap (λ (p : ℕ). is_nan (number_of p)) (sym z) ∙ h)))
 
--- The answer about a number, made from the answer about its eight bytes.
-abbrev pub number_from : Eight → Number
-number_from (eight.Value pattern) = Value (number_of pattern)
-number_from eight.Outside = Outside
-
--- The number at a place is that of the eight bytes there.
-pub number_of_eight : (s : List ℕ) (at : ℕ) → number_from (eight_at s at) ≡ number_at s at
-unfolding number_at
-number_of_eight s at = go (inside 8 s at) refl
-  where
-    go : (t : Bool) → inside 8 s at ≡ t → number_from (eight_at s at) ≡ answer_at 8 (λ pattern. Value (number_of pattern)) Outside s at
-    go true h = ap number_from (answer_inside 8 eight.Value eight.Outside s at h) ∙ sym (answer_inside 8 (λ pattern. Value (number_of pattern)) Outside s at h)
-    go false h = ap number_from (answer_outside 8 eight.Value eight.Outside s at h) ∙ sym (answer_outside 8 (λ pattern. Value (number_of pattern)) Outside s at h)
-
 -- A number that was put is read there again.
 pub put_number_read : (s : List ℕ) (at : ℕ) (x : Float) → T (fits binary64 x) → ReadsThere s (put_number_at s at x) at x
 unfolding number_at
 put_number_read s at x held h =
-    put_answer 8 (λ pattern. Value (number_of pattern)) Outside s at (pattern_of x) h (to_bits-lt binary64 x held)
-    ∙ ap Value (number_back x held)
+    ap (option_map number_of) (put_answer 8 Some None s at (pattern_of x) h (to_bits-lt binary64 x held)) ∙ ap Some (number_back x held)

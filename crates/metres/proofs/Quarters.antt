@@ -9,8 +9,7 @@ use native.Mathlib.Omega.{arith}
 use lib.IntN.{ℤ, pos, negsuc, nat_abs, ◌*ℤ◌}
 use lib.Ieee.{fin, up, down}
 use lib.Ieee.Fits.{down_pos}
-use Rattle.metres.specs.declared.Whole.{Whole}
-use Rattle.metres.specs.declared.Whole.TheVariants.{Centimetres, Refused}
+use Rattle.std.specs.Prelude.{Option, Some, None}
 use Rattle.metres.specs.declared.Mark.TheVariants.{Equal}
 use Rattle.metres.specs.Metres.{signed, hundredfold, centimetres_of}
 use Rattle.metres.specs.Nearest.{MayAnswer}
@@ -66,22 +65,22 @@ to_quarters s m e z h =
 near_itself : (b n : ℕ) → 0 < b → Near (n * b) b n
 near_itself b n some = less_than_half (n * b) b n (omega arith)
 
-value : Whole → ℤ
-value (Centimetres z) = z
-value Refused = pos 0
+value : Option ℤ → ℤ
+value (Some z) = z
+value None = pos 0
 
-from_quarters : (s : Bool) (m : ℕ) (e z : ℤ) (k : ℕ) → centimetres_of (fin s m e) ≡ Centimetres z → 4 * (m * up e) ≡ k * down e → exact_parts s m e ≡ as_parts e z
+from_quarters : (s : Bool) (m : ℕ) (e z : ℤ) (k : ℕ) → centimetres_of (fin s m e) ≡ Some z → 4 * (m * up e) ≡ k * down e → exact_parts s m e ≡ as_parts e z
 unfolding value
 from_quarters s m e z k h q =
     let n = 25 * k in
     let exact : hundredfold m e ≡ n * down e = omega (arith, q, mul_assoc 25 k (down e)) in
     let readable = (subst (MayAnswer (fin s m e)) h (answers (fin s m e))).0 in
     let near = subst (λ (y : ℕ). Near y (down e) n) (sym exact) (near_itself (down e) n (down_pos e)) in
-    let same : signed s n ≡ z = ap value (answers_only (fin s m e) (Centimetres (signed s n)) (readable, from_near s m e n near) ∙ h) in
+    let same : signed s n ≡ z = ap value (answers_only (fin s m e) (Some (signed s n)) (readable, from_near s m e n near) ∙ h) in
     ap (signed s) exact ∙ sym (times s n (down e)) ∙ ap (as_parts e) same
 
-pub quarters : (s : Bool) (m : ℕ) (e z : ℤ) → centimetres_of (fin s m e) ≡ Centimetres z →
+pub quarters : (s : Bool) (m : ℕ) (e z : ℤ) → centimetres_of (fin s m e) ≡ Some z →
     (mark_of (fin s m e) ≡ Equal) ↔ ((k : ℕ) × (4 * (m * up e) ≡ k * down e))
 quarters s m e z h =
-    let says = mark_says (fin s m e) (Centimetres z) h Equal in
+    let says = mark_says (fin s m e) (Some z) h Equal in
     ((λ q. to_quarters s m e z (says.0 q)), (λ q. says.1 (from_quarters s m e z q.0 h q.1)))

@@ -3,19 +3,18 @@ use mathlib.Core.Path.{◌≡◌, refl}
 use mathlib.Core.Bool.{true, false}
 use lib.IntN.{pos, negsuc}
 use lib.Ieee.{nan, inf, of_bits, to_bits}
-use Rattle.metres.specs.declared.Whole.TheVariants as whole
-use Rattle.metres.specs.declared.Length.TheVariants as metres_length
+use Rattle.std.specs.Prelude.{Some}
 use Rattle.metres.specs.Metres.{centimetres_of, metres_of, whole_figures, length_figures, plus_zero}
 use Rattle.metres.specs.declared.Mark.TheVariants as mark
 use Rattle.metres.specs.Marks.{seen_from, mark_by, mark_of}
 use Rattle.metres.specs.Patterns.{number_of, is_plus_zero}
 
 -- The binary64 numbers next to 0.005 lie on both sides of it: the upper gives 1, the lower 0.
-above_half : centimetres_of (number_of 0x3f74_7ae1_47ae_147b) ≡ whole.Centimetres (pos 1)
+above_half : centimetres_of (number_of 0x3f74_7ae1_47ae_147b) ≡ Some (pos 1)
 unfolding centimetres_of of_bits
 above_half = refl
 
-below_half : centimetres_of (number_of 0x3f74_7ae1_47ae_147a) ≡ whole.Centimetres (pos 0)
+below_half : centimetres_of (number_of 0x3f74_7ae1_47ae_147a) ≡ Some (pos 0)
 unfolding centimetres_of of_bits
 below_half = refl
 
@@ -47,7 +46,7 @@ unfolding mark_of mark_by seen_from centimetres_of of_bits
 minus_zero_mark = refl
 
 -- 10,000,000 is read; the next number is refused, with 3 and 0, and so are NaN and minus infinity.
-largest : centimetres_of (number_of 0x4163_12d0_0000_0000) ≡ whole.Centimetres (pos 1_000_000_000)
+largest : centimetres_of (number_of 0x4163_12d0_0000_0000) ≡ Some (pos 1_000_000_000)
 unfolding centimetres_of of_bits
 largest = refl
 
@@ -64,7 +63,7 @@ unfolding whole_figures centimetres_of
 no_end = refl
 
 -- Minus zero gives 0, and it is not plus zero.
-minus_zero : centimetres_of (number_of 0x8000_0000_0000_0000) ≡ whole.Centimetres (pos 0)
+minus_zero : centimetres_of (number_of 0x8000_0000_0000_0000) ≡ Some (pos 0)
 unfolding centimetres_of of_bits
 minus_zero = refl
 
@@ -77,12 +76,12 @@ unfolding is_plus_zero to_bits
 plus_zero_told = refl
 
 -- 0 centimetres in metres are plus zero.
-none_in_metres : metres_of (pos 0) ≡ metres_length.Metres plus_zero
+none_in_metres : metres_of (pos 0) ≡ Some plus_zero
 unfolding metres_of
 none_in_metres = refl
 
 -- One centimetre in metres; and -1,000,000,001, the first number beyond the limit, is refused with 3 and plus zero.
-one_hundredth : metres_of (pos 1) ≡ metres_length.Metres (number_of 0x3f84_7ae1_47ae_147b)
+one_hundredth : metres_of (pos 1) ≡ Some (number_of 0x3f84_7ae1_47ae_147b)
 unfolding metres_of of_bits
 one_hundredth = refl
 

@@ -1,10 +1,8 @@
 -- How a number of metres was rounded: where exactly 100 times the number lies, as seen from its whole centimetres (02, A1).
-use Rattle.std.specs.Prelude.{ℕ, ◌≡◌, Bool, true, false, cond, ℤ, pos, ◌*ℤ◌, ◌<ℤ◌, Float}
+use Rattle.std.specs.Prelude.{ℕ, ◌≡◌, Bool, true, false, cond, ℤ, pos, ◌*ℤ◌, ◌<ℤ◌, Float, Option, Some, None}
 use Rattle.std.specs.Int.Signed.{lt_z}
 use Rattle.std.specs.Float.{nan, inf, fin}
 use Rattle.std.specs.Float.Ieee.{down}
-use Rattle.metres.specs.declared.Whole.{Whole}
-use Rattle.metres.specs.declared.Whole.TheVariants.{Centimetres, Refused}
 use Rattle.metres.specs.declared.Mark.{Mark}
 use Rattle.metres.specs.declared.Mark.TheVariants.{Equal, Below, Above}
 use Rattle.metres.specs.declared.MarkedWhole.{MarkedWhole}
@@ -25,22 +23,22 @@ Lies Above z x = z <ℤ x
 
 -- Which mark a number may have beside its answer in centimetres: what the mark says is true. Beside a refusal, and so beside that of
 -- NaN and the infinities, it is `Equal`.
-abbrev pub MayMark : Float → Whole → Mark → Type 0
-MayMark x Refused mark = mark ≡ Equal
-MayMark nan (Centimetres z) mark = mark ≡ Equal
-MayMark (inf s) (Centimetres z) mark = mark ≡ Equal
-MayMark (fin s m e) (Centimetres z) mark = Lies mark (as_parts e z) (exact_parts s m e)
+abbrev pub MayMark : Float → Option ℤ → Mark → Type 0
+MayMark x None mark = mark ≡ Equal
+MayMark nan (Some z) mark = mark ≡ Equal
+MayMark (inf s) (Some z) mark = mark ≡ Equal
+MayMark (fin s m e) (Some z) mark = Lies mark (as_parts e z) (exact_parts s m e)
 
 -- The mark as a function: where x lies, as seen from z.
 unfoldable pub seen_from : ℤ → ℤ → Mark
 seen_from z x = cond (lt_z x z) Below (cond (lt_z z x) Above Equal)
 
 -- The mark of a number, beside its answer in centimetres; and from the number alone.
-unfoldable pub mark_by : Float → Whole → Mark
-mark_by x Refused = Equal
-mark_by nan (Centimetres z) = Equal
-mark_by (inf s) (Centimetres z) = Equal
-mark_by (fin s m e) (Centimetres z) = seen_from (as_parts e z) (exact_parts s m e)
+unfoldable pub mark_by : Float → Option ℤ → Mark
+mark_by x None = Equal
+mark_by nan (Some z) = Equal
+mark_by (inf s) (Some z) = Equal
+mark_by (fin s m e) (Some z) = seen_from (as_parts e z) (exact_parts s m e)
 
 unfoldable pub mark_of : Float → Mark
 mark_of x = mark_by x (centimetres_of x)

@@ -1,16 +1,18 @@
 -- `metres::is_rounded` meets its contract, mark by mark.
+use mathlib.Core.Path.{◌≡◌, refl, ◌∙◌}
+use mathlib.Core.Bool.{not}
+use denote.Enum.Bare.{sameb}
+use Rattle.metres.specs.contracts.Mark.{the_type}
+use Rattle.metres.specs.declared.Mark.{Mark}
+use Rattle.metres.specs.declared.Mark.TheVariants.{Equal, Below, Above}
 use Rattle.metres.specs.Marks.{is_rounded}
-use borrow.Author.Rules.{rules}
 use Rattle.metres.proofs.is_rounded.Goals as goal
 
-pub returns-in-Equal : goal.returns-in-Equal
+differs : (mark : Mark) → not (sameb the_type mark Equal) ≡ is_rounded mark
 unfolding is_rounded
-returns-in-Equal c = search rules
+differs Equal = refl
+differs Below = refl
+differs Above = refl
 
-pub returns-in-Below : goal.returns-in-Below
-unfolding is_rounded
-returns-in-Below c = search rules
-
-pub returns-in-Above : goal.returns-in-Above
-unfolding is_rounded
-returns-in-Above c = search rules
+pub returns : goal.returns
+returns c = c.ne.ensures ∙ differs c.args.mark

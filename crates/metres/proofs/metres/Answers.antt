@@ -8,8 +8,7 @@ use lib.Ieee.{Float, binary64, in_float, of_bits, of_int, div}
 use mir.Syntax.{w64}
 use mir.Val.{to_z, of_z}
 use mir.ValLaws.{to_z-of_z}
-use Rattle.metres.specs.declared.Length.{Length}
-use Rattle.metres.specs.declared.Length.TheVariants.{Metres, Refused}
+use Rattle.std.specs.Prelude.{Option, Some, None}
 use Rattle.metres.specs.Metres.{most_centimetres, hundredth_of, metres_of, ReadsBack}
 use Rattle.metres.proofs.Back.{written, not_written, way_back}
 use Rattle.metres.proofs.metres.Goals.{After-size}
@@ -30,7 +29,7 @@ unfolding hundredth_of
 divided y z e = ap₂ (λ (n : ℤ) (x : Float). div binary64 (of_int binary64 n) x) e hundred_is
 
 -- An answer that keeps the first promise keeps both.
-settled : (z : ℤ) (l : Length) → l ≡ metres_of z → (l ≡ metres_of z) × ReadsBack z l
+settled : (z : ℤ) (l : Option Float) → l ≡ metres_of z → (l ≡ metres_of z) × ReadsBack z l
 settled z l e = (e, subst⁻¹ (ReadsBack z) e (way_back z))
 
 module _ (c : After-size) where
@@ -46,15 +45,15 @@ module _ (c : After-size) where
 pub returns-then-size-gt-MOST_CENTIMETRES : goal.returns-then-size-gt-MOST_CENTIMETRES
 returns-then-size-gt-MOST_CENTIMETRES c =
     let far : most_centimetres < nat_abs (z (goal.at.returns-then-size-gt-MOST_CENTIMETRES c).After-size) = omega (arith, size_is (goal.at.returns-then-size-gt-MOST_CENTIMETRES c).After-size, c.if-size-gt-MOST_CENTIMETRES.true) in
-    let s = settled (z (goal.at.returns-then-size-gt-MOST_CENTIMETRES c).After-size) Refused (sym (not_written (z (goal.at.returns-then-size-gt-MOST_CENTIMETRES c).After-size) far)) in
+    let s = settled (z (goal.at.returns-then-size-gt-MOST_CENTIMETRES c).After-size) None (sym (not_written (z (goal.at.returns-then-size-gt-MOST_CENTIMETRES c).After-size) far)) in
     record { answer = s.0; back = s.1 }
 
-pub int_to_float-quotient : goal.int_to_float-quotient
-int_to_float-quotient c =
-    subst⁻¹ (λ (y : ℤ). T (in_float binary64 y)) (same (goal.at.int_to_float-quotient c).After-size) (exact (z (goal.at.int_to_float-quotient c).After-size) (omega (arith, size_is (goal.at.int_to_float-quotient c).After-size, c.if-size-gt-MOST_CENTIMETRES.false)))
+pub int_to_float-result : goal.int_to_float-result
+int_to_float-result c =
+    subst⁻¹ (λ (y : ℤ). T (in_float binary64 y)) (same (goal.at.int_to_float-result c).After-size) (exact (z (goal.at.int_to_float-result c).After-size) (omega (arith, size_is (goal.at.int_to_float-result c).After-size, c.if-size-gt-MOST_CENTIMETRES.false)))
 
 pub returns : goal.returns
 returns c =
     let near : nat_abs (z (goal.at.returns c).After-size) ≤ most_centimetres = omega (arith, size_is (goal.at.returns c).After-size, c.if-size-gt-MOST_CENTIMETRES.false) in
-    let s = settled (z (goal.at.returns c).After-size) _ (ap Metres (divided (to_z w64 (of_z w64 (z (goal.at.returns c).After-size))) (z (goal.at.returns c).After-size) (same (goal.at.returns c).After-size)) ∙ sym (written (z (goal.at.returns c).After-size) near)) in
+    let s = settled (z (goal.at.returns c).After-size) _ (ap Some (divided (to_z w64 (of_z w64 (z (goal.at.returns c).After-size))) (z (goal.at.returns c).After-size) (same (goal.at.returns c).After-size)) ∙ sym (written (z (goal.at.returns c).After-size) near)) in
     record { answer = s.0; back = s.1 }

@@ -1,11 +1,11 @@
--- `metres::times_hundred` meets its contract: its comparisons refuse what they must, and the fields of the pattern give the rest.
+-- `metres::hundredfold::Hundredfold::times_hundred` meets its contract: its comparisons refuse what they must, and the fields of the pattern give the rest.
 use mathlib.Core.Path.{subst⁻¹}
 use native.Mathlib.Omega.{arith}
 use lib.Dec.{T, lit≤}
 use lib.Ieee.{Float, binary64, fits, of_bits, neg}
 use Rattle.metres.proofs.Digits.{Readable, refused_nan, refused_above, refused_below, readable, not_nan, without_lead, exponent_few, with_lead}
-use Rattle.metres.proofs.times_hundred.Goals.{Else-x-3}
-use Rattle.metres.proofs.times_hundred.Goals as goal
+use Rattle.metres.proofs.hundredfold.Hundredfold.times_hundred.Goals.{Else-x-3}
+use Rattle.metres.proofs.hundredfold.Hundredfold.times_hundred.Goals as goal
 
 pub returns-then-x : goal.returns-then-x
 returns-then-x c = refused_nan c.args.x c.if-x.true
@@ -35,12 +35,12 @@ float_to_bits-pattern c = not_nan (x c) c.if-x.false
 
 pub returns-then-exponent-eq0 : goal.returns-then-exponent-eq0
 returns-then-exponent-eq0 c =
-    without_lead (x (goal.at.returns-then-exponent-eq0 c).Else-x-3) (held (goal.at.returns-then-exponent-eq0 c).Else-x-3) (inside (goal.at.returns-then-exponent-eq0 c).Else-x-3) c.if-exponent-eq0.true
+    without_lead (x (goal.at.returns-then-exponent-eq0 c).Else-x-3) (held (goal.at.returns-then-exponent-eq0 c).Else-x-3) (inside (goal.at.returns-then-exponent-eq0 c).Else-x-3) _ c.if-exponent-eq0.true
 
-pub overflow_sub-halvings : goal.overflow_sub-halvings
-overflow_sub-halvings c =
-    omega (arith, exponent_few (x (goal.at.overflow_sub-halvings c).Else-x-3) (held (goal.at.overflow_sub-halvings c).Else-x-3) (inside (goal.at.overflow_sub-halvings c).Else-x-3) c.if-exponent-eq0.false)
+pub overflow_sub-result : goal.overflow_sub-result
+overflow_sub-result c =
+    omega (arith, exponent_few (x (goal.at.overflow_sub-result c).Else-x-3) (held (goal.at.overflow_sub-result c).Else-x-3) (inside (goal.at.overflow_sub-result c).Else-x-3) c.if-exponent-eq0.false)
 
 pub returns : goal.returns
 returns c =
-    with_lead (x (goal.at.returns c).Else-x-3) (held (goal.at.returns c).Else-x-3) (inside (goal.at.returns c).Else-x-3) c.if-exponent-eq0.false
+    with_lead (x (goal.at.returns c).Else-x-3) (held (goal.at.returns c).Else-x-3) (inside (goal.at.returns c).Else-x-3) _ c.if-exponent-eq0.false

@@ -1,4 +1,4 @@
--- `metres::with_sign` meets its contract: the negative of a size below 2 ^ 62 is a signed number of 64 bits.
+-- `metres::hundredfold::with_sign` meets its contract: the negative of a size below 2 ^ 62 is a signed number of 64 bits.
 use mathlib.Core.Path.{ap, ◌∙◌, sym}
 use mathlib.Core.Bool.{Bool}
 use native.Mathlib.Omega.{arith}
@@ -8,7 +8,7 @@ use mir.Val.{to_z}
 use mir.ValLaws.{to_z_pos, to_z-of_z}
 use Rattle.metres.specs.Metres.{signed}
 use Rattle.metres.proofs.Negatives.{minus_is, minus-fits}
-use Rattle.metres.proofs.with_sign.Goals as goal
+use Rattle.metres.proofs.hundredfold.with_sign.Goals as goal
 
 pub overflow_sub-result : goal.overflow_sub-result
 overflow_sub-result c = minus-fits c.args.n (omega (arith, c.requires))

@@ -1,10 +1,10 @@
--- `metres::side` meets its contract: below zero the larger size is the smaller number.
+-- `metres::hundredfold::side` meets its contract: below zero the larger size is the smaller number.
 use mathlib.Core.Path.{ap, sym, ◌∙◌}
 use mathlib.Core.Bool.{Bool}
 use Rattle.metres.specs.Metres.{signed}
 use Rattle.metres.specs.Marks.{seen_from}
 use Rattle.metres.proofs.MarkLaws.{seen_minus}
-use Rattle.metres.proofs.side.Goals as goal
+use Rattle.metres.proofs.hundredfold.side.Goals as goal
 
 pub returns-then-minus : goal.returns-then-minus
 returns-then-minus c =
