@@ -12,7 +12,6 @@ use lib.Ieee.{Float, nan, inf, fin, binary64, up, down, odd, fits, is_nan, of_fi
 use lib.Ieee.Fits.{down_pos}
 use lib.Ieee.Bits.{of_bits-to_bits}
 use lib.Ieee.Exact.{HasValue, odd_sign}
-use lib.Ieee.Compare.{differs_from_itself}
 use borrow.Author.Tests.{ltb-true, ltb-false}
 use Rattle.std.specs.Prelude.{Some, None}
 use Rattle.metres.specs.Metres.{most_metres, hundredfold}
@@ -20,8 +19,11 @@ use Rattle.metres.specs.Hundredfolds.{IsHundredfold}
 use Rattle.metres.proofs.Exact.{hundredfold_value}
 
 -- What is refused: NaN, and a number beyond a bound that is itself at least the limit in size.
-pub refused_nan : (x : Float) → ne x x ≡ true → IsHundredfold x None
-refused_nan x h = subst⁻¹ (λ (y : Float). IsHundredfold y None) (differs_from_itself x (subst⁻¹ T h tt)) tt
+pub refused_nan : (x : Float) → is_nan x ≡ true → IsHundredfold x None
+unfolding is_nan
+refused_nan nan h = tt
+refused_nan (inf s) h = absurd (false≢true h)
+refused_nan (fin s m e) h = absurd (false≢true h)
 
 beyond : (a m : ℕ) (f e : ℤ) → most_metres * down f ≤ a * up f → ltb (a * up f * down e) (m * up e * down f) ≡ true → most_metres * down e < m * up e
 beyond a m f e least h =
@@ -56,20 +58,13 @@ within_most a m f e most h =
     (le_trans (mul-le-mul_right (down e) most) (le_of_eq (mul_right_comm most_metres (down f) (down e)))))
     (down_pos f)
 
-pub readable : (a b : ℕ) (f g : ℤ) (x : Float) → a * up f ≤ most_metres * down f → b * up g ≤ most_metres * down g → ne x x ≡ false → lt (fin false a f) x ≡ false → lt x (fin true b g) ≡ false → Readable x
-unfolding lt ne
+pub readable : (a b : ℕ) (f g : ℤ) (x : Float) → a * up f ≤ most_metres * down f → b * up g ≤ most_metres * down g → is_nan x ≡ false → lt (fin false a f) x ≡ false → lt x (fin true b g) ≡ false → Readable x
+unfolding lt is_nan
 readable a b f g nan high low same above below = true≢false same
 readable a b f g (inf true) high low same above below = true≢false below
 readable a b f g (inf false) high low same above below = true≢false above
 readable a b f g (fin false m e) high low same above below = within_most a m f e high above
 readable a b f g (fin true m e) high low same above below = within_most b m g e low below
-
--- A number that equals itself is not NaN.
-pub not_nan : (x : Float) → ne x x ≡ false → T (not (is_nan x))
-unfolding ne is_nan
-not_nan nan h = absurd (true≢false h)
-not_nan (inf s) h = tt
-not_nan (fin s m e) h = tt
 
 -- The size of a number in units of 2 ^ -1074, from its exponent and its digits.
 abbrev units : ℕ → ℕ → ℕ

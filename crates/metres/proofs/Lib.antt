@@ -3,7 +3,6 @@ pub mod Rounding
 pub mod Answers
 pub mod Back
 pub mod PatternLaws
-mod Sizes
 mod Exact
 pub mod MarkLaws
 mod Digits

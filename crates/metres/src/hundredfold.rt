@@ -10,9 +10,9 @@ use std::cmp::Ordering;
 // parts / 2 ^ halvings, below zero if minus is true.
 #[derive(Clone, Copy)]
 pub(crate) struct Hundredfold {
-    minus: bool,
-    parts: u64,
-    halvings: u64,
+    pub(crate) minus: bool,
+    pub(crate) parts: u64,
+    pub(crate) halvings: u64,
     ghost few: { parts < 2 ^ 60 },
 }
 
@@ -25,16 +25,10 @@ impl Hundredfold {
     pub(crate) fn times_hundred(x: f64) -> Option<Hundredfold>
         ensures { IsHundredfold x result }
     {
-        if x != x {
+        if x.is_nan() || x > 10_000_000.0 || x < -10_000_000.0 {
             return None;
         }
-        if x > 10_000_000.0 {
-            return None;
-        }
-        if x < -10_000_000.0 {
-            return None;
-        }
-        let pattern = f64::to_bits(x);
+        let pattern = x.to_bits();
         let minus = pattern >= 0x8000_0000_0000_0000;
         let exponent = pattern % 0x8000_0000_0000_0000 / 0x10_0000_0000_0000;
         let digits = pattern % 0x10_0000_0000_0000;
@@ -57,11 +51,9 @@ impl Hundredfold {
         ensures { result ≡ nearest_to self }
     {
         let n = self.rounded();
-        let centimetres = with_sign(self.minus, n);
-        let mark = side(self.minus, self.parts, self.scaled(n));
         MarkedWhole {
-            whole: Some(centimetres),
-            mark,
+            whole: Some(with_sign(self.minus, n)),
+            mark: side(self.minus, self.parts, self.scaled(n)),
         }
     }
 
@@ -103,9 +95,10 @@ fn side(minus: bool, size: u64, from: u64) -> Mark
     ensures { result ≡ seen_from (signed minus from) (signed minus size) }
 {
     if minus {
-        return compared(from, size);
+        compared(from, size)
+    } else {
+        compared(size, from)
     }
-    compared(size, from)
 }
 
 // Where a number lies as seen from another.
@@ -130,8 +123,5 @@ fn with_sign(minus: bool, n: u64) -> i64
     requires { n < 2 ^ 62 }
     ensures { result ≡ signed minus n }
 {
-    if minus {
-        return 0 - n as i64;
-    }
-    n as i64
+    if minus { -(n as i64) } else { n as i64 }
 }

@@ -10,6 +10,7 @@ ghost use Rattle.metres.specs.Patterns.{number_of, pattern_of, is_plus_zero, num
 mod hundredfold;
 
 use hundredfold::Hundredfold;
+use std::num;
 
 // Where exactly 100 times a number of metres lies, as seen from its whole centimetres. `Equal`: nothing was lost.
 #[derive(Clone, Copy, PartialEq, Eq)]
@@ -94,15 +95,13 @@ pub fn size(c: i64) -> u64
 pub fn whole_figures(w: Option<i64>) -> WholeFigures
     ensures { result ≡ whole_figures w }
 {
-    match w {
-        Some(centimetres) => WholeFigures {
-            refusal: 0,
-            centimetres,
-        },
-        None => WholeFigures {
-            refusal: 3,
-            centimetres: 0,
-        },
+    let (refusal, centimetres) = match w {
+        Some(centimetres) => (0, centimetres),
+        None => (3, 0),
+    };
+    WholeFigures {
+        refusal,
+        centimetres,
     }
 }
 
@@ -110,33 +109,25 @@ pub fn whole_figures(w: Option<i64>) -> WholeFigures
 pub fn length_figures(l: Option<f64>) -> LengthFigures
     ensures { result ≡ length_figures l }
 {
-    match l {
-        Some(metres) => LengthFigures { refusal: 0, metres },
-        None => LengthFigures {
-            refusal: 3,
-            metres: 0.0,
-        },
-    }
+    let (refusal, metres) = match l {
+        Some(metres) => (0, metres),
+        None => (3, 0.0),
+    };
+    LengthFigures { refusal, metres }
 }
 
-// The number of a pattern of 64 bits. `from_bits` is undefined at the patterns of NaN.
+// The number of a pattern of 64 bits, those of NaN too.
 pub fn number_of(pattern: u64) -> f64
     ensures { result ≡ number_of pattern }
 {
-    if pattern % 0x8000_0000_0000_0000 > 0x7ff0_0000_0000_0000 {
-        return 0.0 / 0.0;
-    }
-    f64::from_bits(pattern)
+    num::f64_from_bits_with_nan(pattern)
 }
 
-// The pattern of a number. `to_bits` is undefined at NaN, the one number that differs from itself.
+// The pattern of a number. Each NaN has the one of the quiet NaN with no sign.
 pub fn pattern_of(x: f64) -> u64
     ensures { result ≡ pattern_of x }
 {
-    if x != x {
-        return 0x7ff8_0000_0000_0000;
-    }
-    f64::to_bits(x)
+    num::f64_to_bits_with_nan(x)
 }
 
 // Whether a number is plus zero, which eight zero bytes stand for, and not minus zero.

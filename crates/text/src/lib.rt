@@ -34,9 +34,10 @@ pub fn put_whole(out: &mut [u8], at: usize, z: i64) -> usize
     ensures out { out.new ≡ with_text out.old at (whole_text z) }
 {
     if z < 0 {
-        return put_below(out, at, metres::size(z));
+        put_below(out, at, z.unsigned_abs())
+    } else {
+        put_number(out, at, z.unsigned_abs())
     }
-    put_number(out, at, metres::size(z))
 }
 
 // Puts a space, then 1 if something is so, 0 if not.
@@ -45,9 +46,10 @@ pub fn put_flag(out: &mut [u8], at: usize, so: bool) -> usize
     ensures out { out.new ≡ with_text out.old at (flag_text so) }
 {
     if so {
-        return put(out, at, b" 1");
+        put(out, at, b" 1")
+    } else {
+        put(out, at, b" 0")
     }
-    put(out, at, b" 0")
 }
 
 // Puts bytes in hexadecimal, two digits each.
@@ -70,11 +72,7 @@ fn put_all(out: &mut [u8], at: usize, s: &[u8]) -> usize
     requires { at + length s.now ≤ length out.old }
     ensures { Put out.old at s.now out.new result }
 {
-    let mut i = 0;
-    while i < s.len() {
-        out[at + i] = s[i];
-        i += 1;
-    }
+    out[at..at + s.len()].copy_from_slice(s);
     at + s.len()
 }
 
@@ -97,10 +95,10 @@ fn put_digits(out: &mut [u8], at: usize, n: u64) -> usize
     ensures { Put out.old at (digits_of n) out.new result }
 {
     if n < 10 {
-        return put_one(out, at, 48 + n as u8);
+        return put_one(out, at, b'0' + n as u8);
     }
     let a = put_digits(out, at, n / 10);
-    put_one(out, a, 48 + (n % 10) as u8)
+    put_one(out, a, b'0' + (n % 10) as u8)
 }
 
 // Puts a minus sign, then a number.
@@ -120,10 +118,8 @@ fn put_hex(out: &mut [u8], at: usize, s: &[u8]) -> usize
     ensures { Put out.old at (hex_of s.now) out.new result }
 {
     let mut end = at;
-    let mut i = 0;
-    while i < s.len() {
-        end = put_pair(out, end, s[i]);
-        i += 1;
+    for &b in s {
+        end = put_pair(out, end, b);
     }
     end
 }
@@ -142,9 +138,10 @@ fn hex_digit(half: u8) -> u8
     ensures { result ≡ hex_digit half }
 {
     if half < 10 {
-        return 48 + half;
+        b'0' + half
+    } else {
+        b'a' - 10 + half
     }
-    87 + half
 }
 
 fn put_one(out: &mut [u8], at: usize, b: u8) -> usize

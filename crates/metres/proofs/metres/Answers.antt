@@ -44,16 +44,19 @@ module _ (c : After-size) where
 
 pub returns-then-size-gt-MOST_CENTIMETRES : goal.returns-then-size-gt-MOST_CENTIMETRES
 returns-then-size-gt-MOST_CENTIMETRES c =
-    let far : most_centimetres < nat_abs (z (goal.at.returns-then-size-gt-MOST_CENTIMETRES c).After-size) = omega (arith, size_is (goal.at.returns-then-size-gt-MOST_CENTIMETRES c).After-size, c.if-size-gt-MOST_CENTIMETRES.true) in
-    let s = settled (z (goal.at.returns-then-size-gt-MOST_CENTIMETRES c).After-size) None (sym (not_written (z (goal.at.returns-then-size-gt-MOST_CENTIMETRES c).After-size) far)) in
+    let p = (goal.at.returns-then-size-gt-MOST_CENTIMETRES c).After-size in
+    let far : most_centimetres < nat_abs (z p) = omega (arith, size_is p, c.if-size-gt-MOST_CENTIMETRES.true) in
+    let s = settled (z p) None (sym (not_written (z p) far)) in
     record { answer = s.0; back = s.1 }
 
 pub int_to_float-result : goal.int_to_float-result
 int_to_float-result c =
-    subst⁻¹ (λ (y : ℤ). T (in_float binary64 y)) (same (goal.at.int_to_float-result c).After-size) (exact (z (goal.at.int_to_float-result c).After-size) (omega (arith, size_is (goal.at.int_to_float-result c).After-size, c.if-size-gt-MOST_CENTIMETRES.false)))
+    let p = (goal.at.int_to_float-result c).After-size in
+    subst⁻¹ (λ (y : ℤ). T (in_float binary64 y)) (same p) (exact (z p) (omega (arith, size_is p, c.if-size-gt-MOST_CENTIMETRES.false)))
 
 pub returns : goal.returns
 returns c =
-    let near : nat_abs (z (goal.at.returns c).After-size) ≤ most_centimetres = omega (arith, size_is (goal.at.returns c).After-size, c.if-size-gt-MOST_CENTIMETRES.false) in
-    let s = settled (z (goal.at.returns c).After-size) _ (ap Some (divided (to_z w64 (of_z w64 (z (goal.at.returns c).After-size))) (z (goal.at.returns c).After-size) (same (goal.at.returns c).After-size)) ∙ sym (written (z (goal.at.returns c).After-size) near)) in
+    let p = (goal.at.returns c).After-size in
+    let near : nat_abs (z p) ≤ most_centimetres = omega (arith, size_is p, c.if-size-gt-MOST_CENTIMETRES.false) in
+    let s = settled (z p) _ (ap Some (divided (to_z w64 (of_z w64 (z p))) (z p) (same p)) ∙ sym (written (z p) near)) in
     record { answer = s.0; back = s.1 }

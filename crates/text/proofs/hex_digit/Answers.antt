@@ -5,5 +5,5 @@ use Rattle.text.proofs.hex_digit.Goals as goal
 pub returns-then-half-lt10 : goal.returns-then-half-lt10
 returns-then-half-lt10 c = hex_few c.args.half c.if-half-lt10.true
 
-pub returns : goal.returns
-returns c = hex_letter c.args.half c.if-half-lt10.false
+pub returns-else-half-lt10 : goal.returns-else-half-lt10
+returns-else-half-lt10 c = hex_letter c.args.half c.if-half-lt10.false

@@ -11,8 +11,8 @@ returns-then-so c =
     let told = promised_as c.args.out.now c.args.at {x = 32 ∷ 49 ∷ []} (ap flag_text (sym c.if-so.true)) (c.put.ensures.end, c.put.ensures.out) in
     record { end = told.0; out = told.1 }
 
-pub returns : goal.returns
+pub returns-else-so : goal.returns-else-so
 unfolding flag_text bytes_in
-returns c =
-    let told = promised_as c.args.out.now c.args.at {x = 32 ∷ 48 ∷ []} (ap flag_text (sym c.if-so.false)) (c.put-2.ensures.end, c.put-2.ensures.out) in
+returns-else-so c =
+    let told = promised_as c.args.out.now c.args.at {x = 32 ∷ 48 ∷ []} (ap flag_text (sym c.if-so.false)) (c.put-else-so.ensures.end, c.put-else-so.ensures.out) in
     record { end = told.0; out = told.1 }

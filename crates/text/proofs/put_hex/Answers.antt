@@ -4,7 +4,7 @@ use mathlib.Core.Path.{◌≡◌, ap, ◌∙◌}
 use mathlib.Core.List.{List}
 use native.Mathlib.Omega.{arith}
 use lib.ListN.{length, take}
-use lib.Seq.{take-length, length-take-le}
+use lib.Seq.{length-take-le}
 use Rattle.text.specs.Texts.{hex_of}
 use Rattle.text.proofs.HexLaws.{length_hex, hex_more}
 use Rattle.text.proofs.PutLaws.{put_length, put_then, put_none, put_as}
@@ -14,37 +14,16 @@ use Rattle.text.proofs.put_hex.Goals as goal
 twice : (s : List ℕ) (i : ℕ) → i ≤ length s → length (hex_of (take i s)) ≡ 2 * i
 twice s i h = length_hex (take i s) ∙ ap (λ (n : ℕ). 2 * n) (length-take-le i s h)
 
-pub loop-i-init : goal.loop-i-init
+pub loop-b-init : goal.loop-b-init
 unfolding hex_of
-loop-i-init c =
-    (put_none c.args.out.now c.args.at (omega (arith, c.requires)), omega arith)
-
-pub bounds-s-i : goal.bounds-s-i
-bounds-s-i c = omega arith
+loop-b-init c = put_none c.args.out.now c.args.at (omega (arith, c.requires))
 
 pub put_pair-end-requires : goal.put_pair-end-requires
 put_pair-end-requires c =
-    let loop = c.loop-i in
-    omega (arith, c.requires, loop.invariant.0.end_is, twice c.args.s.now loop.i loop.invariant.1, put_length loop.invariant.0)
+    let loop = c.loop-b in
+    omega (arith, c.requires, loop.invariant.end_is, twice c.args.s.now loop.b-index loop.auto.b-index-end, put_length loop.invariant)
 
-pub overflow_add-i : goal.overflow_add-i
-overflow_add-i c = omega arith
-
-pub loop-i-smaller : goal.loop-i-smaller
-loop-i-smaller c = omega arith
-
-pub loop-i-preserved : goal.loop-i-preserved
-loop-i-preserved c =
-    let loop = c.loop-i in
-    let s = c.args.s.now in
-    (put_as (hex_more s loop.i (omega arith)) (put_then loop.invariant.0 c.put_pair-end.ensures), omega arith)
-
-pub shape_of-out : goal.shape_of-out
-shape_of-out c = put_length c.loop-i.invariant.0
-
-pub returns : goal.returns
-returns c =
-    let loop = c.loop-i in
-    let s = c.args.s.now in
-    let all : loop.i ≡ length s = omega arith in
-    put_as (ap (λ (n : ℕ). hex_of (take n s)) all ∙ ap hex_of (take-length s)) loop.invariant.0
+pub loop-b-preserved : goal.loop-b-preserved
+loop-b-preserved c =
+    let loop = c.loop-b in
+    put_as (hex_more c.args.s.now loop.b-index (omega arith)) (put_then loop.invariant c.put_pair-end.ensures)

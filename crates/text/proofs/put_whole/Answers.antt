@@ -24,15 +24,15 @@ below z = lt_z z (pos 0)
 pub returns-then-z-lt0 : goal.returns-then-z-lt0
 returns-then-z-lt0 c =
     let z = c.args.z in
-    let size = c.size.ensures ∙ ap nat_abs (same (goal.at.returns-then-z-lt0 c).Start) in
+    let size = c.unsigned_abs.ensures.value ∙ ap nat_abs (same (goal.at.returns-then-z-lt0 c).Start) in
     let told = promised_as c.args.out.now c.args.at (ap (λ (n : ℕ). 45 ∷ digits_of n) size ∙ whole_below z (ap below (sym (same (goal.at.returns-then-z-lt0 c).Start)) ∙ c.if-z-lt0.true))
     (c.put_below.ensures.end, c.put_below.ensures.out) in
     record { end = told.0; out = told.1 }
 
-pub returns : goal.returns
-returns c =
+pub returns-else-z-lt0 : goal.returns-else-z-lt0
+returns-else-z-lt0 c =
     let z = c.args.z in
-    let size = c.size-2.ensures ∙ ap nat_abs (same (goal.at.returns c).Start) in
-    let told = promised_as c.args.out.now c.args.at (ap digits_of size ∙ whole_above z (ap below (sym (same (goal.at.returns c).Start)) ∙ c.if-z-lt0.false))
+    let size = c.unsigned_abs-else-z-lt0.ensures.value ∙ ap nat_abs (same (goal.at.returns-else-z-lt0 c).Start) in
+    let told = promised_as c.args.out.now c.args.at (ap digits_of size ∙ whole_above z (ap below (sym (same (goal.at.returns-else-z-lt0 c).Start)) ∙ c.if-z-lt0.false))
     (c.put_number.ensures.end, c.put_number.ensures.out) in
     record { end = told.0; out = told.1 }

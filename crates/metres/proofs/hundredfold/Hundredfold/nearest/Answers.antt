@@ -11,8 +11,8 @@ use Rattle.metres.specs.Marks.{seen_from}
 use Rattle.metres.proofs.Exact.{closest_few}
 use Rattle.metres.proofs.hundredfold.Hundredfold.nearest.Goals as goal
 
-pub with_sign-centimetres-requires : goal.with_sign-centimetres-requires
-with_sign-centimetres-requires c =
+pub with_sign-requires : goal.with_sign-requires
+with_sign-requires c =
     let h = c.args.self in
     subst⁻¹ (λ (n : ℕ). n < 2 ^ 62) c.rounded-n.ensures (closest_few h.parts (2 ^ h.halvings) h.few)
 
@@ -20,7 +20,7 @@ pub returns : goal.returns
 returns c =
     let h = c.args.self in
     let n = c.rounded-n.ensures in
-    let sign = c.with_sign-centimetres in
+    let sign = c.with_sign in
     ap₂ (λ (z : ℤ) (k : Mark). record { whole = Some z; mark = k })
     (to_z-of_z w64 sign.result (record { sfits = sign.type_inv }) ∙ sign.ensures ∙ ap (signed h.minus) n)
-    (c.side-mark.ensures ∙ ap (λ (k : ℕ). seen_from (signed h.minus k) (signed h.minus h.parts)) (c.scaled.ensures ∙ ap (λ (k : ℕ). k * 2 ^ h.halvings) n))
+    (c.side.ensures ∙ ap (λ (k : ℕ). seen_from (signed h.minus k) (signed h.minus h.parts)) (c.scaled.ensures ∙ ap (λ (k : ℕ). k * 2 ^ h.halvings) n))

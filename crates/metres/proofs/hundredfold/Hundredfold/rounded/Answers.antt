@@ -59,19 +59,22 @@ overflow_mul-twice c = record { fits = twice_fits (goal.at.overflow_mul-twice c)
 
 pub returns-then-twice-one : goal.returns-then-twice-one
 returns-then-twice-one c =
-    only (goal.at.returns-then-twice-one c).After-power-one (whole (goal.at.returns-then-twice-one c).After-power-one) (rest_less (parts (goal.at.returns-then-twice-one c).After-power-one) (one (goal.at.returns-then-twice-one c).After-power-one) (whole (goal.at.returns-then-twice-one c).After-power-one) (rest (goal.at.returns-then-twice-one c).After-power-one) (split (goal.at.returns-then-twice-one c).After-power-one) c.if-twice-one.true)
+    let p = (goal.at.returns-then-twice-one c).After-power-one in
+    only p (whole p) (rest_less (parts p) (one p) (whole p) (rest p) (split p) c.if-twice-one.true)
 
 pub overflow_add-result : goal.overflow_add-result
 overflow_add-result c = omega (arith, whole_small (goal.at.overflow_add-result c).After-power-one)
 
 pub returns-then-twice-one-2 : goal.returns-then-twice-one-2
 returns-then-twice-one-2 c =
-    only (goal.at.returns-then-twice-one-2 c).After-power-one (whole (goal.at.returns-then-twice-one-2 c).After-power-one + 1) (rest_more (parts (goal.at.returns-then-twice-one-2 c).After-power-one) (one (goal.at.returns-then-twice-one-2 c).After-power-one) (whole (goal.at.returns-then-twice-one-2 c).After-power-one) (rest (goal.at.returns-then-twice-one-2 c).After-power-one) (split (goal.at.returns-then-twice-one-2 c).After-power-one) (mod-lt (parts (goal.at.returns-then-twice-one-2 c).After-power-one) (one_pos (goal.at.returns-then-twice-one-2 c).After-power-one)) c.if-twice-one-2.true)
+    let p = (goal.at.returns-then-twice-one-2 c).After-power-one in
+    only p (whole p + 1) (rest_more (parts p) (one p) (whole p) (rest p) (split p) (mod-lt (parts p) (one_pos p)) c.if-twice-one-2.true)
 
 pub overflow_add-result-2 : goal.overflow_add-result-2
 overflow_add-result-2 c = omega (arith, whole_small (goal.at.overflow_add-result-2 c).After-power-one)
 
 pub returns : goal.returns
 returns c =
-    let half : rest (goal.at.returns c).After-power-one * 2 ≡ one (goal.at.returns c).After-power-one = le_antisymm c.if-twice-one-2.false c.if-twice-one.false in
-    only (goal.at.returns c).After-power-one (whole (goal.at.returns c).After-power-one + whole (goal.at.returns c).After-power-one % 2) (rest_half (parts (goal.at.returns c).After-power-one) (one (goal.at.returns c).After-power-one) (whole (goal.at.returns c).After-power-one) (rest (goal.at.returns c).After-power-one) (split (goal.at.returns c).After-power-one) half)
+    let p = (goal.at.returns c).After-power-one in
+    let half : rest p * 2 ≡ one p = le_antisymm c.if-twice-one-2.false c.if-twice-one.false in
+    only p (whole p + whole p % 2) (rest_half (parts p) (one p) (whole p) (rest p) (split p) half)
