@@ -4,30 +4,31 @@ use mathlib.Core.Path.{◌≡◌, refl}
 use mathlib.Core.Bool.{true, false}
 use mathlib.Core.List.{List, [], ◌∷◌}
 use native.Mathlib.Omega.{arith}
-use borrow.Author.Tests.{le-leb, lt-leb, eq-eqb, ne_eqb}
+use borrow.Author.Tests.{le-leb, lt-leb}
+use Rattle.std.specs.Prelude.{None, Some}
 use lib.ListN.{length}
 use Rattle.chart.specs.declared.Place.{Place}
 use Rattle.chart.specs.Chains.{is_sound}
 use Rattle.search.specs.declared.Window.{Window}
-use Rattle.search.specs.declared.Answer.TheVariants.{ReadingTooLarge, Unsound, BadWindow, BadTolerance, NoRoom, AllowanceUsed}
+use Rattle.search.specs.declared.Unfound.TheVariants.{ReadingTooLarge, Unsound, BadWindow, BadTolerance, NoRoom, AllowanceUsed}
 use Rattle.search.specs.Windows.{is_window}
 use Rattle.search.specs.Questions.{Question, most_tolerance, none_too_large}
-use Rattle.search.specs.Walk.{Standing, start, visit}
+use Rattle.search.specs.Walk.{Full, Spent, Standing, start, visit}
 use Rattle.search.specs.Answers.{refused, gone, ended, Accepted, search_of, entries_of}
 
--- The end of a walk: stopped with 10, stopped with 9, or gone to its end.
+-- The end of a walk: stopped by the allowance, stopped for lack of room, or gone to its end.
 module _ (s : Standing) where
-  pub ended_out : s.stop ≡ 10 → ended s ≡ refused (AllowanceUsed s.visits)
+  pub ended_out : s.stop ≡ Some Spent → ended s ≡ refused (AllowanceUsed s.visits)
   unfolding ended
-  ended_out e = rw (eq-eqb s.stop 10 e)
+  ended_out e = rw e
 
-  pub ended_full : (s.stop ≡ 10 → ⊥) → s.stop ≡ 9 → ended s ≡ refused (NoRoom s.visits)
+  pub ended_full : s.stop ≡ Some Full → ended s ≡ refused (NoRoom s.visits)
   unfolding ended
-  ended_full f e = rw (ne_eqb s.stop 10 f, eq-eqb s.stop 9 e)
+  ended_full e = rw e
 
-  pub ended-gone : (s.stop ≡ 10 → ⊥) → (s.stop ≡ 9 → ⊥) → ended s ≡ gone s.places s.visits
+  pub ended-gone : s.stop ≡ None → ended s ≡ gone s.places s.visits
   unfolding ended
-  ended-gone f g = rw (ne_eqb s.stop 10 f, ne_eqb s.stop 9 g)
+  ended-gone e = rw e
 
 module _ (q : Question) (w : Window) where
   -- The first test that fails answers.

@@ -6,13 +6,14 @@ use mathlib.Core.Bool.{Bool, true, false, cond}
 use mathlib.Core.List.Memᴰ
 use mathlib.Core.List.{List, [], ◌∷◌, ◌++◌, append-nil, append_assoc, head-eq_of_cons-eq, tail-eq_of_cons-eq}
 use native.Mathlib.Omega.{arith}
-use borrow.Author.Tests.{eqb-false, lt-ltb, le-ltb}
+use borrow.Author.Tests.{lt-ltb, le-ltb}
 use lib.Dec.{ltb}
 use lib.ListN.{length, length-append}
+use Rattle.std.specs.Prelude.{Some}
 use Rattle.chart.specs.declared.Place.{Place}
 use Rattle.search.specs.Windows.{east, north, north_east}
 use Rattle.search.specs.Questions.{Rule, Question, matches, is_kept}
-use Rattle.search.specs.Walk.{Standing, either, unchanged, visit}
+use Rattle.search.specs.Walk.{Full, Standing, either, unchanged, visit}
 use Rattle.search.specs.Cells.{matching, visits_of, visits_to, IsListed}
 use Rattle.search.proofs.WalkLaws.{visit_after, visit-cell, visit_square, quarters, cell_full}
 use Rattle.search.proofs.CellLaws.{matching_only, matching_square}
@@ -21,7 +22,7 @@ use Rattle.search.proofs.Whole.{going, whole, visits_kept, matching-cell}
 
 -- A walk that was stopped by a full list.
 abbrev pub full_at : List Place → ℕ → Standing
-full_at ps v = record { stop = 9; places = ps; visits = v }
+full_at ps v = record { stop = Some Full; places = ps; visits = v }
 
 -- A list that is joined from two has a member o: it lies in the first of them, or in the second, with all of the first before it.
 split : (a b before : List Place) (o : Place) (rest : List Place) → a ++ b ≡ before ++ (o ∷ rest) →
@@ -122,12 +123,12 @@ module _ (q : Question) (allowed : Allowed q.rule) where
   -- A part of a walk with the matching cells ms, each after `to` visits. If ms has a cell o for which there is no room, the part
   -- ends there.
   pub record Fills (part : Standing → Standing) (ms : List Place) (to : Place → ℕ) : Type 0 where
-    pub stays : (s : Standing) → s.stop ≡ 9 → part s ≡ s
+    pub stays : (s : Standing) → s.stop ≡ Some Full → part s ≡ s
     pub over : (ps before rest : List Place) (o : Place) (v : ℕ) → ms ≡ before ++ (o ∷ rest) → length ps + length before ≡ q.limits.room → v + to o ≤ q.limits.allowance →
         part (going ps v) ≡ full_at (ps ++ before) (v + to o)
 
-  nine_stays : (k : ℕ) (p : Place) (s : Standing) → s.stop ≡ 9 → visit q k p s ≡ s
-  nine_stays k p s e = visit_after q k p s (λ z. eqb-false 9 0 refl (sym e ∙ z))
+  nine_stays : (k : ℕ) (p : Place) (s : Standing) → s.stop ≡ Some Full → visit q k p s ≡ s
+  nine_stays k p s e = visit_after q k p s e
 
   -- A square, and then another part.
   module _ (k : ℕ) (r : Place) (part : Standing → Standing) (ms : List Place) (to IsWhole-to : Place → ℕ) where
@@ -242,8 +243,8 @@ entry_at (suc n) (x ∷ l) h =
     let (before, o, rest, e, long) = entry_at n l (omega (arith, h)) in
     (x ∷ before, o, rest, ap (λ (l : List Place). x ∷ l) e, omega (arith, long))
 
--- With allowance for its visits but too little room, a walk stops with 9.
-pub too_little_room : (q : Question) (k : ℕ) (p : Place) → Allowed q.rule → visits_of q.rule k p ≤ q.limits.allowance → q.limits.room < length (matching q.rule k p) → (visit q k p (going [] 0)).stop ≡ 9
+-- With allowance for its visits but too little room, a walk stops for lack of room.
+pub too_little_room : (q : Question) (k : ℕ) (p : Place) → Allowed q.rule → visits_of q.rule k p ≤ q.limits.allowance → q.limits.room < length (matching q.rule k p) → (visit q k p (going [] 0)).stop ≡ Some Full
 too_little_room q k p allowed a r =
     let (before, o, rest, e, long) = entry_at q.limits.room (matching q.rule k p) r in
     ap (λ (s : Standing). s.stop)

@@ -4,35 +4,37 @@ use mathlib.Core.Path.{◌≡◌, refl, sym, ap, ◌∙◌}
 use mathlib.Core.Bool.{Bool, true, false}
 use mathlib.Core.List.{List, ◌++◌}
 use native.Mathlib.Nat.{lt_of_not-le}
-use native.Mathlib.Decide.{dec_le, ℕ_discrete}
-use borrow.Author.Tests.{eqb-false}
+use native.Mathlib.Decide.{dec_le}
 use lib.ListN.{length}
+use Rattle.std.specs.Prelude.{Option, None, Some}
 use Rattle.chart.specs.declared.Place.{Place}
 use Rattle.search.specs.Windows.{east, north, north_east}
 use Rattle.search.specs.Questions.{Question, matches, is_kept}
-use Rattle.search.specs.Walk.{Standing, either, unchanged, visit}
+use Rattle.search.specs.Walk.{Halt, Full, Spent, Standing, either, unchanged, visit}
 use Rattle.search.specs.Cells.{matching, visits_of}
 use Rattle.search.proofs.WalkLaws.{visit_after, visit_out, visit-cell, visit_square, quarters, cell_missed, cell_full, cell-listed}
 use Rattle.search.proofs.Dropping.{Allowed}
 use Rattle.search.proofs.Whole.{going, after, after_missed, after_listed, after_dropped, after_quarters}
 
 -- A walk that is not stopped after a visit was not stopped before it.
-went_on : (q : Question) (k : ℕ) (p : Place) (s : Standing) → (visit q k p s).stop ≡ 0 → s.stop ≡ 0
-went_on q k p s e = go (ℕ_discrete s.stop 0)
+went_on : (q : Question) (k : ℕ) (p : Place) (s : Standing) → (visit q k p s).stop ≡ None → s.stop ≡ None
+went_on q k p s e = go s.stop refl
   where
-    go : Dec (s.stop ≡ 0) → s.stop ≡ 0
-    go (yes z) = z
-    go (no f) = sym (ap (λ (x : Standing). x.stop) (visit_after q k p s f)) ∙ e
+    go : (stop : Option Halt) → s.stop ≡ stop → s.stop ≡ None
+    go None z = z
+    go (Some why) z = sym (ap (λ (x : Standing). x.stop) (visit_after q k p s z)) ∙ e
 
 abbrev Finished : Question → ℕ → Place → Type 0
-Finished q k p = (ps : List Place) (v : ℕ) → (visit q k p (going ps v)).stop ≡ 0 → visit q k p (going ps v) ≡ after q.rule k p ps v
+Finished q k p = (ps : List Place) (v : ℕ) → (visit q k p (going ps v)).stop ≡ None → visit q k p (going ps v) ≡ after q.rule k p ps v
 
 -- A walk goes on after a visit only if the allowance covered the visit.
-covered : (q : Question) (k : ℕ) (p : Place) (ps : List Place) (v : ℕ) → (visit q k p (going ps v)).stop ≡ 0 → q.limits.allowance ≤ v → ⊥
-covered q k p ps v e h = eqb-false 10 0 refl (sym (ap (λ (x : Standing). x.stop) (visit_out q k p (going ps v) refl h)) ∙ e)
+covered : (q : Question) (k : ℕ) (p : Place) (ps : List Place) (v : ℕ) → (visit q k p (going ps v)).stop ≡ None → q.limits.allowance ≤ v → ⊥
+covered q k p ps v e h =
+    let out : Some Spent ≡ None = sym (ap (λ (x : Standing). x.stop) (visit_out q k p (going ps v) refl h)) ∙ e in
+    cc
 
 module _ (q : Question) (p : Place) (ps : List Place) (v : ℕ) where
-  cell_finished : (b : Bool) → matches q.rule p ≡ b → Dec (q.limits.allowance ≤ v) → Dec (q.limits.room ≤ length ps) → (visit q 0 p (going ps v)).stop ≡ 0 → visit q 0 p (going ps v) ≡ after q.rule 0 p ps v
+  cell_finished : (b : Bool) → matches q.rule p ≡ b → Dec (q.limits.allowance ≤ v) → Dec (q.limits.room ≤ length ps) → (visit q 0 p (going ps v)).stop ≡ None → visit q 0 p (going ps v) ≡ after q.rule 0 p ps v
   cell_finished b m (yes h) r e = absurd (covered q 0 p ps v e h)
   cell_finished false m (no h) r e =
       visit-cell q p (going ps v) refl (lt_of_not-le h) ∙ cell_missed q p (going ps (v + 1)) m ∙ after_missed q.rule p ps v m
@@ -41,18 +43,18 @@ module _ (q : Question) (p : Place) (ps : List Place) (v : ℕ) where
       ∙ cell-listed q p (going ps (v + 1)) m (lt_of_not-le r)
       ∙ after_listed q.rule p ps v m
   cell_finished true m (no h) (yes r) e =
-      let full : (visit q 0 p (going ps v)).stop ≡ 9 = ap (λ (x : Standing). x.stop) (visit-cell q p (going ps v) refl (lt_of_not-le h) ∙ cell_full q p (going ps (v + 1)) m r) in
-      absurd (eqb-false 9 0 refl (sym full ∙ e))
+      let full : (visit q 0 p (going ps v)).stop ≡ Some Full = ap (λ (x : Standing). x.stop) (visit-cell q p (going ps v) refl (lt_of_not-le h) ∙ cell_full q p (going ps (v + 1)) m r) in
+      cc
 
-  quarters_finished : (k : ℕ) → ((o : Place) → Finished q k o) → is_kept q.rule k p ≡ true → (quarters q k p (going ps (v + 1))).stop ≡ 0 → quarters q k p (going ps (v + 1)) ≡ after q.rule (suc k) p ps v
+  quarters_finished : (k : ℕ) → ((o : Place) → Finished q k o) → is_kept q.rule k p ≡ true → (quarters q k p (going ps (v + 1))).stop ≡ None → quarters q k p (going ps (v + 1)) ≡ after q.rule (suc k) p ps v
   quarters_finished k ih t e =
       let se : Place = east (2 ^ k) p in
       let nw : Place = north (2 ^ k) p in
       let ne : Place = north_east (2 ^ k) p in
       let s : Standing = going ps (v + 1) in
-      let e3 : (visit q k nw (visit q k se (visit q k p s))).stop ≡ 0 = went_on q k ne _ e in
-      let e2 : (visit q k se (visit q k p s)).stop ≡ 0 = went_on q k nw _ e3 in
-      let e1 : (visit q k p s).stop ≡ 0 = went_on q k se _ e2 in
+      let e3 : (visit q k nw (visit q k se (visit q k p s))).stop ≡ None = went_on q k ne _ e in
+      let e2 : (visit q k se (visit q k p s)).stop ≡ None = went_on q k nw _ e3 in
+      let e1 : (visit q k p s).stop ≡ None = went_on q k se _ e2 in
       let g1 = ih p ps (v + 1) e1 in
       let g2 = ap (λ (x : Standing). visit q k se x) g1 in
       let f2 = ih se (ps ++ matching q.rule k p) (v + 1 + visits_of q.rule k p) (sym (ap (λ (x : Standing). x.stop) g2) ∙ e2) in
@@ -63,7 +65,7 @@ module _ (q : Question) (p : Place) (ps : List Place) (v : ℕ) where
       ∙ ih ne (((ps ++ matching q.rule k p) ++ matching q.rule k se) ++ matching q.rule k nw) (v + 1 + visits_of q.rule k p + visits_of q.rule k se + visits_of q.rule k nw) (sym (ap (λ (x : Standing). x.stop) g4) ∙ e)
       ∙ after_quarters q.rule k p ps v t
 
-  square_finished : (k : ℕ) → Allowed q.rule → ((o : Place) → Finished q k o) → (b : Bool) → is_kept q.rule k p ≡ b → Dec (q.limits.allowance ≤ v) → (visit q (suc k) p (going ps v)).stop ≡ 0 → visit q (suc k) p (going ps v) ≡ after q.rule (suc k) p ps v
+  square_finished : (k : ℕ) → Allowed q.rule → ((o : Place) → Finished q k o) → (b : Bool) → is_kept q.rule k p ≡ b → Dec (q.limits.allowance ≤ v) → (visit q (suc k) p (going ps v)).stop ≡ None → visit q (suc k) p (going ps v) ≡ after q.rule (suc k) p ps v
   square_finished k allowed ih b t (yes h) e = absurd (covered q (suc k) p ps v e h)
   square_finished k allowed ih false t (no h) e =
       visit_square q k p (going ps v) refl (lt_of_not-le h)

@@ -6,13 +6,16 @@ use mathlib.Core.List.{List, [], ◌∷◌, ◌++◌}
 use native.Mathlib.Omega.{arith}
 use lib.ListN.{length, take, set, length-set, length-append, length-take}
 use lib.Seq.{take-suc-set}
+use Rattle.std.specs.Prelude.{Result}
 use Rattle.chart.specs.declared.Place.{Place}
+use Rattle.search.specs.declared.Unfound.{Unfound}
+use Rattle.search.specs.declared.Unfound.TheVariants.{NoRoom, AllowanceUsed}
 use Rattle.search.specs.declared.Tally.{Tally}
 use Rattle.search.specs.Windows.{east, north, north_east}
 use Rattle.search.specs.Questions.{Question, matches, is_kept}
-use Rattle.search.specs.Walk.{Standing, either, unchanged, stopped, counted, listed, cell, visit}
+use Rattle.search.specs.Walk.{Full, Spent, Standing, either, unchanged, counted, listed, cell, visit}
 use Rattle.search.specs.Answers.{entries_of}
-use Rattle.search.specs.Holding.{Holds}
+use Rattle.search.specs.Holding.{Holds, Halted, Represents}
 use Rattle.search.proofs.AnswerLaws.{length_entries}
 use Rattle.search.proofs.WalkLaws.{visit_after, visit_out, visit-cell, visit_square, quarters, cell_missed, cell_full, cell-listed}
 
@@ -30,32 +33,33 @@ set_two l i e n h =
     ∙ ap (λ (j : ℕ). take j (set l i e) ++ (n ∷ [])) (let g : i + 1 ≡ suc i = omega arith in g)
     ∙ ap (λ (x : List ℕ). x ++ (n ∷ [])) (take-suc-set l i e (omega arith))
 
--- The tally of a walk that stops, and of one more visit.
-abbrev pub stop_tally : ℕ → Tally → Tally
-stop_tally why t = record { stop = why; count = t.count; visits = t.visits }
-
+-- The tally of one more visit, and of one more place.
 abbrev pub begun_tally : Tally → Tally
-begun_tally t = record { stop = 0; count = t.count; visits = t.visits + 1 }
+begun_tally t = record { count = t.count; visits = t.visits + 1 }
+
+abbrev pub more_tally : Tally → Tally
+more_tally t = record { count = t.count + 1; visits = t.visits }
+
+-- A walk that was stopped is left as it is.
+pub halted_stays : (q : Question) (k : ℕ) (p : Place) (s : Standing) (why : Unfound) → Halted s why → Halted (visit q k p s) why
+halted_stays q k p s why h = subst⁻¹ (λ (x : Standing). Halted x why) (visit_after q k p s h.stop) h
 
 module _ (s : Standing) (t : Tally) (l : List ℕ) (h : Holds s t l) where
   -- The places counted in the tally fit in the list.
   pub held_fits : 2 * t.count ≤ length l
   held_fits = omega (arith, h.count, ap length h.entries, length_entries s.places, length-take (2 * t.count) l)
 
-  -- A stop and a counted visit leave the list as it is.
-  pub stop_holds : (why : ℕ) → Holds (stopped why s) (stop_tally why t) l
-  stop_holds why = record { stop = refl; visits = h.visits; count = h.count; entries = h.entries }
-
-  pub count_holds : t.stop ≡ 0 → Holds (counted s) (begun_tally t) l
-  count_holds z =
-      record { stop = sym z ∙ h.stop; visits = ap (λ (v : ℕ). v + 1) h.visits; count = h.count; entries = h.entries }
+  -- A counted visit leaves the list as it is.
+  pub count_holds : Holds (counted s) (begun_tally t) l
+  count_holds =
+      record { goes_on = h.goes_on; visits = ap (λ (v : ℕ). v + 1) h.visits; count = h.count; entries = h.entries }
 
   -- One more place is put after the others.
-  pub list_holds : (p : Place) → 2 * t.count + 2 ≤ length l → Holds (listed p s) (record { stop = t.stop; count = t.count + 1; visits = t.visits }) (set (set l (2 * t.count) p.easting) (2 * t.count + 1) p.northing)
+  pub list_holds : (p : Place) → 2 * t.count + 2 ≤ length l → Holds (listed p s) (more_tally t) (set (set l (2 * t.count) p.easting) (2 * t.count + 1) p.northing)
   list_holds p room =
       let i : ℕ = 2 * t.count in
       record {
-        stop = h.stop;
+        goes_on = h.goes_on;
         visits = h.visits;
         count = omega (arith, h.count, length-append s.places (p ∷ []));
         entries =
@@ -70,45 +74,45 @@ module _ (s : Standing) (t : Tally) (l : List ℕ) (h : Holds s t l) where
     pub missed_holds : matches q.rule p ≡ false → Holds (cell q p s) t l
     missed_holds e = subst⁻¹ (λ (x : Standing). Holds x t l) (cell_missed q p s e) h
 
-    pub full_holds : matches q.rule p ≡ true → q.limits.room ≤ t.count → Holds (cell q p s) (stop_tally 9 t) l
-    full_holds e full = subst⁻¹ (λ (x : Standing). Holds x (stop_tally 9 t) l) (cell_full q p s e (omega (arith, h.count))) (stop_holds 9)
+    pub full_halts : matches q.rule p ≡ true → q.limits.room ≤ t.count → Halted (cell q p s) (NoRoom t.visits)
+    full_halts e full =
+        subst⁻¹ (λ (x : Standing). Halted x (NoRoom t.visits))
+        (cell_full q p s e (omega (arith, h.count)))
+        (record { halt = Full; stop = refl; refusal = ap NoRoom h.visits })
 
-    pub listed_holds : matches q.rule p ≡ true → t.count < q.limits.room → 2 * q.limits.room ≤ length l → Holds (cell q p s) (record { stop = t.stop; count = t.count + 1; visits = t.visits }) (set (set l (2 * t.count) p.easting) (2 * t.count + 1) p.northing)
+    pub listed_holds : matches q.rule p ≡ true → t.count < q.limits.room → 2 * q.limits.room ≤ length l → Holds (cell q p s) (more_tally t) (set (set l (2 * t.count) p.easting) (2 * t.count + 1) p.northing)
     listed_holds e room fits =
-        subst⁻¹ (λ (x : Standing). Holds x (record { stop = t.stop; count = t.count + 1; visits = t.visits }) (set (set l (2 * t.count) p.easting) (2 * t.count + 1) p.northing))
+        subst⁻¹ (λ (x : Standing). Holds x (more_tally t) (set (set l (2 * t.count) p.easting) (2 * t.count + 1) p.northing))
         (cell-listed q p s e (omega (arith, h.count)))
         (list_holds p (omega arith))
 
-    -- A visit after a stop, and one that the allowance does not cover.
-    pub after_holds : (k : ℕ) → (t.stop ≡ 0 → ⊥) → Holds (visit q k p s) t l
-    after_holds k f = subst⁻¹ (λ (x : Standing). Holds x t l) (visit_after q k p s (λ e. f (h.stop ∙ e))) h
-
-    pub out_holds : (k : ℕ) → t.stop ≡ 0 → q.limits.allowance ≤ t.visits → Holds (visit q k p s) (stop_tally 10 t) l
-    out_holds k z a =
-        subst⁻¹ (λ (x : Standing). Holds x (stop_tally 10 t) l)
-        (visit_out q k p s (sym h.stop ∙ z) (omega (arith, h.visits)))
-        (stop_holds 10)
+    -- A visit that the allowance does not cover.
+    pub out_halts : (k : ℕ) → q.limits.allowance ≤ t.visits → Halted (visit q k p s) (AllowanceUsed t.visits)
+    out_halts k a =
+        subst⁻¹ (λ (x : Standing). Halted x (AllowanceUsed t.visits))
+        (visit_out q k p s h.goes_on (omega (arith, h.visits)))
+        (record { halt = Spent; stop = refl; refusal = ap AllowanceUsed h.visits })
 
     -- A visit that begins: what represents the walk after the cell, dropped square or quarters represents it after the visit.
-    module _ (z : t.stop ≡ 0) (a : t.visits < q.limits.allowance) where
-      pub cell_holds : (k : ℕ) (r : Tally) (l' : List ℕ) → k ≡ 0 → Holds (cell q p (counted s)) r l' → Holds (visit q k p s) r l'
+    module _ (a : t.visits < q.limits.allowance) where
+      pub cell_holds : (k : ℕ) (r : Result Tally Unfound) (l' : List ℕ) → k ≡ 0 → Represents (cell q p (counted s)) r l' → Represents (visit q k p s) r l'
       cell_holds k r l' e g =
-          subst⁻¹ (λ (x : Standing). Holds x r l')
-          (ap (λ (x : ℕ). visit q x p s) e ∙ visit-cell q p s (sym h.stop ∙ z) (omega (arith, h.visits)))
+          subst⁻¹ (λ (x : Standing). Represents x r l')
+          (ap (λ (x : ℕ). visit q x p s) e ∙ visit-cell q p s h.goes_on (omega (arith, h.visits)))
           g
 
       square : (k j : ℕ) (b : Bool) → k ≡ suc j → is_kept q.rule j p ≡ b → visit q k p s ≡ either b (quarters q j p) unchanged (counted s)
       square k j b ek e =
           ap (λ (x : ℕ). visit q x p s) ek
-          ∙ visit_square q j p s (sym h.stop ∙ z) (omega (arith, h.visits))
+          ∙ visit_square q j p s h.goes_on (omega (arith, h.visits))
           ∙ ap (λ (x : Bool). either x (quarters q j p) unchanged (counted s)) e
 
       pub dropped-holds : (k j : ℕ) → k ≡ suc j → is_kept q.rule j p ≡ false → Holds (visit q k p s) (begun_tally t) l
-      dropped-holds k j ek e = subst⁻¹ (λ (x : Standing). Holds x (begun_tally t) l) (square k j false ek e) (count_holds z)
+      dropped-holds k j ek e = subst⁻¹ (λ (x : Standing). Holds x (begun_tally t) l) (square k j false ek e) count_holds
 
-      pub quarters-hold : (k j : ℕ) (se nw ne : Place) (r : Tally) (l' : List ℕ) → k ≡ suc j → is_kept q.rule j p ≡ true → se ≡ east (2 ^ j) p → nw ≡ north (2 ^ j) p → ne ≡ north_east (2 ^ j) p → Holds (visit q j ne (visit q j nw (visit q j se (visit q j p (counted s))))) r l' → Holds (visit q k p s) r l'
+      pub quarters-hold : (k j : ℕ) (se nw ne : Place) (r : Result Tally Unfound) (l' : List ℕ) → k ≡ suc j → is_kept q.rule j p ≡ true → se ≡ east (2 ^ j) p → nw ≡ north (2 ^ j) p → ne ≡ north_east (2 ^ j) p → Represents (visit q j ne (visit q j nw (visit q j se (visit q j p (counted s))))) r l' → Represents (visit q k p s) r l'
       quarters-hold k j se nw ne r l' ek e ese enw ene g =
-          subst⁻¹ (λ (x : Standing). Holds x r l')
+          subst⁻¹ (λ (x : Standing). Represents x r l')
           (square k j true ek e
           ∙ ap (λ (o : Place). visit q j (north_east (2 ^ j) p) (visit q j (north (2 ^ j) p) (visit q j o (visit q j p (counted s))))) (sym ese)
           ∙ ap₂ (λ (o o' : Place). visit q j o' (visit q j o (visit q j se (visit q j p (counted s))))) (sym enw) (sym ene))

@@ -3,18 +3,19 @@ use Prim.Native.Nat.{ℕ, zero, suc, ◌≤◌, ◌<◌}
 use mathlib.Core.Path.{◌≡◌, refl, subst⁻¹}
 use mathlib.Core.Bool.{Bool, true, false}
 use native.Mathlib.Nat.{lt_of_not-le}
-use native.Mathlib.Decide.{dec_le, ℕ_discrete}
+use native.Mathlib.Decide.{dec_le}
 use lib.ListN.{length}
+use Rattle.std.specs.Prelude.{Option, None, Some}
 use Rattle.chart.specs.declared.Place.{Place}
 use Rattle.search.specs.Questions.{Question, matches, is_kept}
-use Rattle.search.specs.Walk.{Standing, either, unchanged, stopped, counted, listed, cell, visit}
+use Rattle.search.specs.Walk.{Halt, Full, Spent, Standing, either, unchanged, stopped, counted, listed, cell, visit}
 use Rattle.search.proofs.WalkLaws.{visit_after, visit_out, visit-cell, visit_square, quarters, cell_missed, cell_full, cell-listed}
 
 -- The steps that keep it: the allowance found used up, a visit counted, the list found full, and a place listed.
 pub record Keeps (q : Question) (P : Standing → Type 0) : Type 0 where
-  pub out : (s : Standing) → P s → q.limits.allowance ≤ s.visits → P (stopped 10 s)
-  pub count : (s : Standing) → P s → s.stop ≡ 0 → s.visits < q.limits.allowance → P (counted s)
-  pub full : (s : Standing) → P s → q.limits.room ≤ length s.places → P (stopped 9 s)
+  pub out : (s : Standing) → P s → q.limits.allowance ≤ s.visits → P (stopped Spent s)
+  pub count : (s : Standing) → P s → s.stop ≡ None → s.visits < q.limits.allowance → P (counted s)
+  pub full : (s : Standing) → P s → q.limits.room ≤ length s.places → P (stopped Full s)
   pub list : (p : Place) (s : Standing) → P s → length s.places < q.limits.room → P (listed p s)
 
 module _ (q : Question) (P : Standing → Type 0) (keeps : Keeps q P) where
@@ -24,13 +25,13 @@ module _ (q : Question) (P : Standing → Type 0) (keeps : Keeps q P) where
   cell_keeps p s true m (no r) h = subst⁻¹ P (cell-listed q p s m (lt_of_not-le r)) (keeps.list p s h (lt_of_not-le r))
 
   -- If the walk was stopped or the allowance is used up, P is kept; otherwise the visit begins, which `begun` covers.
-  by_start : (k : ℕ) (p : Place) (s : Standing) → P s → (s.stop ≡ 0 → s.visits < q.limits.allowance → P (visit q k p s)) → P (visit q k p s)
-  by_start k p s h begun = go (ℕ_discrete s.stop 0) (dec_le q.limits.allowance s.visits)
+  by_start : (k : ℕ) (p : Place) (s : Standing) → P s → (s.stop ≡ None → s.visits < q.limits.allowance → P (visit q k p s)) → P (visit q k p s)
+  by_start k p s h begun = go s.stop refl (dec_le q.limits.allowance s.visits)
     where
-      go : Dec (s.stop ≡ 0) → Dec (q.limits.allowance ≤ s.visits) → P (visit q k p s)
-      go (no f) d = subst⁻¹ P (visit_after q k p s f) h
-      go (yes z) (yes o) = subst⁻¹ P (visit_out q k p s z o) (keeps.out s h o)
-      go (yes z) (no f) = begun z (lt_of_not-le f)
+      go : (stop : Option Halt) → s.stop ≡ stop → Dec (q.limits.allowance ≤ s.visits) → P (visit q k p s)
+      go (Some why) e d = subst⁻¹ P (visit_after q k p s e) h
+      go None e (yes o) = subst⁻¹ P (visit_out q k p s e o) (keeps.out s h o)
+      go None e (no f) = begun e (lt_of_not-le f)
 
   either_keeps : (b : Bool) (k : ℕ) (p : Place) (s : Standing) → ((o : Place) (s : Standing) → P s → P (visit q k o s)) → P s → P (either b (quarters q k p) unchanged s)
   either_keeps true k p s ih h = ih _ _ (ih _ _ (ih _ _ (ih p s h)))

@@ -4,12 +4,12 @@ use mathlib.Core.Path.{◌≡◌, refl, sym, ap, ◌∙◌}
 use mathlib.Core.Bool.{Bool, true, false}
 use native.Mathlib.Omega.{arith}
 use native.Mathlib.Nat.{le_trans, lt_of_not-le}
-use native.Mathlib.Decide.{dec_le, ℕ_discrete}
-use borrow.Author.Tests.{eqb-false}
+use native.Mathlib.Decide.{dec_le}
+use Rattle.std.specs.Prelude.{Option, None, Some}
 use Rattle.chart.specs.declared.Place.{Place}
 use Rattle.search.specs.Windows.{east, north, north_east}
 use Rattle.search.specs.Questions.{Question, is_kept}
-use Rattle.search.specs.Walk.{Standing, start, either, unchanged, counted, cell, visit}
+use Rattle.search.specs.Walk.{Halt, Full, Spent, Standing, start, either, unchanged, counted, cell, visit}
 use Rattle.search.proofs.WalkLaws.{visit_after, visit_out, visit-cell, visit_square, quarters}
 use Rattle.search.proofs.Limits.{bounded}
 
@@ -18,15 +18,15 @@ abbrev pub raised : Question → ℕ → Question
 raised q allowance = record { rule = q.rule; limits = record { allowance = allowance; room = q.limits.room } }
 
 -- If the allowance has not stopped a walk after a visit, it had not before.
-not_yet : (q : Question) (k : ℕ) (p : Place) (s : Standing) → ((visit q k p s).stop ≡ 10 → ⊥) → s.stop ≡ 10 → ⊥
+not_yet : (q : Question) (k : ℕ) (p : Place) (s : Standing) → ((visit q k p s).stop ≡ Some Spent → ⊥) → s.stop ≡ Some Spent → ⊥
 not_yet q k p s f e =
-    f (ap (λ (x : Standing). x.stop) (visit_after q k p s (λ z. eqb-false 10 0 refl (sym e ∙ z))) ∙ e)
+    f (ap (λ (x : Standing). x.stop) (visit_after q k p s e) ∙ e)
 
 module _ (q : Question) (m : ℕ) (more : q.limits.allowance ≤ m) where
   abbrev Same : ℕ → Place → Type 0
-  Same k p = (s : Standing) → ((visit q k p s).stop ≡ 10 → ⊥) → visit (raised q m) k p s ≡ visit q k p s
+  Same k p = (s : Standing) → ((visit q k p s).stop ≡ Some Spent → ⊥) → visit (raised q m) k p s ≡ visit q k p s
 
-  quarters_same : (k : ℕ) (p : Place) → ((o : Place) → Same k o) → (s : Standing) → ((quarters q k p s).stop ≡ 10 → ⊥) →
+  quarters_same : (k : ℕ) (p : Place) → ((o : Place) → Same k o) → (s : Standing) → ((quarters q k p s).stop ≡ Some Spent → ⊥) →
       quarters (raised q m) k p s ≡ quarters q k p s
   quarters_same k p ih s f =
       let se : Place = east (2 ^ k) p in
@@ -40,20 +40,20 @@ module _ (q : Question) (m : ℕ) (more : q.limits.allowance ≤ m) where
       ∙ ap (λ (x : Standing). visit (raised q m) k ne x) (ih nw _ f3)
       ∙ ih ne _ f
 
-  either_same : (b : Bool) (k : ℕ) (p : Place) → ((o : Place) → Same k o) → (s : Standing) → ((either b (quarters q k p) unchanged s).stop ≡ 10 → ⊥) →
+  either_same : (b : Bool) (k : ℕ) (p : Place) → ((o : Place) → Same k o) → (s : Standing) → ((either b (quarters q k p) unchanged s).stop ≡ Some Spent → ⊥) →
       either b (quarters (raised q m) k p) unchanged s ≡ either b (quarters q k p) unchanged s
   either_same true k p ih s f = quarters_same k p ih s f
   either_same false k p ih s f = refl
 
   -- What happens at a visit that begins is covered by `begun`.
-  by_start : (k : ℕ) (p : Place) (s : Standing) → ((visit q k p s).stop ≡ 10 → ⊥) →
-      (s.stop ≡ 0 → s.visits < q.limits.allowance → visit (raised q m) k p s ≡ visit q k p s) → visit (raised q m) k p s ≡ visit q k p s
-  by_start k p s f begun = go (ℕ_discrete s.stop 0) (dec_le q.limits.allowance s.visits)
+  by_start : (k : ℕ) (p : Place) (s : Standing) → ((visit q k p s).stop ≡ Some Spent → ⊥) →
+      (s.stop ≡ None → s.visits < q.limits.allowance → visit (raised q m) k p s ≡ visit q k p s) → visit (raised q m) k p s ≡ visit q k p s
+  by_start k p s f begun = go s.stop refl (dec_le q.limits.allowance s.visits)
     where
-      go : Dec (s.stop ≡ 0) → Dec (q.limits.allowance ≤ s.visits) → visit (raised q m) k p s ≡ visit q k p s
-      go (no z) d = visit_after (raised q m) k p s z ∙ sym (visit_after q k p s z)
-      go (yes z) (yes o) = absurd (f (ap (λ (x : Standing). x.stop) (visit_out q k p s z o)))
-      go (yes z) (no l) = begun z (lt_of_not-le l)
+      go : (stop : Option Halt) → s.stop ≡ stop → Dec (q.limits.allowance ≤ s.visits) → visit (raised q m) k p s ≡ visit q k p s
+      go (Some why) e d = visit_after (raised q m) k p s e ∙ sym (visit_after q k p s e)
+      go None e (yes o) = absurd (f (ap (λ (x : Standing). x.stop) (visit_out q k p s e o)))
+      go None e (no l) = begun e (lt_of_not-le l)
 
   -- The law.
   pub same_raised : (k : ℕ) (p : Place) → Same k p
@@ -69,10 +69,14 @@ module _ (q : Question) (m : ℕ) (more : q.limits.allowance ≤ m) where
       ∙ sym step)
 
 -- So if a walk makes more visits under a larger allowance than it may make, its own allowance stops it.
-pub ten_by_more : (q : Question) (k : ℕ) (p : Place) (m : ℕ) → q.limits.allowance ≤ m → q.limits.allowance < (visit (raised q m) k p start).visits → (visit q k p start).stop ≡ 10
-ten_by_more q k p m more short = go (ℕ_discrete (visit q k p start).stop 10)
+pub ten_by_more : (q : Question) (k : ℕ) (p : Place) (m : ℕ) → q.limits.allowance ≤ m → q.limits.allowance < (visit (raised q m) k p start).visits → (visit q k p start).stop ≡ Some Spent
+ten_by_more q k p m more short = go (visit q k p start).stop refl
   where
-    go : Dec ((visit q k p start).stop ≡ 10) → (visit q k p start).stop ≡ 10
-    go (yes t) = t
-    go (no f) =
+    more_visits : ((visit q k p start).stop ≡ Some Spent → ⊥) → (visit q k p start).stop ≡ Some Spent
+    more_visits f =
         absurd (omega (arith, short, (bounded q k p).most, ap (λ (s : Standing). s.visits) (same_raised q m more k p start f)))
+
+    go : (stop : Option Halt) → (visit q k p start).stop ≡ stop → (visit q k p start).stop ≡ Some Spent
+    go (Some Spent) e = e
+    go (Some Full) e = more_visits (λ t. cc)
+    go None e = more_visits (λ t. cc)

@@ -1,23 +1,24 @@
 -- What each end of a search lists, and the figures of its answer.
 use Prim.Native.Nat.{ℕ, ◌≤◌}
 use mathlib.Core.Path.{◌≡◌, refl, subst, subst⁻¹}
-use mathlib.Core.Bool.{Bool, true, false, cond}
+use mathlib.Core.Bool.{Bool, true, false}
 use mathlib.Core.List.Memᴰ
 use mathlib.Core.List.{List, [], ◌∷◌}
 use native.Mathlib.Omega.{arith}
 use borrow.Author.Tests.{eqb-false}
-use lib.Dec.{leb, eqb}
+use lib.Dec.{leb}
 use lib.ListN.{length}
+use Rattle.std.specs.Prelude.{Option, None, Some}
 use Rattle.fields.specs.Choices.{where_so}
 use Rattle.chart.specs.Chains.{is_sound}
 use Rattle.chart.specs.declared.Place.{Place}
 use Rattle.search.specs.declared.Window.{Window}
-use Rattle.search.specs.declared.Answer.{Answer}
-use Rattle.search.specs.declared.Answer.TheVariants.{ReadingTooLarge, Unsound, BadWindow, BadTolerance, NoRoom, AllowanceUsed}
+use Rattle.search.specs.declared.Unfound.{Unfound}
+use Rattle.search.specs.declared.Unfound.TheVariants.{ReadingTooLarge, Unsound, BadWindow, BadTolerance}
 use Rattle.search.specs.Windows.{is_window, IsCellIn}
 use Rattle.search.specs.Questions.{Question, most_tolerance, none_too_large, matches}
-use Rattle.search.specs.Walk.{Standing, start, visit}
-use Rattle.search.specs.Answers.{Outcome, refused, gone, ended, search_of, search_figures}
+use Rattle.search.specs.Walk.{Halt, Full, Spent, Standing, start, visit}
+use Rattle.search.specs.Answers.{Outcome, refused, gone, ended_by, ended, search_of, search_figures}
 use Rattle.search.specs.Cells.{chart_number, Rises, matching_in, visits_in, IsListed}
 use Rattle.search.proofs.CellLaws.{matching_all}
 use Rattle.search.proofs.Order.{matching_rises}
@@ -53,23 +54,19 @@ gone_small (p ∷ ps) v = omega arith
 abbrev Counts : Outcome → Type 0
 Counts o = (search_figures o.answer).count ≡ length o.places
 
-either_counts : (b : Bool) (x y : Outcome) → Counts x → Counts y → Counts (cond b x y)
-either_counts true x y h k = h
-either_counts false x y h k = k
-
-test_counts : (b : Bool) (a : Answer) (rest : Unit {0} → Outcome) → Counts (refused a) → Counts (rest tt) → Counts (where_so b (refused a) rest)
+test_counts : (b : Bool) (a : Unfound) (rest : Unit {0} → Outcome) → Counts (refused a) → Counts (rest tt) → Counts (where_so b (refused a) rest)
 test_counts true a rest h k = k
 test_counts false a rest h k = h
 
 end_counts : (s : Standing) → Counts (ended s)
 unfolding ended search_figures
-end_counts s =
-    either_counts (eqb s.stop 10) (refused (AllowanceUsed s.visits)) _ refl
-    (either_counts (eqb s.stop 9) (refused (NoRoom s.visits)) _ refl (gone_counts s.places))
+end_counts s = go s.stop s.places
   where
-    gone_counts : (ps : List Place) → Counts (gone ps s.visits)
-    gone_counts [] = refl
-    gone_counts (p ∷ ps) = refl
+    go : (stop : Option Halt) (ps : List Place) → Counts (ended_by stop ps s.visits)
+    go (Some Full) ps = refl
+    go (Some Spent) ps = refl
+    go None [] = refl
+    go None (p ∷ ps) = refl
 
 -- Every search has such an outcome.
 pub search_counts : (q : Question) (w : Window) → Counts (search_of q w)

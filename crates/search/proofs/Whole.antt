@@ -5,6 +5,7 @@ use mathlib.Core.Bool.{Bool, true, false}
 use mathlib.Core.List.{List, [], ◌∷◌, ◌++◌, append-nil, append_assoc}
 use native.Mathlib.Omega.{arith}
 use lib.ListN.{length, length-append}
+use Rattle.std.specs.Prelude.{None}
 use Rattle.chart.specs.declared.Place.{Place}
 use Rattle.search.specs.Windows.{east, north, north_east}
 use Rattle.search.specs.Questions.{Rule, Question, matches, is_kept}
@@ -16,7 +17,7 @@ use Rattle.search.proofs.Dropping.{Allowed, dropped_none}
 
 -- A walk that goes on, with the places listed and the visits made so far.
 abbrev pub going : List Place → ℕ → Standing
-going ps v = record { stop = 0; places = ps; visits = v }
+going ps v = record { stop = None; places = ps; visits = v }
 
 -- The state of a walk after a square: its matching cells are listed and its visits made.
 abbrev pub after : Rule → ℕ → Place → List Place → ℕ → Standing

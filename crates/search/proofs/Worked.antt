@@ -4,6 +4,8 @@ use Prim.Native.Nat.{ℕ}
 use mathlib.Core.Path.{◌≡◌, refl}
 use mathlib.Core.List.{List, [], ◌∷◌}
 use lib.IntN.{ℤ, negsuc}
+use Rattle.std.specs.Prelude.{Result, Ok}
+use Rattle.refusals.specs.declared.Refusal.TheVariants as refusal
 use Rattle.squares.specs.Root.{root}
 use Rattle.chart.specs.Places.{place_of, in_range, same_place, distance_of}
 use Rattle.chart.specs.Factors.{unit_factor, is_factor, on_ground}
@@ -11,13 +13,14 @@ use Rattle.chart.specs.Chains.{is_sound}
 use Rattle.chart.specs.Readings.{range_of, reading_of, differ, within}
 use Rattle.search.specs.declared.Window.{Window}
 use Rattle.search.specs.declared.HowMany.{HowMany}
-use Rattle.search.specs.declared.HowMany.TheVariants.{None, One, Several, Refused}
+use Rattle.search.specs.declared.HowMany.TheVariants.{None, One, Several}
+use Rattle.search.specs.declared.Stopped.{Stopped}
 use Rattle.search.specs.Windows.{is_window}
 use Rattle.search.specs.Questions.{Rule, rule_of, none_too_large}
 use Rattle.search.specs.Walk.{visited, cell, visit}
 use Rattle.search.specs.Answers.{ended, search_of, entries_of, list_of}
 use Rattle.search.specs.Cells.{interleave, chart_number, visits_of}
-use Rattle.search.specs.Counts.{said_for, how_many_of}
+use Rattle.search.specs.Counts.{stopped_with, said_for, how_many_of}
 
 -- Chain 1 with readings and a tolerance.
 abbrev asked : List ℤ → ℕ → Rule
@@ -47,12 +50,12 @@ p4_visits = refl
 
 -- How many places P4's readings allow: several, told at the second after 5 visits, and undecided with one visit less; in P8's
 -- window none; in that of the cell (30000, 40000) alone one.
-abbrev places : ℕ → ℕ → ℕ → ℕ → HowMany
+abbrev places : ℕ → ℕ → ℕ → ℕ → Result HowMany Stopped
 places e n k allowance = how_many_of (asked (negsuc 9999 ∷ negsuc 19999 ∷ []) 0) (window e n k) allowance
 
-how_many : (places 30000 40000 1 100 ≡ Several 5)
-    × (places 30000 40000 1 4 ≡ Refused 10 4)
-    × (places 30001 40000 0 100 ≡ None 1)
-    × (places 30000 40000 0 100 ≡ One (place_of 30000 40000) 1)
+how_many : (places 30000 40000 1 100 ≡ Ok (Several 5))
+    × (places 30000 40000 1 4 ≡ stopped_with refusal.Allowance 4)
+    × (places 30001 40000 0 100 ≡ Ok (None 1))
+    × (places 30000 40000 0 100 ≡ Ok (One (place_of 30000 40000) 1))
 unfolding how_many_of said_for search_of ended visit visited cell none_too_large is_window within differ reading_of range_of on_ground distance_of is_sound is_factor in_range same_place root
 how_many = (refl, refl, refl, refl)

@@ -1,17 +1,25 @@
 -- What a search answers: the refusals in 01's order, then how the walk ended; and what the list then holds
 -- (01, Numbers of refusal).
-use Rattle.std.specs.Prelude.{ℕ, ◌-◌, ◌*◌, ◌≤◌, ◌≡◌, true, cond, List, [], ◌∷◌, ◌++◌, leb, eqb, ℤ, length, replicate}
+use Rattle.std.specs.Prelude.{ℕ, ◌-◌, ◌*◌, ◌≤◌, ◌≡◌, true, List, [], ◌∷◌, ◌++◌, leb, ℤ, length, replicate, Option, None, Some, Result, Ok, Err}
 use Rattle.fields.specs.Choices.{where_so}
+use Rattle.refusals.specs.declared.Refusal.{Refusal}
+use Rattle.refusals.specs.declared.Refusal.TheVariants as refusal
+use Rattle.refusals.specs.Numbers.{refusal_number}
 use Rattle.chart.specs.declared.Place.{Place}
 use Rattle.chart.specs.declared.Chain.{Chain}
 use Rattle.chart.specs.Chains.{is_sound}
 use Rattle.search.specs.declared.Window.{Window}
-use Rattle.search.specs.declared.Answer.{Answer}
-use Rattle.search.specs.declared.Answer.TheVariants.{Places, ReadingTooLarge, Unsound, BadWindow, BadTolerance, NoMatch, NoRoom, AllowanceUsed}
+use Rattle.search.specs.declared.Found.{Found}
+use Rattle.search.specs.declared.Unfound.{Unfound}
+use Rattle.search.specs.declared.Unfound.TheVariants.{ReadingTooLarge, Unsound, BadWindow, BadTolerance, NoMatch, NoRoom, AllowanceUsed}
 use Rattle.search.specs.declared.SearchFigures.{SearchFigures}
 use Rattle.search.specs.Windows.{is_window}
 use Rattle.search.specs.Questions.{Rule, Question, question_of, most_tolerance, none_too_large}
-use Rattle.search.specs.Walk.{Standing, start, visit}
+use Rattle.search.specs.Walk.{Halt, Full, Spent, Standing, start, visit}
+
+-- What a search answers: what it found, or why it found nothing.
+abbrev pub Answer : Type 0
+Answer = Result Found Unfound
 
 -- An answer, and the places it lists.
 pub record Outcome : Type 0 where
@@ -19,19 +27,27 @@ pub record Outcome : Type 0 where
   pub places : List Place
 
 -- A refusal lists no place.
-abbrev pub refused : Answer → Outcome
-refused a = record { answer = a; places = [] }
+abbrev pub refused : Unfound → Outcome
+refused why = record { answer = Err why; places = [] }
 
 -- The outcome of a walk that was not stopped. If it found no matching cell, that is a refusal.
 abbrev pub gone : List Place → ℕ → Outcome
 gone [] visits = refused (NoMatch visits)
-gone (p ∷ ps) visits = record { answer = Places (length (p ∷ ps)) visits; places = p ∷ ps }
+gone (p ∷ ps) visits = record { answer = Ok (record { count = length (p ∷ ps); visits = visits }); places = p ∷ ps }
 
--- How a walk ended: stopped by the allowance, stopped for lack of room, or gone to its end.
+-- The refusal of a walk that was stopped after so many visits.
+abbrev pub unfound_by : Halt → ℕ → Unfound
+unfound_by Full visits = NoRoom visits
+unfound_by Spent visits = AllowanceUsed visits
+
+-- The outcome of a walk that was stopped, or that was not.
+abbrev pub ended_by : Option Halt → List Place → ℕ → Outcome
+ended_by (Some why) places visits = refused (unfound_by why visits)
+ended_by None places visits = gone places visits
+
+-- How a walk ended: stopped for lack of room, stopped by the allowance, or gone to its end.
 unfoldable pub ended : Standing → Outcome
-ended s =
-    cond (eqb s.stop 10) (refused (AllowanceUsed s.visits))
-    (cond (eqb s.stop 9) (refused (NoRoom s.visits)) (gone s.places s.visits))
+ended s = ended_by s.stop s.places s.visits
 
 -- All tests before the walk pass.
 pub record Accepted (rule : Rule) (w : Window) : Type 0 where
@@ -69,16 +85,30 @@ search_left c readings w tolerance allowance entries =
     let o = search_of (question_of c readings tolerance allowance entries) w in
     record { answer = o.answer; list = list_of entries o.places }
 
+-- The refusal that each is (01, Numbers of refusal).
+abbrev pub refusal_for : Unfound → Refusal
+refusal_for ReadingTooLarge = refusal.Number
+refusal_for Unsound = refusal.Chain
+refusal_for BadWindow = refusal.Window
+refusal_for BadTolerance = refusal.Tolerance
+refusal_for (NoMatch visits) = refusal.NoMatch
+refusal_for (NoRoom visits) = refusal.NoRoom
+refusal_for (AllowanceUsed visits) = refusal.Allowance
+
+-- The visits made before it.
+abbrev pub visits_before : Unfound → ℕ
+visits_before ReadingTooLarge = 0
+visits_before Unsound = 0
+visits_before BadWindow = 0
+visits_before BadTolerance = 0
+visits_before (NoMatch visits) = visits
+visits_before (NoRoom visits) = visits
+visits_before (AllowanceUsed visits) = visits
+
 -- An answer in figures: the number of the refusal, 0 for none, the count of places and the visits.
 unfoldable pub search_figures : Answer → SearchFigures
-search_figures (Places count visits) = record { refusal = 0; count = count; visits = visits }
-search_figures ReadingTooLarge = record { refusal = 3; count = 0; visits = 0 }
-search_figures Unsound = record { refusal = 5; count = 0; visits = 0 }
-search_figures BadWindow = record { refusal = 6; count = 0; visits = 0 }
-search_figures BadTolerance = record { refusal = 7; count = 0; visits = 0 }
-search_figures (NoMatch visits) = record { refusal = 8; count = 0; visits = visits }
-search_figures (NoRoom visits) = record { refusal = 9; count = 0; visits = visits }
-search_figures (AllowanceUsed visits) = record { refusal = 10; count = 0; visits = visits }
+search_figures (Ok found) = record { refusal = 0; count = found.count; visits = found.visits }
+search_figures (Err why) = record { refusal = refusal_number (refusal_for why); count = 0; visits = visits_before why }
 
 -- The figures that a search answers with.
 abbrev pub figures_in : Question → Window → SearchFigures

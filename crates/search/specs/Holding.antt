@@ -1,5 +1,5 @@
 -- How the code represents a search: what its private functions promise each other. No public contract uses it.
-use Rattle.std.specs.Prelude.{ℕ, suc, ◌+◌, ◌-◌, ◌*◌, ◌/◌, ◌≤◌, ◌^◌, ◌≡◌, true, List, [], ◌∷◌, ℤ, pos, negsuc, length, take}
+use Rattle.std.specs.Prelude.{ℕ, suc, ◌+◌, ◌-◌, ◌*◌, ◌/◌, ◌≤◌, ◌^◌, ◌≡◌, true, List, [], ◌∷◌, ℤ, pos, negsuc, length, take, None, Some, Result, Ok, Err}
 use Rattle.std.proofs.Math.IntN.{sub_ℕ}
 use Rattle.chart.specs.declared.Place.{Place}
 use Rattle.chart.specs.Places.{most_easting, most_northing, in_range}
@@ -8,9 +8,10 @@ use Rattle.chart.specs.Readings.{Wanted}
 use Rattle.search.specs.declared.Wish.{Wish}
 use Rattle.search.specs.declared.Hunt.{Hunt}
 use Rattle.search.specs.declared.Tally.{Tally}
+use Rattle.search.specs.declared.Unfound.{Unfound}
 use Rattle.search.specs.Questions.{Rule, Limits, Question, most_reading, most_tolerance}
-use Rattle.search.specs.Walk.{Standing}
-use Rattle.search.specs.Answers.{entries_of}
+use Rattle.search.specs.Walk.{Halt, Standing}
+use Rattle.search.specs.Answers.{unfound_by, entries_of}
 
 -- How far a number lies above 0, and how far below.
 abbrev pub above_zero : ℤ → ℕ
@@ -64,9 +65,20 @@ pub record OnChart (k side : ℕ) (p : Place) : Type 0 where
   pub east : p.easting + side ≤ most_easting + 1
   pub north : p.northing + side ≤ most_northing + 1
 
--- The tally t and the list l represent the state s of a walk: the list begins with its places.
+-- The tally t and the list l represent the state s of a walk that goes on: the list begins with its places.
 pub record Holds (s : Standing) (t : Tally) (l : List ℕ) : Type 0 where
-  pub stop : t.stop ≡ s.stop
+  pub goes_on : s.stop ≡ None
   pub visits : t.visits ≡ s.visits
   pub count : t.count ≡ length s.places
   pub entries : take (2 * t.count) l ≡ entries_of s.places
+
+-- A walk in the state s was stopped, and is refused so.
+pub record Halted (s : Standing) (why : Unfound) : Type 0 where
+  pub halt : Halt
+  pub stop : s.stop ≡ Some halt
+  pub refusal : why ≡ unfound_by halt s.visits
+
+-- What a visit answers, and the list that it leaves, represent the state s of a walk. Of a walk that was stopped the list tells nothing.
+abbrev pub Represents : Standing → Result Tally Unfound → List ℕ → Type 0
+Represents s (Ok t) l = Holds s t l
+Represents s (Err why) l = Halted s why

@@ -1,22 +1,22 @@
 // The search of a window: every cell that matches, each once, in chart order.
 #![tactic(auto)]
 
-ghost use Rattle.std.specs.Prelude.{◌≡◌, true, ◌++◌, ◌∷◌, [], ◌+◌, ◌-◌, ◌*◌, ◌≤◌, ◌<◌, ◌^◌, leb, length, take, replicate};
+ghost use Rattle.std.specs.Prelude.{◌≡◌, true, ◌++◌, ◌∷◌, [], ◌+◌, ◌-◌, ◌*◌, ◌≤◌, ◌<◌, ◌^◌, leb, length, take, replicate, Err};
 ghost use Rattle.std.proofs.Math.IntN.{sub_ℕ};
 ghost use Rattle.chart.specs.Places.{in_range, squared_distance, distance_of};
 ghost use Rattle.chart.specs.Factors.{is_factor, on_ground};
 ghost use Rattle.chart.specs.Readings.{differ, wanted_of, within};
 ghost use Rattle.search.specs.Windows.{is_window};
 ghost use Rattle.search.specs.Windows as windows;
-ghost use Rattle.search.specs.declared.HowMany.TheVariants.{Refused};
 ghost use Rattle.search.specs.Questions.{rule_of, none_too_large};
 ghost use Rattle.search.specs.Walk.{Standing, start};
 ghost use Rattle.search.specs.Walk as walk;
-ghost use Rattle.search.specs.Answers.{ended, list_of, search_left, search_figures};
-ghost use Rattle.search.specs.Counts.{said_for, how_many_of};
-ghost use Rattle.search.specs.Holding.{above_zero, below_zero, rule_by, question_by, least_for, Fair, Ready, OnChart, Holds};
+ghost use Rattle.search.specs.Answers.{ended, refusal_for, visits_before, list_of, search_left, search_figures};
+ghost use Rattle.search.specs.Counts.{said_for, stopped_with, how_many_of};
+ghost use Rattle.search.specs.Holding.{above_zero, below_zero, rule_by, question_by, least_for, Fair, Ready, OnChart, Holds, Represents};
 
 use chart::{Chain, Place};
+use refusals::Refusal;
 
 // The square of 2^k by 2^k cells whose south-west cell is the corner.
 #[derive(Clone, Copy)]
@@ -25,10 +25,16 @@ pub struct Window {
     pub k: u32,
 }
 
-// How a search ended: with places, or with one of 01's refusals, here in the order of their numbers.
+// What a search found: how many places, in so many visits.
 #[derive(Clone, Copy)]
-pub enum Answer {
-    Places { count: usize, visits: u64 },
+pub struct Found {
+    pub count: usize,
+    pub visits: u64,
+}
+
+// Why a search found nothing, in the order of the refusals' numbers, with the visits made.
+#[derive(Clone, Copy)]
+pub enum Unfound {
     ReadingTooLarge,
     Unsound,
     BadWindow,
@@ -38,7 +44,39 @@ pub enum Answer {
     AllowanceUsed { visits: u64 },
 }
 
-// An answer as figures: the number of the refusal, 0 for none, the count of places and the visits.
+impl Unfound {
+    // The refusal that it is.
+    fn refusal(self) -> Refusal
+        ensures { result ≡ refusal_for self }
+    {
+        match self {
+            Unfound::ReadingTooLarge => Refusal::Number,
+            Unfound::Unsound => Refusal::Chain,
+            Unfound::BadWindow => Refusal::Window,
+            Unfound::BadTolerance => Refusal::Tolerance,
+            Unfound::NoMatch { visits: _ } => Refusal::NoMatch,
+            Unfound::NoRoom { visits: _ } => Refusal::NoRoom,
+            Unfound::AllowanceUsed { visits: _ } => Refusal::Allowance,
+        }
+    }
+
+    // The visits made before it.
+    fn visits(self) -> u64
+        ensures { result ≡ visits_before self }
+    {
+        match self {
+            Unfound::NoMatch { visits }
+            | Unfound::NoRoom { visits }
+            | Unfound::AllowanceUsed { visits } => visits,
+            Unfound::ReadingTooLarge
+            | Unfound::Unsound
+            | Unfound::BadWindow
+            | Unfound::BadTolerance => 0,
+        }
+    }
+}
+
+// An answer as figures, for C: the number of the refusal, 0 for none, the count of places and the visits.
 #[derive(Clone, Copy)]
 pub struct SearchFigures {
     pub refusal: u32,
@@ -46,13 +84,19 @@ pub struct SearchFigures {
     pub visits: u64,
 }
 
-// How many places match: none, one or several, with the visits that it took to decide. Or a refusal, with the visits made.
+// How many places match: none, one or several, with the visits that it took to decide.
 #[derive(Clone, Copy)]
 pub enum HowMany {
     None { visits: u64 },
     One { place: Place, visits: u64 },
     Several { visits: u64 },
-    Refused { number: u32, visits: u64 },
+}
+
+// A refusal, and the visits made before it.
+#[derive(Clone, Copy)]
+pub struct Stopped {
+    pub refusal: Refusal,
+    pub visits: u64,
 }
 
 // A slave and the reading that is wanted for it, split into how far it is above 0 and how far below.
@@ -75,10 +119,9 @@ struct Hunt {
     room: usize,
 }
 
-// The state of a walk: the refusal that stopped it, 0 while it goes on; the count of places listed; the visits made.
+// The state of a walk that goes on: the count of places listed, and the visits made.
 #[derive(Clone, Copy)]
 struct Tally {
-    stop: u32,
     count: usize,
     visits: u64,
 }
@@ -119,7 +162,7 @@ pub fn search(
     w: Window,
     tolerance: u32,
     allowance: u64,
-) -> Answer
+) -> Result<Found, Unfound>
     ensures answer { result ≡ (search_left c (ra ∷ rb ∷ []) w tolerance allowance (length list.old)).answer }
     ensures list { list.new ≡ (search_left c (ra ∷ rb ∷ []) w tolerance allowance (length list.old)).list }
 {
@@ -128,19 +171,19 @@ pub fn search(
     let window = is_window(w);
     if !readings {
         clear_entries(list, 0);
-        return Answer::ReadingTooLarge;
+        return Err(Unfound::ReadingTooLarge);
     }
     if !chain {
         clear_entries(list, 0);
-        return Answer::Unsound;
+        return Err(Unfound::Unsound);
     }
     if !window {
         clear_entries(list, 0);
-        return Answer::BadWindow;
+        return Err(Unfound::BadWindow);
     }
     if tolerance > MOST_TOLERANCE {
         clear_entries(list, 0);
-        return Answer::BadTolerance;
+        return Err(Unfound::BadTolerance);
     }
     let factor = c.factor as u64;
     let master = c.master;
@@ -163,23 +206,33 @@ pub fn search(
 }
 
 // An answer of `search` as figures.
-pub fn as_figures(a: Answer) -> SearchFigures
+#[tactic(auto, unfolding(crate::specs::Answers::search_figures))]
+pub fn as_figures(a: Result<Found, Unfound>) -> SearchFigures
     ensures { result ≡ search_figures a }
 {
     match a {
-        Answer::Places { count, visits } => told(0, count, visits),
-        Answer::ReadingTooLarge => told(3, 0, 0),
-        Answer::Unsound => told(5, 0, 0),
-        Answer::BadWindow => told(6, 0, 0),
-        Answer::BadTolerance => told(7, 0, 0),
-        Answer::NoMatch { visits } => told(8, 0, visits),
-        Answer::NoRoom { visits } => told(9, 0, visits),
-        Answer::AllowanceUsed { visits } => told(10, 0, visits),
+        Ok(found) => SearchFigures {
+            refusal: 0,
+            count: found.count,
+            visits: found.visits,
+        },
+        Err(why) => SearchFigures {
+            refusal: why.refusal().number(),
+            count: 0,
+            visits: why.visits(),
+        },
     }
 }
 
 // Whether no place of the window matches the readings, one, or several: a search with room for one place.
-pub fn how_many(c: Chain, ra: i64, rb: i64, w: Window, tolerance: u32, allowance: u64) -> HowMany
+pub fn how_many(
+    c: Chain,
+    ra: i64,
+    rb: i64,
+    w: Window,
+    tolerance: u32,
+    allowance: u64,
+) -> Result<HowMany, Stopped>
     ensures { result ≡ how_many_of (rule_of c (ra ∷ rb ∷ []) tolerance) w allowance }
 {
     let mut list = [0u32; 2];
@@ -192,65 +245,51 @@ pub fn how_many(c: Chain, ra: i64, rb: i64, w: Window, tolerance: u32, allowance
 }
 
 // What the answer of that search says, if `first` is what its list begins with.
-fn said_for(a: Answer, first: Place) -> HowMany
+#[tactic(auto, unfolding(crate::specs::Counts::said_for))]
+fn said_for(a: Result<Found, Unfound>, first: Place) -> Result<HowMany, Stopped>
     ensures { result ≡ said_for a first }
 {
     match a {
-        Answer::Places { count: _, visits } => HowMany::One {
+        Ok(Found { count: _, visits }) => Ok(HowMany::One {
             place: first,
             visits,
-        },
-        Answer::ReadingTooLarge => unvisited(3),
-        Answer::Unsound => unvisited(5),
-        Answer::BadWindow => unvisited(6),
-        Answer::BadTolerance => unvisited(7),
-        Answer::NoMatch { visits } => HowMany::None { visits },
-        Answer::NoRoom { visits } => HowMany::Several { visits },
-        Answer::AllowanceUsed { visits } => HowMany::Refused { number: 10, visits },
+        }),
+        Err(Unfound::ReadingTooLarge) => unvisited(Refusal::Number),
+        Err(Unfound::Unsound) => unvisited(Refusal::Chain),
+        Err(Unfound::BadWindow) => unvisited(Refusal::Window),
+        Err(Unfound::BadTolerance) => unvisited(Refusal::Tolerance),
+        Err(Unfound::NoMatch { visits }) => Ok(HowMany::None { visits }),
+        Err(Unfound::NoRoom { visits }) => Ok(HowMany::Several { visits }),
+        Err(Unfound::AllowanceUsed { visits }) => Err(Stopped {
+            refusal: Refusal::Allowance,
+            visits,
+        }),
     }
 }
 
-fn unvisited(number: u32) -> HowMany
-    ensures { result ≡ Refused number 0 }
+fn unvisited(refusal: Refusal) -> Result<HowMany, Stopped>
+    ensures { result ≡ stopped_with refusal 0 }
 {
-    HowMany::Refused { number, visits: 0 }
-}
-
-fn told(refusal: u32, count: usize, visits: u64) -> SearchFigures
-    ensures { result ≡ record { refusal = refusal; count = count; visits = visits } }
-{
-    SearchFigures {
-        refusal,
-        count,
-        visits,
-    }
+    Err(Stopped { refusal, visits: 0 })
 }
 
 // Whether both readings are at most 1,000,000,000 in size.
+#[tactic(auto, unfolding(crate::specs::Questions::none_too_large))]
 fn none_too_large(ra: i64, rb: i64) -> bool
     ensures { (c : Chain) → result ≡ none_too_large (wanted_of c (ra ∷ rb ∷ [])) }
 {
-    if metres::size(ra) > MOST_READING {
-        return false;
-    }
-    metres::size(rb) <= MOST_READING
+    metres::size(ra) <= MOST_READING && metres::size(rb) <= MOST_READING
 }
 
 fn wished(slave: Place, reading: i64) -> Wish
     ensures { result ≡ record { slave = slave; above = above_zero reading; below = below_zero reading } }
 {
     let size = metres::size(reading);
-    if reading < 0 {
-        return Wish {
-            slave,
-            above: 0,
-            below: size,
-        };
-    }
+    let (above, below) = if reading < 0 { (0, size) } else { (size, 0) };
     Wish {
         slave,
-        above: size,
-        below: 0,
+        above,
+        below,
     }
 }
 
@@ -297,68 +336,54 @@ fn north_east(p: Place, d: u32) -> Place
 pub fn clear_entries(list: &mut [u32], from: usize)
     ensures { list.new ≡ take from list.old ++ replicate (length list.old - from) 0 }
 {
-    let mut i = from;
-    while i < list.len() {
-        list[i] = 0;
-        i += 1;
+    if from < list.len() {
+        list[from..].fill(0);
     }
 }
 
 // The walk from its start to its end. At the end, every entry of the list that holds no place of the answer is cleared.
-fn walked(list: &mut [u32], h: Hunt, w: Window) -> Answer
+fn walked(list: &mut [u32], h: Hunt, w: Window) -> Result<Found, Unfound>
     requires { Ready h × (is_window w ≡ true) × (2 * h.room ≤ length list.old) }
     ensures answer { result ≡ (ended (walk.visit (question_by h) w.k w.corner start)).answer }
     ensures list { list.new ≡ list_of (length list.old) (ended (walk.visit (question_by h) w.k w.corner start)).places }
 {
-    let t = visit(
-        list,
-        h,
-        w.k,
-        side_of(w.k),
-        w.corner,
-        0,
-        Tally {
-            stop: 0,
-            count: 0,
-            visits: 0,
-        },
-    );
-    let visits = t.visits;
-    if t.stop == 10 {
-        clear_entries(list, 0); // what was found so far is no answer
-        return Answer::AllowanceUsed { visits };
+    let begin = Tally {
+        count: 0,
+        visits: 0,
+    };
+    match visit(list, h, w.k, side_of(w.k), w.corner, 0, begin) {
+        Ok(Tally { count, visits }) => {
+            clear_entries(list, 2 * count);
+            if count == 0 {
+                return Err(Unfound::NoMatch { visits });
+            }
+            Ok(Found { count, visits })
+        }
+        Err(why) => {
+            clear_entries(list, 0); // what was found so far is no answer, and no part of one
+            Err(why)
+        }
     }
-    if t.stop == 9 {
-        clear_entries(list, 0); // and no part of one
-        return Answer::NoRoom { visits };
-    }
-    let count = t.count;
-    if count == 0 {
-        clear_entries(list, 0); // nothing was put, but the list may have held something
-        return Answer::NoMatch { visits };
-    }
-    clear_entries(list, 2 * count);
-    Answer::Places { count, visits }
 }
 
 // Visits the square of side 2^k at p. The guess is the master's distance from the middle of the enclosing square. It is near
 // enough that one of Newton's steps mostly finds the distance that is needed here.
-fn visit(list: &mut [u32], h: Hunt, k: u32, side: u32, p: Place, guess: u64, t: Tally) -> Tally
+fn visit(
+    list: &mut [u32],
+    h: Hunt,
+    k: u32,
+    side: u32,
+    p: Place,
+    guess: u64,
+    t: Tally,
+) -> Result<Tally, Unfound>
     requires { Ready h × OnChart k side p × (2 * h.room ≤ length list.old) }
-    ensures { (s : Standing) → Holds s t list.old → Holds (walk.visit (question_by h) k p s) result list.new }
+    ensures { (s : Standing) → Holds s t list.old → Represents (walk.visit (question_by h) k p s) result list.new }
 {
-    if t.stop != 0 {
-        return t;
-    }
     if h.allowance <= t.visits {
-        return Tally {
-            stop: 10,
-            count: t.count,
-            visits: t.visits,
-        };
+        return Err(Unfound::AllowanceUsed { visits: t.visits });
     }
     let begun = Tally {
-        stop: 0,
         count: t.count,
         visits: t.visits + 1,
     };
@@ -369,54 +394,47 @@ fn visit(list: &mut [u32], h: Hunt, k: u32, side: u32, p: Place, guess: u64, t: 
     let middle = north_east(p, half);
     let m = distance(middle, h.master, guess);
     if !near(h, middle, m, h.tolerance + 2 * (side as u64) + 4) {
-        return begun;
+        return Ok(begun);
     }
     let south_east = east(p, half);
     let north_west = north(p, half);
-    let sw = visit(list, h, k - 1, half, p, m, begun);
-    let se = visit(list, h, k - 1, half, south_east, m, sw);
-    let nw = visit(list, h, k - 1, half, north_west, m, se);
+    let sw = visit(list, h, k - 1, half, p, m, begun)?;
+    let se = visit(list, h, k - 1, half, south_east, m, sw)?;
+    let nw = visit(list, h, k - 1, half, north_west, m, se)?;
     visit(list, h, k - 1, half, middle, m, nw)
 }
 
-// Tests a cell. One that matches goes into the list, or stops the walk with 9 if the list is full.
-fn cell(list: &mut [u32], h: Hunt, p: Place, guess: u64, t: Tally) -> Tally
+// Tests a cell. One that matches goes into the list, or stops the walk if the list is full.
+fn cell(list: &mut [u32], h: Hunt, p: Place, guess: u64, t: Tally) -> Result<Tally, Unfound>
     requires { Ready h × (in_range p ≡ true) × (2 * h.room ≤ length list.old) }
-    ensures { (s : Standing) → Holds s t list.old → Holds (walk.cell (question_by h) p s) result list.new }
+    ensures { (s : Standing) → Holds s t list.old → Represents (walk.cell (question_by h) p s) result list.new }
 {
     let m = distance(p, h.master, guess);
     if !near(h, p, m, h.tolerance) {
-        return t;
+        return Ok(t);
     }
     let n = t.count;
     if h.room <= n {
-        return Tally {
-            stop: 9,
-            count: n,
-            visits: t.visits,
-        };
+        return Err(Unfound::NoRoom { visits: t.visits });
     }
     let i = 2 * n;
     list[i] = p.easting;
     let j = i + 1;
     list[j] = p.northing;
-    Tally {
-        stop: t.stop,
+    Ok(Tally {
         count: n + 1,
         visits: t.visits,
-    }
+    })
 }
 
 // Whether every slave's reading at p differs from the wanted one by at most slack. d is the master's distance from p.
+#[tactic(auto, using(chart::proofs::RangeLaws::range_is_on_ground), unfolding(chart::specs::Readings::within, chart::specs::Readings::reading_of))]
 fn near(h: Hunt, p: Place, d: u64, slack: u64) -> bool
     requires { Ready h × (in_range p ≡ true) × (d ≡ distance_of p h.master) × (d < 2 ^ 30) × (slack < 2 ^ 28) }
     ensures { result ≡ within slack (rule_by h).chain (rule_by h).wanted p }
 {
     let m = on_ground(h.factor, d);
-    if !agrees(h.a, h.factor, p, m, slack) {
-        return false;
-    }
-    agrees(h.b, h.factor, p, m, slack)
+    agrees(h.a, h.factor, p, m, slack) && agrees(h.b, h.factor, p, m, slack)
 }
 
 // The same for one slave; m is the master's range. The slave's distance is the root of y. Its range is at least r exactly if y is at

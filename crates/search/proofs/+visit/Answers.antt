@@ -1,27 +1,28 @@
 -- `search::visit` meets its contract, by induction on the exponent, which falls at each call: if tally and list represent the walk
 -- before a call, they represent it after the call, so the four calls follow one another.
 use Prim.Native.Nat.{ℕ, suc, ◌+◌, ◌-◌, ◌/◌, ◌^◌, ◌≤◌}
-use mathlib.Core.Path.{◌≡◌, sym, ap, ◌∙◌, subst⁻¹}
-use mathlib.Core.Bool.{true}
+use mathlib.Core.Path.{◌≡◌, ap, ◌∙◌, subst⁻¹}
+use mathlib.Core.Bool.{true, false}
 use native.Mathlib.Omega.{arith}
-use borrow.Author.Tests.{not-true, not-false}
+use mathlib.Core.List.{List}
+use Rattle.std.proofs.lemmas.Result.{err_from_is_err_and}
+use Rattle.std.specs.Prelude.{Result}
 use Rattle.chart.specs.declared.Place.{Place}
+use Rattle.search.specs.declared.Tally.{Tally}
+use Rattle.search.specs.declared.Unfound.{Unfound}
 use Rattle.chart.specs.Places.{in_range}
 use Rattle.search.specs.Windows.{east, north, north_east}
 use Rattle.search.specs.Questions.{is_kept}
-use Rattle.search.specs.Walk.{counted}
-use Rattle.search.specs.Holding.{rule_by, question_by, OnChart}
-use Rattle.search.proofs.HoldLaws.{after_holds, out_holds, count_holds, cell_holds, dropped-holds, quarters-hold}
+use Rattle.search.specs.Walk.{Standing, counted, visit}
+use Rattle.search.specs.Holding.{rule_by, question_by, OnChart, Holds, Represents}
+use Rattle.search.proofs.HoldLaws.{halted_stays, out_halts, count_holds, cell_holds, dropped-holds, quarters-hold}
 use Rattle.search.proofs.SquareLaws.{corner_in_range, k_is, half_is, middle_in_range, kept_is}
 use Rattle.search.proofs.+visit.Goals.{After-near, After-north-north_west, After-north_east-middle, Else-k-eq0}
 use Rattle.search.proofs.+visit.Goals as goal
 
--- The exponent t of the quarters and half the side.
+-- The exponent of the quarters.
 exponent : (t : ℕ) (e : Else-k-eq0 t) → e.args.k ≡ suc (e.args.k - 1)
 exponent t e = let a = e.args in k_is a.k a.side a.p e.requires.1 e.if-k-eq0.false
-
-half_of : (t : ℕ) (e : Else-k-eq0 t) → e.args.side / 2 ≡ 2 ^ (e.args.k - 1)
-half_of t e = let a = e.args in half_is a.k a.side a.p e.requires.1 e.if-k-eq0.false
 
 -- The middle is in range, and the test there is the definition's.
 middle_ok : (t : ℕ) (c : After-north_east-middle t) → in_range c.north_east-middle.result ≡ true
@@ -53,29 +54,38 @@ quarter t n o e f =
     let w = n.requires.1 in
     record { side_is = half_is n.args.k n.args.side n.args.p n.requires.1 n.if-k-eq0.false; east = omega (arith, w.east); north = omega (arith, w.north) }
 
-pub returns-then-t-ne0 : goal.returns-then-t-ne0
-returns-then-t-ne0 t c = λ s h.
-    let a = c.args in
-    after_holds s a.t a.list.now h (question_by a.h) a.p a.k c.if-t-ne0.true
+-- What represents the walk after the four quarters represents it after the square.
+square_told : (t : ℕ) (n : After-north-north_west t) (s : Standing) → let a = n.args in let q = question_by a.h in let k = a.k - 1 in
+    Holds s a.t a.list.now → (r : Result Tally Unfound) (l : List ℕ) →
+    Represents (visit q k n.north_east-middle.result (visit q k n.north-north_west.result (visit q k n.east-south_east.result (visit q k a.p (counted s))))) r l →
+    Represents (visit q a.k a.p s) r l
+square_told t n s h r l g =
+    let a = n.args in
+    let half : a.side / 2 ≡ 2 ^ (a.k - 1) = half_is a.k a.side a.p n.requires.1 n.if-k-eq0.false in
+    let test : n.near.result ≡ is_kept (rule_by a.h) (a.k - 1) a.p =
+    n.near.ensures ∙ kept_is a.k a.side a.p n.requires.1 n.if-k-eq0.false (rule_by a.h) _ n.north_east-middle.ensures in
+    let kept : is_kept (rule_by a.h) (a.k - 1) a.p ≡ true = cc test in
+    quarters-hold s a.t a.list.now h (question_by a.h) a.p n.if-h-t.false a.k (a.k - 1) _ _ _ r l (k_is a.k a.side a.p n.requires.1 n.if-k-eq0.false) kept
+    (n.east-south_east.ensures ∙ ap (λ (d : ℕ). east d a.p) half)
+    (n.north-north_west.ensures ∙ ap (λ (d : ℕ). north d a.p) half)
+    (n.north_east-middle.ensures ∙ ap (λ (d : ℕ). north_east d a.p) half)
+    g
 
 pub returns-then-h-t : goal.returns-then-h-t
 returns-then-h-t t c = λ s h.
     let a = c.args in
-    out_holds s a.t a.list.now h (question_by a.h) a.p a.k c.if-t-ne0.false (omega (arith, c.if-h-t.true))
+    out_halts s a.t a.list.now h (question_by a.h) a.p a.k (omega (arith, c.if-h-t.true))
 
 pub cell-requires : goal.cell-requires
 cell-requires t c =
     let a = c.args in
     (c.requires.0, corner_in_range a.k a.side a.p c.requires.1, c.requires.2)
 
-pub shape_of-list-then-k-eq0 : goal.shape_of-list-then-k-eq0
-shape_of-list-then-k-eq0 t c = c.cell.auto.list
-
 pub returns-then-k-eq0 : goal.returns-then-k-eq0
 returns-then-k-eq0 t c = λ s h.
     let a = c.args in
-    cell_holds s a.t a.list.now h (question_by a.h) a.p c.if-t-ne0.false c.if-h-t.false a.k _ _ c.if-k-eq0.true
-    (c.cell.ensures (counted s) (count_holds s a.t a.list.now h c.if-t-ne0.false))
+    cell_holds s a.t a.list.now h (question_by a.h) a.p c.if-h-t.false a.k _ _ c.if-k-eq0.true
+    (c.cell.ensures (counted s) (count_holds s a.t a.list.now h))
 
 pub north_east-middle-requires : goal.north_east-middle-requires
 north_east-middle-requires t c =
@@ -99,8 +109,9 @@ near-requires t c =
 pub returns-then-not-near : goal.returns-then-not-near
 returns-then-not-near t c = λ s h.
     let a = c.args in
-    dropped-holds s a.t a.list.now h (question_by a.h) a.p c.if-t-ne0.false c.if-h-t.false a.k (a.k - 1) (exponent t (goal.at.returns-then-not-near t c).Else-k-eq0)
-    (sym (test_is t (goal.at.returns-then-not-near t c).After-near) ∙ not-true _ c.if-not-near.true-raw)
+    let kept = test_is t (goal.at.returns-then-not-near t c).After-near in
+    let dropped : is_kept (rule_by a.h) (a.k - 1) a.p ≡ false = cc kept in
+    dropped-holds s a.t a.list.now h (question_by a.h) a.p c.if-h-t.false a.k (a.k - 1) (exponent t (goal.at.returns-then-not-near t c).Else-k-eq0) dropped
 
 pub east-south_east-requires : goal.east-south_east-requires
 east-south_east-requires t c =
@@ -110,53 +121,70 @@ pub north-north_west-requires : goal.north-north_west-requires
 north-north_west-requires t c =
     omega (arith, c.requires.1.side_is, c.requires.1.north)
 
-pub overflow_sub-k : goal.overflow_sub-k
-overflow_sub-k t c = omega (arith, c.if-k-eq0.false)
-
-pub visit-sw-requires : goal.visit-sw-requires
-visit-sw-requires t c = (
-  omega (arith, c.if-k-eq0.false, c),
-  (c.requires.0, quarter t (goal.at.visit-sw-requires t c).After-north-north_west _ (omega (arith, parts t (goal.at.visit-sw-requires t c).After-north-north_west)) (omega (arith, parts t (goal.at.visit-sw-requires t c).After-north-north_west)), omega (arith, c.requires.2)),
-)
-
-pub overflow_sub-k-2 : goal.overflow_sub-k-2
-overflow_sub-k-2 t c = omega (arith, c.if-k-eq0.false)
-
-pub visit-se-requires : goal.visit-se-requires
-visit-se-requires t c = (
-  omega (arith, c.if-k-eq0.false, c),
-  (c.requires.0, quarter t (goal.at.visit-se-requires t c).After-north-north_west _ (omega (arith, parts t (goal.at.visit-se-requires t c).After-north-north_west)) (omega (arith, parts t (goal.at.visit-se-requires t c).After-north-north_west)), omega (arith, c.requires.2, c.visit-sw.auto.list)),
-)
-
-pub overflow_sub-k-3 : goal.overflow_sub-k-3
-overflow_sub-k-3 t c = omega (arith, c.if-k-eq0.false)
-
-pub visit-nw-requires : goal.visit-nw-requires
-visit-nw-requires t c = (
-  omega (arith, c.if-k-eq0.false, c),
-  (c.requires.0, quarter t (goal.at.visit-nw-requires t c).After-north-north_west _ (omega (arith, parts t (goal.at.visit-nw-requires t c).After-north-north_west)) (omega (arith, parts t (goal.at.visit-nw-requires t c).After-north-north_west)), omega (arith, c.requires.2, c.visit-sw.auto.list, c.visit-se.auto.list)),
-)
-
-pub overflow_sub-k-4 : goal.overflow_sub-k-4
-overflow_sub-k-4 t c = omega (arith, c.if-k-eq0.false)
-
+-- A quarter may be visited: its exponent is less, it lies on the chart, and the list keeps its length.
 pub visit-requires : goal.visit-requires
-visit-requires t c = (
-  omega (arith, c.if-k-eq0.false, c),
-  (c.requires.0, quarter t (goal.at.visit-requires t c).After-north-north_west _ (omega (arith, parts t (goal.at.visit-requires t c).After-north-north_west)) (omega (arith, parts t (goal.at.visit-requires t c).After-north-north_west)), omega (arith, c.requires.2, c.visit-sw.auto.list, c.visit-se.auto.list, c.visit-nw.auto.list)),
-)
+visit-requires t c =
+    let n = (goal.at.visit-requires t c).After-north-north_west in (
+      omega (arith, c.if-k-eq0.false, c),
+      (c.requires.0, quarter t n _ (omega (arith, parts t n)) (omega (arith, parts t n)), omega (arith, c.requires.2)),
+    )
 
-pub shape_of-list : goal.shape_of-list
-shape_of-list t c =
-    c.visit.auto.list ∙ c.visit-nw.auto.list ∙ c.visit-se.auto.list ∙ c.visit-sw.auto.list
+pub visit-requires-2 : goal.visit-requires-2
+visit-requires-2 t c =
+    let n = (goal.at.visit-requires-2 t c).After-north-north_west in (
+      omega (arith, c.if-k-eq0.false, c),
+      (c.requires.0, quarter t n _ (omega (arith, parts t n)) (omega (arith, parts t n)), omega (arith, c.requires.2, c.visit.auto.list)),
+    )
+
+pub visit-requires-3 : goal.visit-requires-3
+visit-requires-3 t c =
+    let n = (goal.at.visit-requires-3 t c).After-north-north_west in (
+      omega (arith, c.if-k-eq0.false, c),
+      (c.requires.0, quarter t n _ (omega (arith, parts t n)) (omega (arith, parts t n)), omega (arith, c.requires.2, c.visit.auto.list, c.visit-2.auto.list)),
+    )
+
+pub visit-requires-4 : goal.visit-requires-4
+visit-requires-4 t c =
+    let n = (goal.at.visit-requires-4 t c).After-north-north_west in (
+      omega (arith, c.if-k-eq0.false, c),
+      (c.requires.0, quarter t n _ (omega (arith, parts t n)) (omega (arith, parts t n)), omega (arith, c.requires.2, c.visit.auto.list, c.visit-2.auto.list, c.visit-3.auto.list)),
+    )
+
+-- A stop in one quarter is a stop of the square.
+pub returns-in_err-sw : goal.returns-in_err-sw
+returns-in_err-sw t c = λ s h.
+    let a = c.args in
+    let q = question_by a.h in
+    let up = err_from_is_err_and c.from_residual.result c.from_residual.ensures.1 in
+    let halted = c.in_err-sw.ensures (counted s) (count_holds s a.t a.list.now h) in
+    square_told t (goal.at.returns-in_err-sw t c).After-north-north_west s h _ _
+    (rw (up.1, up.2) (halted_stays q _ _ _ _ (halted_stays q _ _ _ _ (halted_stays q _ _ _ _ halted))))
+
+pub returns-in_err-se : goal.returns-in_err-se
+returns-in_err-se t c = λ s h.
+    let a = c.args in
+    let q = question_by a.h in
+    let up = err_from_is_err_and c.from_residual-in_err-se.result c.from_residual-in_err-se.ensures.1 in
+    let sw = c.in_ok-sw.ensures (counted s) (count_holds s a.t a.list.now h) in
+    let halted = c.in_err-se.ensures _ sw in
+    square_told t (goal.at.returns-in_err-se t c).After-north-north_west s h _ _
+    (rw (up.1, up.2) (halted_stays q _ _ _ _ (halted_stays q _ _ _ _ halted)))
+
+pub returns-in_err-nw : goal.returns-in_err-nw
+returns-in_err-nw t c = λ s h.
+    let a = c.args in
+    let q = question_by a.h in
+    let up = err_from_is_err_and c.from_residual-in_err-nw.result c.from_residual-in_err-nw.ensures.1 in
+    let sw = c.in_ok-sw.ensures (counted s) (count_holds s a.t a.list.now h) in
+    let se = c.in_ok-se.ensures _ sw in
+    let halted = c.in_err-nw.ensures _ se in
+    square_told t (goal.at.returns-in_err-nw t c).After-north-north_west s h _ _
+    (rw (up.1, up.2) (halted_stays q _ _ _ _ halted))
 
 pub returns : goal.returns
 returns t c = λ s h.
     let a = c.args in
-    let half = half_of t (goal.at.returns t c).Else-k-eq0 in
-    quarters-hold s a.t a.list.now h (question_by a.h) a.p c.if-t-ne0.false c.if-h-t.false a.k (a.k - 1) _ _ _ _ _ (exponent t (goal.at.returns t c).Else-k-eq0)
-    (sym (test_is t (goal.at.returns t c).After-near) ∙ not-false _ c.if-not-near.false-raw)
-    (c.east-south_east.ensures ∙ ap (λ (d : ℕ). east d a.p) half)
-    (c.north-north_west.ensures ∙ ap (λ (d : ℕ). north d a.p) half)
-    (c.north_east-middle.ensures ∙ ap (λ (d : ℕ). north_east d a.p) half)
-    (c.visit.ensures _ (c.visit-nw.ensures _ (c.visit-se.ensures _ (c.visit-sw.ensures (counted s) (count_holds s a.t a.list.now h c.if-t-ne0.false)))))
+    let sw = c.in_ok-sw.ensures (counted s) (count_holds s a.t a.list.now h) in
+    let se = c.in_ok-se.ensures _ sw in
+    let nw = c.in_ok-nw.ensures _ se in
+    square_told t (goal.at.returns t c).After-north-north_west s h _ _ (c.visit-4.ensures _ nw)

@@ -15,7 +15,7 @@ use Rattle.search.specs.Windows.{is_window}
 use Rattle.search.specs.Questions.{Question, question_of, none_too_large}
 use Rattle.search.specs.Walk.{visit, start}
 use Rattle.chart.specs.declared.Chain.{Chain}
-use Rattle.search.specs.declared.Answer.TheVariants.{ReadingTooLarge, Unsound, BadWindow, BadTolerance}
+use Rattle.search.specs.declared.Unfound.TheVariants.{ReadingTooLarge, Unsound, BadWindow, BadTolerance}
 use Rattle.search.specs.Answers.{Outcome, ended, Accepted, search_of}
 use Rattle.search.proofs.AnswerLaws.{search_3, search_5, search_6, search_7, search_walks}
 use Rattle.search.proofs.Asking.{wish_of, asks, ready}
