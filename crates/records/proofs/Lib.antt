@@ -2,7 +2,6 @@
 pub mod Theorems
 mod ByteLaws
 pub mod ReadLaws
-mod LogLaws
 pub mod MarkLaws
 pub mod GridLaws
 pub mod TableLaws

@@ -4,6 +4,8 @@ use mathlib.Core.Path.{◌≡◌, refl}
 use mathlib.Core.List.{List, [], ◌∷◌, ◌++◌}
 use lib.IntN.{negsuc}
 use lib.Ieee.{of_bits}
+use Rattle.std.specs.Prelude.{Ok, Err}
+use Rattle.refusals.specs.declared.Refusal.TheVariants as refusal
 use Rattle.fields.specs.Fields.{value_of, bytes_of}
 use Rattle.metres.specs.Metres.{centimetres_of}
 use Rattle.chart.specs.Places.{in_range}
@@ -19,7 +21,7 @@ line_1 =
     ∷ 0 ∷ 0 ∷ 0 ∷ 0 ∷ 0 ∷ 0 ∷ 0x69 ∷ 0xc0
     ∷ 0 ∷ 0 ∷ 0 ∷ 0 ∷ 0 ∷ 0 ∷ 0 ∷ 0 ∷ []
 
-line_1_read : log_entry_of line_1 ≡ entry.Readings (negsuc 9_999) (negsuc 19_999)
+line_1_read : log_entry_of line_1 ≡ Ok (entry.Readings (negsuc 9_999) (negsuc 19_999))
 unfolding log_entry_of log_record_of in_centimetres all_zero value_of centimetres_of of_bits
 line_1_read = refl
 
@@ -31,7 +33,7 @@ line_2 =
     ∷ 0 ∷ 0 ∷ 0 ∷ 0 ∷ 0 ∷ 0 ∷ 0x79 ∷ 0x40
     ∷ 0 ∷ 0 ∷ 0 ∷ 0 ∷ 0 ∷ 0 ∷ 0 ∷ 0 ∷ []
 
-line_2_read : log_entry_of line_2 ≡ entry.Place (record { easting = 30_001; northing = 40_000 })
+line_2_read : log_entry_of line_2 ≡ Ok (entry.Place (record { easting = 30_001; northing = 40_000 }))
 unfolding log_entry_of log_record_of in_centimetres placed is_place in_range all_zero value_of centimetres_of of_bits
 line_2_read = refl
 
@@ -43,7 +45,7 @@ line_3 =
     ∷ 0 ∷ 0 ∷ 0 ∷ 0 ∷ 0 ∷ 0 ∷ 0 ∷ 0
     ∷ 0 ∷ 0 ∷ 0 ∷ 0 ∷ 0 ∷ 0 ∷ 0 ∷ 0 ∷ []
 
-line_3_read : log_entry_of line_3 ≡ entry.Hold
+line_3_read : log_entry_of line_3 ≡ Ok entry.Hold
 unfolding log_entry_of log_record_of in_centimetres all_zero
 line_3_read = refl
 
@@ -53,28 +55,28 @@ grid_of first second third =
     2 ∷ 0 ∷ 0 ∷ 0 ∷ 1 ∷ 0 ∷ 0 ∷ 0 ∷ (bytes_of 8 first ++ (bytes_of 8 second ++ bytes_of 8 third))
 
 -- An easting of -0.001 m is 0, and one of -0.01 m is out of range.
-just_west : log_entry_of (grid_of 0xbf50_624d_d2f1_a9fc 0 0) ≡ entry.Place (record { easting = 0; northing = 0 })
+just_west : log_entry_of (grid_of 0xbf50_624d_d2f1_a9fc 0 0) ≡ Ok (entry.Place (record { easting = 0; northing = 0 }))
 unfolding log_entry_of log_record_of in_centimetres placed is_place in_range all_zero bytes_of value_of centimetres_of of_bits
 just_west = refl
 
-too_far_west : log_entry_of (grid_of 0xbf84_7ae1_47ae_147b 0 0) ≡ entry.Refused 4
+too_far_west : log_entry_of (grid_of 0xbf84_7ae1_47ae_147b 0 0) ≡ Err refusal.Place
 unfolding log_entry_of log_record_of in_centimetres placed is_place all_zero bytes_of value_of centimetres_of of_bits
 too_far_west = refl
 
 -- The binary64 number nearest to 1,000,000.005 lies above it and is out of range; the one before gives 100,000,000.
-too_far_east : log_entry_of (grid_of 0x412e_8480_028f_5c29 0 0) ≡ entry.Refused 4
+too_far_east : log_entry_of (grid_of 0x412e_8480_028f_5c29 0 0) ≡ Err refusal.Place
 unfolding log_entry_of log_record_of in_centimetres placed is_place in_range all_zero bytes_of value_of centimetres_of of_bits
 too_far_east = refl
 
-farthest_east : log_entry_of (grid_of 0x412e_8480_028f_5c28 0 0) ≡ entry.Place (record { easting = 100_000_000; northing = 0 })
+farthest_east : log_entry_of (grid_of 0x412e_8480_028f_5c28 0 0) ≡ Ok (entry.Place (record { easting = 100_000_000; northing = 0 }))
 unfolding log_entry_of log_record_of in_centimetres placed is_place in_range all_zero bytes_of value_of centimetres_of of_bits
 farthest_east = refl
 
 -- Minus zero in a field that the kind does not use is refused; in one that it uses it is 0.
-minus_zero_unused : log_entry_of (grid_of 0 0 0x8000_0000_0000_0000) ≡ entry.Refused 2
+minus_zero_unused : log_entry_of (grid_of 0 0 0x8000_0000_0000_0000) ≡ Err refusal.Form
 unfolding log_entry_of log_record_of in_centimetres all_zero bytes_of
 minus_zero_unused = refl
 
-minus_zero_used : log_entry_of (grid_of 0x8000_0000_0000_0000 0x8000_0000_0000_0000 0) ≡ entry.Place (record { easting = 0; northing = 0 })
+minus_zero_used : log_entry_of (grid_of 0x8000_0000_0000_0000 0x8000_0000_0000_0000 0) ≡ Ok (entry.Place (record { easting = 0; northing = 0 }))
 unfolding log_entry_of log_record_of in_centimetres placed is_place in_range all_zero bytes_of value_of centimetres_of of_bits
 minus_zero_used = refl

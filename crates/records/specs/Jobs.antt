@@ -1,15 +1,15 @@
 -- The job: the window, the tolerance and the allowance of a search, in 32 bytes (01, The records).
-use Rattle.std.specs.Prelude.{ℕ, ◌&&◌, List, leb, eqb, ℤ, length}
+use Rattle.std.specs.Prelude.{ℕ, ◌&&◌, List, leb, eqb, ℤ, length, Result, Ok, Err}
+use Rattle.refusals.specs.declared.Refusal.{Refusal}
+use Rattle.refusals.specs.declared.Refusal.TheVariants as refusal
 use Rattle.fields.specs.Fields.{field_at}
 use Rattle.chart.specs.declared.Chain.{Chain}
 use Rattle.search.specs.declared.HowMany.{HowMany}
-use Rattle.search.specs.declared.HowMany.TheVariants as many
+use Rattle.search.specs.declared.Stopped.{Stopped}
 use Rattle.search.specs.Windows.{is_window}
 use Rattle.search.specs.Questions.{rule_of, most_tolerance}
 use Rattle.search.specs.Counts.{how_many_of}
 use Rattle.records.specs.declared.Job.{Job}
-use Rattle.records.specs.declared.JobAnswer.{JobAnswer}
-use Rattle.records.specs.declared.JobAnswer.TheVariants as answer
 use Rattle.records.specs.Bytes.{byte_at, are_zero, unless}
 use Rattle.records.specs.ChainTables.{place_at}
 
@@ -31,28 +31,28 @@ job_in s =
     }
 
 -- The same, or refusal 1 for any other number of bytes.
-unfoldable pub raw_job_of : List ℕ → JobAnswer
-raw_job_of s = unless (eqb (length s) job_bytes) (answer.Refused 1) (answer.Job (job_in s))
+unfoldable pub raw_job_of : List ℕ → Result Job Refusal
+raw_job_of s = unless (eqb (length s) job_bytes) (Err refusal.Length) (Ok (job_in s))
 
 -- The same, then refusal 2 if a byte that must be zero is not.
-unfoldable pub formed_job_of : List ℕ → JobAnswer
+unfoldable pub formed_job_of : List ℕ → Result Job Refusal
 formed_job_of s =
-    unless (eqb (length s) job_bytes) (answer.Refused 1)
-    (unless (are_zero 3 s 9 && are_zero 8 s 24) (answer.Refused 2) (answer.Job (job_in s)))
+    unless (eqb (length s) job_bytes) (Err refusal.Length)
+    (unless (are_zero 3 s 9 && are_zero 8 s 24) (Err refusal.Form) (Ok (job_in s)))
 
 -- A well-formed job is accepted, or refused with 6 for its window, then with 7 for its tolerance.
-unfoldable pub accepted_job : JobAnswer → JobAnswer
-accepted_job (answer.Job j) =
-    unless (is_window j.window) (answer.Refused 6)
-    (unless (leb j.tolerance most_tolerance) (answer.Refused 7) (answer.Job j))
-accepted_job (answer.Refused number) = answer.Refused number
+unfoldable pub accepted_job : Result Job Refusal → Result Job Refusal
+accepted_job (Ok j) =
+    unless (is_window j.window) (Err refusal.Window)
+    (unless (leb j.tolerance most_tolerance) (Err refusal.Tolerance) (Ok j))
+accepted_job (Err why) = Err why
 
 -- The job in some bytes, or refusal 1, 2, 6 or 7, tested in this order.
-unfoldable pub job_of : List ℕ → JobAnswer
+unfoldable pub job_of : List ℕ → Result Job Refusal
 job_of s = accepted_job (formed_job_of s)
 
--- How many places the readings of a chain allow in a job's window, or the number of the job's refusal (02, A2). The question itself
+-- How many places the readings of a chain allow in a job's window, or the job's refusal without a visit (02, A2). The question itself
 -- tests window and tolerance.
-unfoldable pub many_by : JobAnswer → Chain → List ℤ → HowMany
-many_by (answer.Job j) c readings = how_many_of (rule_of c readings j.tolerance) j.window j.allowance
-many_by (answer.Refused number) c readings = many.Refused number 0
+unfoldable pub many_by : Result Job Refusal → Chain → List ℤ → Result HowMany Stopped
+many_by (Ok j) c readings = how_many_of (rule_of c readings j.tolerance) j.window j.allowance
+many_by (Err why) c readings = Err (record { refusal = why; visits = 0 })
