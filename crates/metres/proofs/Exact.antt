@@ -33,10 +33,6 @@ of_exact (fin s m e) h is =
     ∙ ap₂ (λ (t : Bool) (n : ℕ). Some (signed t n)) (sym is.sign)
     (closest_same (hundredfold m e) (down e) h.parts (2 ^ h.halvings) (down_pos e) (pow_pos h.halvings) is.exact))
 
--- A hundredfold has fewer than 2 ^ 60 parts, so the rounded number is small as well.
-pub closest_few : (parts b : ℕ) → parts < 2 ^ 60 → closest parts b < 2 ^ 62
-closest_few parts b few = omega (arith, nearest-le (parts / b) (compare (parts % b * 2) b), div-le_self parts b)
-
 -- The hundredfold of a number that is n / d.
 pub hundredfold_value : (t s : Bool) (m n d : ℕ) (e : ℤ) → HasValue (fin t m e) s n d → hundredfold m e * d ≡ 100 * n * down e
 hundredfold_value t s m n d e v = mul_assoc 100 (m * up e) d ∙ ap (λ (y : ℕ). 100 * y) v.1 ∙ sym (mul_assoc 100 n (down e))

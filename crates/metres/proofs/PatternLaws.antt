@@ -10,11 +10,8 @@ use lib.Ieee.Bits.{of_bits-to_bits, to_bits-lt, to_bits-of_bits, nan_bits_is, na
 use borrow.Author.Tests.{ne_eqb}
 use Rattle.std.specs.Prelude.{Some, None, option_map}
 use Rattle.fields.proofs.FieldLaws.{put_answer}
+use Rattle.metres.specs.Metres.{plus_zero}
 use Rattle.metres.specs.Patterns.{number_of, pattern_of, is_plus_zero, number_at, put_number_at, ReadsThere}
-
--- A pattern is one of NaN exactly if, without its sign, it is above the pattern of infinity.
-pub nan_above : (pattern : ℕ) → is_nan (number_of pattern) ≡ ltb 0x7ff0_0000_0000_0000 (pattern % 2 ^ 63)
-nan_above pattern = sym (nan_bits_is binary64 pattern) ∙ nan_bits_above binary64 pattern
 
 -- There is only one NaN.
 pub only_nan : (x : Float) → is_nan x ≡ true → x ≡ nan
@@ -30,6 +27,11 @@ number_back x held = of_bits-to_bits binary64 x held
 -- A pattern comes back from its number, unless it is one of NaN.
 pub pattern_back : (pattern : ℕ) → pattern < 2 ^ 64 → is_nan (number_of pattern) ≡ false → pattern_of (number_of pattern) ≡ pattern
 pattern_back pattern small h = to_bits-of_bits binary64 pattern small (subst (λ (t : Bool). T (not t)) (sym h) tt)
+
+-- The pattern 0 is that of plus zero.
+pub zero_pattern : of_bits binary64 0 ≡ plus_zero
+unfolding of_bits
+zero_pattern = refl
 
 nan_pattern : eqb (pattern_of nan) 0 ≡ false
 unfolding to_bits

@@ -72,6 +72,20 @@ near_only a b c pos n =
     let m = closest_near a b pos in
     le_antisymm (le_of_suc-le-suc (lt_of_not-le (not_less a b d c pos m n))) (le_of_suc-le-suc (lt_of_not-le (not_less a b c d pos n m)))
 
+-- From the quotient and twice the remainder.
+module _ (a b : ℕ) (pos : 0 < b) where
+  only : (c : ℕ) → Near a b c → c ≡ closest a b
+  only c n = near_only a b c pos n
+
+  pub closest_below : a % b * 2 < b → a / b ≡ closest a b
+  closest_below h = only (a / b) (rest_less a b (a / b) (a % b) (div-add-mod' a b) h)
+
+  pub closest_above : b < a % b * 2 → a / b + 1 ≡ closest a b
+  closest_above h = only (a / b + 1) (rest_more a b (a / b) (a % b) (div-add-mod' a b) (mod-lt a pos) h)
+
+  pub closest_half : a % b * 2 ≡ b → a / b + a / b % 2 ≡ closest a b
+  closest_half h = only (a / b + a / b % 2) (rest_half a b (a / b) (a % b) (div-add-mod' a b) h)
+
 -- Fewer than 2 ^ 60 parts, of which at least 2 ^ 62 make one, are less than a half.
 pub none : (parts halvings : ℕ) → parts < 2 ^ 60 → 62 ≤ halvings → 0 ≡ closest parts (2 ^ halvings)
 none parts halvings few many =

@@ -58,6 +58,7 @@ impl Hundredfold {
     }
 
     // Its size to the nearest whole number, a tie going to the even one.
+    #[tactic(auto, using(crate::proofs::Rounding::none, crate::proofs::Rounding::closest_below, crate::proofs::Rounding::closest_above, crate::proofs::Rounding::closest_half))]
     fn rounded(self) -> u64
         ensures { result ≡ closest self.parts (2 ^ self.halvings) }
     {
@@ -78,6 +79,7 @@ impl Hundredfold {
     }
 
     // How many parts make n centimetres, where n is what the size was rounded to.
+    #[tactic(auto, using(crate::proofs::Rounding::none, crate::proofs::Rounding::parts_few))]
     fn scaled(self, n: u64) -> u64
         requires { n ≡ closest self.parts (2 ^ self.halvings) }
         ensures { result ≡ n * 2 ^ self.halvings }
@@ -91,6 +93,7 @@ impl Hundredfold {
 }
 
 // Where a size lies as seen from another, both with the same sign.
+#[tactic(auto, using(crate::proofs::MarkLaws::seen_minus))]
 fn side(minus: bool, size: u64, from: u64) -> Mark
     ensures { result ≡ seen_from (signed minus from) (signed minus size) }
 {
@@ -102,6 +105,7 @@ fn side(minus: bool, size: u64, from: u64) -> Mark
 }
 
 // Where a number lies as seen from another.
+#[tactic(auto, unfolding(crate::specs::Marks::seen_from))]
 fn compared(n: u64, from: u64) -> Mark
     ensures { result ≡ seen_from (pos from) (pos n) }
 {

@@ -45,6 +45,7 @@ pub const MOST_CENTIMETRES: u64 = 1_000_000_000;
 
 // A number of metres in whole centimetres: the nearest to exactly 100 times the number, a tie going to the even one. `None` for NaN,
 // an infinity and a size over 10,000,000: refusal 3.
+#[tactic(auto, unfolding(crate::specs::Marks::marked_of))]
 pub fn centimetres(x: f64) -> Option<i64>
     ensures { result ≡ centimetres_of x }
 {
@@ -52,6 +53,7 @@ pub fn centimetres(x: f64) -> Option<i64>
 }
 
 // The same, and how the number was rounded.
+#[tactic(auto, using(crate::proofs::MarkLaws::marked_exact, crate::proofs::MarkLaws::marked_refused))]
 pub fn marked(x: f64) -> MarkedWhole
     ensures { result ≡ marked_of x }
 {
@@ -73,6 +75,7 @@ pub fn is_rounded(mark: Mark) -> bool
 
 // A number of centimetres in metres: divided by 100 and rounded once. Read again, it gives the same centimetres. `None` for a size
 // over 1,000,000,000: refusal 3.
+#[tactic(auto, using(crate::proofs::Back::not_written))]
 pub fn metres(c: i64) -> Option<f64>
     ensures answer { result ≡ metres_of c }
     ensures back { ReadsBack c result }
@@ -106,6 +109,7 @@ pub fn whole_figures(w: Option<i64>) -> WholeFigures
 }
 
 // An answer in metres as figures.
+#[tactic(auto, using(crate::proofs::PatternLaws::zero_pattern), unfolding(crate::specs::Metres::length_figures))]
 pub fn length_figures(l: Option<f64>) -> LengthFigures
     ensures { result ≡ length_figures l }
 {
@@ -131,6 +135,7 @@ pub fn pattern_of(x: f64) -> u64
 }
 
 // Whether a number is plus zero, which eight zero bytes stand for, and not minus zero.
+#[tactic(auto, unfolding(crate::specs::Patterns::is_plus_zero))]
 pub fn is_plus_zero(x: f64) -> bool
     ensures { result ≡ is_plus_zero x }
 {
@@ -147,6 +152,7 @@ pub fn number_at(s: &[u8], at: usize) -> Option<f64>
 
 // Puts a number into the eight bytes of s from `at` on and answers true; if they are not all inside s, changes nothing and
 // answers false. What was put is read there again.
+#[tactic(auto, using(crate::proofs::PatternLaws::put_number_read))]
 pub fn put_number(s: &mut [u8], at: usize, x: f64) -> bool
     ensures answer { result ≡ inside 8 s.old at }
     ensures buffer { s.new ≡ put_number_at s.old at x }

@@ -48,9 +48,6 @@ digits_more n h =
     last_more n n h
     ∙ ap (λ (l : List ℕ). l ++ ((48 + n % 10) ∷ [])) (last_enough n (suc (n / 10)) (n / 10) (omega arith) (omega arith))
 
-pub digits_longer : (n : ℕ) → 10 ≤ n → length (digits_of n) ≡ length (digits_of (n / 10)) + 1
-digits_longer n h = ap length (digits_more n h) ∙ length-append (digits_of (n / 10)) _
-
 -- A number below 10^d, where d is at least 1, has at most d digits.
 pub digits_within : (places n : ℕ) → n < 10 ^ suc places → length (digits_of n) ≤ suc places
 digits_within zero n h = omega (arith, ap length (digits_few n h))

@@ -1,22 +1,12 @@
 -- Bytes in hexadecimal: two digits each; the digits of two lists joined are the digits of the first, then those of the second.
-use Prim.Native.Nat.{ℕ, ◌+◌, ◌*◌, ◌/◌, ◌%◌, ◌≤◌, ◌<◌}
+use Prim.Native.Nat.{ℕ, ◌+◌, ◌*◌, ◌/◌, ◌%◌, ◌<◌}
 use mathlib.Core.Path.{◌≡◌, refl, sym, ap, ◌∙◌}
 use mathlib.Core.List.{List, [], ◌∷◌, ◌++◌}
 use native.Mathlib.Omega.{arith}
 use native.Mathlib.Numerals.{add-one}
 use lib.ListN.{length, get_or, take}
 use lib.Seq.{take-suc}
-use borrow.Author.Tests.{lt-ltb, le-ltb}
 use Rattle.text.specs.Texts.{hex_digit, hex_of}
-
--- A digit is one of 0 to 9, or one of a to f.
-pub hex_few : (n : ℕ) → n < 10 → 48 + n ≡ hex_digit n
-unfolding hex_digit
-hex_few n h = rw (lt-ltb n 10 h) refl
-
-pub hex_letter : (n : ℕ) → 10 ≤ n → 87 + n ≡ hex_digit n
-unfolding hex_digit
-hex_letter n h = rw (le-ltb n 10 h) refl
 
 pub length_hex : (s : List ℕ) → length (hex_of s) ≡ 2 * length s
 unfolding hex_of

@@ -1,27 +1,28 @@
--- A whole number in decimal: the digits of its size, after a minus sign if it is below 0.
-use Prim.Native.Nat.{◌+◌, ◌^◌, ◌≤◌}
-use mathlib.Core.Path.{◌≡◌, refl}
-use mathlib.Core.Bool.{true, false, true≢false}
-use mathlib.Core.List.{◌∷◌}
+-- Numbers in decimal: the library writes the same text; and how long a whole number is.
+use Prim.Native.Nat.{ℕ, suc, ◌+◌, ◌%◌, ◌^◌, ◌≤◌, ◌<◌}
+use mathlib.Core.Path.{◌≡◌, sym, ap, ◌∙◌}
+use mathlib.Core.List.{List, [], ◌∷◌, ◌++◌}
 use native.Mathlib.Omega.{arith}
 use lib.IntN.{ℤ, pos, negsuc, nat_abs}
 use lib.ListN.{length}
-use lib.Signed.{lt_z}
-use borrow.Author.Tests.{ltb-true}
 use Rattle.text.specs.Texts.{digits_of, whole_text}
-use Rattle.text.proofs.Digits.{digits_within}
+use Rattle.std.specs.Fmt.{decimal, signed_decimal}
+use Rattle.std.proofs.lemmas.Fmt.{decimal_digit, decimal_step}
+use Rattle.text.proofs.Digits.{digits_few, digits_more, digits_within, by_digits}
 
-pub whole_below : (z : ℤ) → lt_z z (pos 0) ≡ true → 45 ∷ digits_of (nat_abs z) ≡ whole_text z
+-- The library writes the same digits.
+pub decimal_is : (n : ℕ) → n < 2 ^ 64 → decimal n ≡ digits_of n
+decimal_is =
+    by_digits (λ (n : ℕ). n < 2 ^ 64 → decimal n ≡ digits_of n)
+    (λ n h small. decimal_digit n h ∙ sym (digits_few n h))
+    (λ n h tenth small. decimal_step n h small ∙ ap (λ (l : List ℕ). l ++ ((48 + n % 10) ∷ [])) (tenth (omega arith)) ∙ sym (digits_more n h))
+
+pub signed_is : (z : ℤ) → nat_abs z < 2 ^ 64 → signed_decimal z ≡ whole_text z
 unfolding whole_text
-whole_below (pos n) e = absurd (omega (arith, ltb-true n 0 e))
-whole_below (negsuc n) e = refl
+signed_is (pos n) h = decimal_is n h
+signed_is (negsuc n) h = ap (λ (l : List ℕ). 45 ∷ l) (decimal_is (suc n) h)
 
-pub whole_above : (z : ℤ) → lt_z z (pos 0) ≡ false → digits_of (nat_abs z) ≡ whole_text z
-unfolding whole_text
-whole_above (pos n) e = refl
-whole_above (negsuc n) e = absurd (true≢false e)
-
--- So it has at most one byte more than its size has digits: at most twenty in all for a number of 64 bits.
+-- A whole number has at most one byte more than its size has digits: at most twenty in all for a number of 64 bits.
 pub whole_within : (z : ℤ) → length (whole_text z) ≤ 1 + length (digits_of (nat_abs z))
 unfolding whole_text
 whole_within (pos n) = omega arith

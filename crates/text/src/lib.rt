@@ -6,7 +6,10 @@ ghost use Rattle.std.specs.Prelude.{◌≡◌, ◌∷◌, [], ◌+◌, ◌*◌, 
 ghost use Rattle.text.specs.Texts.{digits_of, flag_text, whole_text, hex_digit, hex_of};
 ghost use Rattle.text.specs.Puts.{end_after, with_text, Put};
 
+use itoa::Buffer;
+
 // Puts some bytes, as they are.
+#[tactic(auto, unfolding(crate::specs::Puts::end_after, crate::specs::Puts::with_text))]
 pub fn put(out: &mut [u8], at: usize, s: &[u8]) -> usize
     ensures end { result ≡ end_after (length out.old) at s.now }
     ensures out { out.new ≡ with_text out.old at s.now }
@@ -18,29 +21,27 @@ pub fn put(out: &mut [u8], at: usize, s: &[u8]) -> usize
 }
 
 // Puts a number in decimal.
+#[tactic(auto, using(crate::proofs::WholeLaws::decimal_is))]
 pub fn put_number(out: &mut [u8], at: usize, n: u64) -> usize
     ensures end { result ≡ end_after (length out.old) at (digits_of n) }
     ensures out { out.new ≡ with_text out.old at (digits_of n) }
 {
-    if !fields::lies_inside(out.len(), at, digit_count(n)) {
-        return at;
-    }
-    put_digits(out, at, n)
+    let mut digits = Buffer::new();
+    put(out, at, digits.format(n).as_bytes())
 }
 
 // Puts a whole number in decimal, one below 0 with a minus sign.
+#[tactic(auto, using(crate::proofs::WholeLaws::signed_is))]
 pub fn put_whole(out: &mut [u8], at: usize, z: i64) -> usize
     ensures end { result ≡ end_after (length out.old) at (whole_text z) }
     ensures out { out.new ≡ with_text out.old at (whole_text z) }
 {
-    if z < 0 {
-        put_below(out, at, z.unsigned_abs())
-    } else {
-        put_number(out, at, z.unsigned_abs())
-    }
+    let mut digits = Buffer::new();
+    put(out, at, digits.format(z).as_bytes())
 }
 
 // Puts a space, then 1 if something is so, 0 if not.
+#[tactic(auto, unfolding(crate::specs::Texts::flag_text, crate::specs::Texts::bytes_in))]
 pub fn put_flag(out: &mut [u8], at: usize, so: bool) -> usize
     ensures end { result ≡ end_after (length out.old) at (flag_text so) }
     ensures out { out.new ≡ with_text out.old at (flag_text so) }
@@ -53,6 +54,7 @@ pub fn put_flag(out: &mut [u8], at: usize, so: bool) -> usize
 }
 
 // Puts bytes in hexadecimal, two digits each.
+#[tactic(auto, using(crate::proofs::HexLaws::length_hex), unfolding(crate::specs::Puts::end_after, crate::specs::Puts::with_text))]
 pub fn put_bytes(out: &mut [u8], at: usize, s: &[u8]) -> usize
     ensures end { result ≡ end_after (length out.old) at (hex_of s.now) }
     ensures out { out.new ≡ with_text out.old at (hex_of s.now) }
@@ -76,43 +78,6 @@ fn put_all(out: &mut [u8], at: usize, s: &[u8]) -> usize
     at + s.len()
 }
 
-// How many digits a number has.
-fn digit_count(n: u64) -> usize
-    ensures { (result ≡ length (digits_of n)) × (result ≤ 20) }
-{
-    let mut count = 1;
-    let mut rest = n;
-    while rest >= 10 {
-        count += 1;
-        rest /= 10;
-    }
-    count
-}
-
-// Puts a number in decimal, starting with its first digit.
-fn put_digits(out: &mut [u8], at: usize, n: u64) -> usize
-    requires { at + length (digits_of n) ≤ length out.old }
-    ensures { Put out.old at (digits_of n) out.new result }
-{
-    if n < 10 {
-        return put_one(out, at, b'0' + n as u8);
-    }
-    let a = put_digits(out, at, n / 10);
-    put_one(out, a, b'0' + (n % 10) as u8)
-}
-
-// Puts a minus sign, then a number.
-fn put_below(out: &mut [u8], at: usize, size: u64) -> usize
-    ensures end { result ≡ end_after (length out.old) at (45 ∷ digits_of size) }
-    ensures out { out.new ≡ with_text out.old at (45 ∷ digits_of size) }
-{
-    if !fields::lies_inside(out.len(), at, 1 + digit_count(size)) {
-        return at;
-    }
-    let a = put_one(out, at, b'-');
-    put_digits(out, a, size)
-}
-
 fn put_hex(out: &mut [u8], at: usize, s: &[u8]) -> usize
     requires { at + 2 * length s.now ≤ length out.old }
     ensures { Put out.old at (hex_of s.now) out.new result }
@@ -125,14 +90,15 @@ fn put_hex(out: &mut [u8], at: usize, s: &[u8]) -> usize
 }
 
 // Puts the two hexadecimal digits of a byte.
+#[tactic(auto, unfolding(crate::specs::Texts::hex_of))]
 fn put_pair(out: &mut [u8], at: usize, b: u8) -> usize
     requires { at + 2 ≤ length out.old }
     ensures { Put out.old at (hex_of (b ∷ [])) out.new result }
 {
-    let a = put_one(out, at, hex_digit(b / 16));
-    put_one(out, a, hex_digit(b % 16))
+    put_all(out, at, &[hex_digit(b / 16), hex_digit(b % 16)])
 }
 
+#[tactic(auto, unfolding(crate::specs::Texts::hex_digit))]
 fn hex_digit(half: u8) -> u8
     requires { half < 16 }
     ensures { result ≡ hex_digit half }
@@ -142,12 +108,4 @@ fn hex_digit(half: u8) -> u8
     } else {
         b'a' - 10 + half
     }
-}
-
-fn put_one(out: &mut [u8], at: usize, b: u8) -> usize
-    requires { at < length out.old }
-    ensures { Put out.old at (b ∷ []) out.new result }
-{
-    out[at] = b;
-    at + 1
 }
