@@ -9,12 +9,9 @@ use lib.Dec.{T}
 use mir.Syntax.{w32}
 use mir.Val.{Fits}
 use Rattle.std.specs.Int.{FitsUnsignedBits}
-use Rattle.std.specs.Prelude.{Ok, Err}
-use Rattle.refusals.specs.declared.Refusal.TheVariants as refusal
 use Rattle.chart.specs.Places.{most_easting, most_northing, in_range}
 use Rattle.chart.proofs.PlaceLaws.{in_range_says, too_far_east, too_far_north}
-use Rattle.records.specs.declared.LogEntry.TheVariants as entry
-use Rattle.records.specs.LogRecords.{is_place, placed}
+use Rattle.records.specs.LogRecords.{is_place}
 
 -- Two numbers that fit the fields of a place are one if it is in range.
 pub fits_place : (x y : ℤ) → FitsUnsignedBits 32 x → FitsUnsignedBits 32 y → is_place x y ≡ in_range (record { easting = nat_abs x; northing = nat_abs y })
@@ -54,12 +51,3 @@ unfolding is_place
 northing_fits x (pos n) h = (tt, omega (arith, place_small x (pos n) h))
 northing_fits (pos e) (negsuc n) h = absurd (true≢false (sym h))
 northing_fits (negsuc e) (negsuc n) h = absurd (true≢false (sym h))
-
--- What a grid record answers.
-pub placed_4 : (x y : ℤ) → is_place x y ≡ false → placed x y ≡ Err refusal.Place
-unfolding placed
-placed_4 x y h = rw h
-
-pub placed_there : (x y : ℤ) → is_place x y ≡ true → placed x y ≡ Ok (entry.Place (record { easting = nat_abs x; northing = nat_abs y }))
-unfolding placed
-placed_there x y h = rw h

@@ -375,7 +375,7 @@ fn readings(both: Option<(i64, i64)>) -> Result<LogEntry, Refusal>
     Ok(LogEntry::Readings { a, b })
 }
 
-#[tactic(auto, unfolding(crate::specs::LogRecords::placed))]
+#[tactic(auto, using(crate::proofs::GridLaws::easting_fits, crate::proofs::GridLaws::northing_fits), unfolding(crate::specs::LogRecords::placed))]
 fn place(both: Option<(i64, i64)>) -> Result<LogEntry, Refusal>
     ensures { result ≡ with_pair placed both }
 {
@@ -393,7 +393,7 @@ fn place(both: Option<(i64, i64)>) -> Result<LogEntry, Refusal>
 fn is_table(s: &[u8]) -> bool
     ensures { result ≡ is_table s.now }
 {
-    s.len() % CHAIN_BYTES == 0 && s.len() != 0 && s.len() / CHAIN_BYTES <= MOST_CHAINS
+    s.len() % CHAIN_BYTES == 0 && !s.is_empty() && s.len() / CHAIN_BYTES <= MOST_CHAINS
 }
 
 // The chain with i others before it.
@@ -426,6 +426,7 @@ fn place_at(s: &[u8], at: usize) -> Place
     }
 }
 
+#[tactic(auto, using(crate::proofs::ReadLaws::eight_inside))]
 fn job_in(s: &[u8; JOB_BYTES]) -> Job
     ensures { result ≡ job_in s.now }
 {
@@ -435,7 +436,7 @@ fn job_in(s: &[u8; JOB_BYTES]) -> Job
             k: u32::from(s[8]),
         },
         tolerance: four(s, 12),
-        allowance: eight(s, 16),
+        allowance: fields::eight_at(s, 16).unwrap(),
     }
 }
 
@@ -454,17 +455,10 @@ fn four(s: &[u8], at: usize) -> u32
     fields::four_at(s, at).unwrap()
 }
 
-#[tactic(auto, using(crate::proofs::ReadLaws::eight_inside))]
-fn eight(s: &[u8], at: usize) -> u64
-    requires { at + 8 ≤ length s.now }
-    ensures { result ≡ field_at 8 s.now at }
-{
-    fields::eight_at(s, at).unwrap()
-}
-
+#[tactic(auto, using(crate::proofs::ReadLaws::eight_inside), unfolding(metres::specs::Patterns::number_at))]
 fn number(s: &[u8], at: usize) -> f64
     requires { at + 8 ≤ length s.now }
     ensures { result ≡ number_in s.now at }
 {
-    metres::number_of(eight(s, at))
+    metres::number_at(s, at).unwrap()
 }
