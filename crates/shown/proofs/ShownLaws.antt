@@ -7,30 +7,40 @@ use native.Mathlib.Omega.{arith}
 use borrow.Author.Tests.{ltb-true, leb-true, leb-false, le-leb, lt-leb, eq-eqb, ne_eqb}
 use lib.Dec.{leb}
 use lib.IntN.{ℤ, pos, negsuc, nat_abs}
-use lib.ListN.{length, drop, drop_of_length-le}
+use lib.ListN.{length, drop, drop_of_length-le, length-append}
 use lib.Signed.{lt_z}
+use Rattle.std.specs.Prelude.{Result, Ok, Err}
+use Rattle.refusals.specs.declared.Refusal.{Refusal}
+use Rattle.refusals.specs.declared.Refusal.TheVariants as refusal
 use Rattle.fields.specs.Fields.{bytes_of, put_at}
 use Rattle.fields.proofs.FieldLaws.{put_inside}
 use Rattle.metres.specs.Metres.{most_centimetres}
-use Rattle.chart.specs.declared.Place.{Place}
-use Rattle.chart.specs.Places.{in_range}
-use Rattle.chart.specs.Readings.{NoneFor}
-use Rattle.records.specs.declared.ChainCount.TheVariants.{Chains}
-use Rattle.records.specs.ChainTables.{chain_of}
 use Rattle.writing.specs.Writing.{metres_bytes}
 use Rattle.text.specs.Texts.{spaced, figures_text, hex_of, bytes_in, flag_text}
-use Rattle.text.proofs.PutLaws.{put_none}
-use Rattle.shown.specs.declared.Line.TheVariants.{Text, Refused}
+use Rattle.text.specs.Puts.{end_after, with_text}
+use Rattle.text.proofs.PutLaws.{put_none, put_both, put_from}
 use Rattle.shown.specs.Fields.{hex_text, refused_text, sign_text, decimal_text, metres_text}
-use Rattle.shown.specs.Expected.{by_chain, by_table, is_rounded_back, written_text}
-use Rattle.shown.specs.Rooms.{Reply, Says, line_for, buffer_for, has_line_room, in_room, Puts}
+use Rattle.shown.specs.Expected.{is_rounded_back, written_text}
+use Rattle.shown.specs.Rooms.{line_for, buffer_for, has_line_room, Puts, IsShown}
 
--- Putting no text, and putting an equal text.
-pub puts_none : (o : List ℕ) (at : ℕ) → Puts o at [] o at
-puts_none o at room = put_none o at (omega (arith, room))
+-- Putting no text, an equal text, and a text that may be longer.
+pub puts_none : (o : List ℕ) (at most : ℕ) → Puts o at [] most o at
+puts_none o at most = record { put = λ room. put_none o at (omega (arith, room)); few = omega arith }
 
-pub puts_as : {o : List ℕ} {at : ℕ} {x y o' : List ℕ} {end : ℕ} → x ≡ y → Puts o at x o' end → Puts o at y o' end
-puts_as {o} {at} {x} {y} {o'} {end} e p = subst (λ (z : List ℕ). Puts o at z o' end) e p
+pub puts_as : {o : List ℕ} {at : ℕ} {x y : List ℕ} {most : ℕ} {o' : List ℕ} {end : ℕ} → x ≡ y → Puts o at x most o' end → Puts o at y most o' end
+puts_as {o} {at} {x} {y} {most} {o'} {end} e p = subst (λ (z : List ℕ). Puts o at z most o' end) e p
+
+pub puts_few : {o : List ℕ} {at : ℕ} {x : List ℕ} {some most : ℕ} {o' : List ℕ} {end : ℕ} → Puts o at x some o' end → some ≤ most → Puts o at x most o' end
+puts_few p h = record { put = p.put; few = omega (arith, p.few, h) }
+
+-- What the functions of `text` put.
+pub puts_put : {o : List ℕ} {at : ℕ} {x o' : List ℕ} {end : ℕ} → end ≡ end_after (length o) at x → o' ≡ with_text o at x → Puts o at x (length x) o' end
+puts_put e f = record { put = put_from (e, f); few = omega arith }
+
+-- One text after the other.
+pub puts_both : {o : List ℕ} {at : ℕ} {x : List ℕ} {some : ℕ} {o' : List ℕ} {end : ℕ} {y : List ℕ} {more : ℕ} {o'' : List ℕ} {end' : ℕ} →
+    Puts o at x some o' end → Puts o' end y more o'' end' → Puts o at (x ++ y) (some + more) o'' end'
+puts_both {x = x} {y = y} p q = record { put = put_both p.put q.put; few = omega (arith, length-append x y, p.few, q.few) }
 
 -- Bytes in hexadecimal: when there are none, and when there are some.
 pub hex_none : (s : List ℕ) → length s ≡ 0 → hex_text s ≡ []
@@ -49,15 +59,6 @@ put_filled width s n h =
     put_inside width s 0 n (le-leb (0 + width) (length s) (omega (arith, h)))
     ∙ ap (λ (rest : List ℕ). bytes_of width n ++ rest) (drop_of_length-le s {i = 0 + width} (omega (arith, h)))
     ∙ append-nil (bytes_of width n)
-
--- The readings when the table is accepted: for a place out of range, and for one in range.
-pub far_away : (n : ℕ) (table scale : List ℕ) (chain : ℕ) (p : Place) → in_range p ≡ false → NoneFor 4 ≡ by_table (Chains n) table scale chain p
-unfolding by_table
-far_away n table scale chain p e = rw (e)
-
-pub on_grid : (n : ℕ) (table scale : List ℕ) (chain : ℕ) (p : Place) → in_range p ≡ true → by_chain (chain_of table scale chain) p ≡ by_table (Chains n) table scale chain p
-unfolding by_table
-on_grid n table scale chain p e = rw (e)
 
 -- Centimetres as metres: below 0, and otherwise.
 pub metres_below : (z : ℤ) → lt_z z (pos 0) ≡ true → 45 ∷ decimal_text (nat_abs z) ≡ metres_text z
@@ -97,19 +98,59 @@ unfolding refused_text figures_text
 refused_some number s h =
     rw (ne_eqb number 0 h) (ap (λ (x : List ℕ). bytes_in " REFUSED" ++ (x ++ hex_text s)) (append-nil (spaced number)))
 
--- What is returned with room for the line, and without.
-pub with_room : (bytes count : ℕ) (reply : Reply) → has_line_room bytes count ≡ true → reply ≡ in_room bytes count reply
-with_room bytes count reply room = rw (room)
-
-pub without_room : (o : List ℕ) (count : ℕ) (reply : Reply) → has_line_room (length o) count ≡ false →
-    (Refused 9 ≡ line_for (in_room (length o) count reply)) × (o ≡ buffer_for o (in_room (length o) count reply))
+-- With room for the line, and without.
+pub line_shown : {o : List ℕ} (count : ℕ) {x : List ℕ} {most : ℕ} {o' : List ℕ} {end : ℕ} → has_line_room (length o) count ≡ true → Puts o 0 x most o' end → most ≤ 208 + 2 * count →
+    IsShown o count (Ok x) (Ok end) o'
 unfolding line_for buffer_for
-without_room o count reply none = (rw (none), rw (none))
-
-pub answered : (o : List ℕ) (count : ℕ) (x : List ℕ) {o' : List ℕ} {end : ℕ} → has_line_room (length o) count ≡ true → Puts o 0 x o' end → length x ≤ 208 + 2 * count →
-    (Text end ≡ line_for (in_room (length o) count (Says x))) × (o' ≡ buffer_for o (in_room (length o) count (Says x)))
-unfolding line_for buffer_for
-answered o count x {o'} {end} room p few =
-    let put = p (omega (arith, leb-true (208 + 2 * count) (length o) room, few)) in
+line_shown {o} count {x} {most} {o'} {end} room p few =
+    let put = p.put (omega (arith, leb-true (208 + 2 * count) (length o) room, p.few, few)) in
     let none : 0 + length x ≡ length x = omega arith in
-    (rw (room) (ap Text (put.end_is ∙ none)), rw (room) (put.now_is ∙ ap (λ (n : ℕ). x ++ drop n o) none))
+    record { answer_is = rw (room) (ap Ok (put.end_is ∙ none)); now_is = rw (room) (put.now_is ∙ ap (λ (n : ℕ). x ++ drop n o) none) }
+
+pub none_shown : (o : List ℕ) (count : ℕ) (reply : Result (List ℕ) Refusal) → has_line_room (length o) count ≡ false → IsShown o count reply (Err refusal.NoRoom) o
+unfolding line_for buffer_for
+none_shown o count reply none = record { answer_is = rw (none); now_is = rw (none) }
+
+-- With room, a refusal leaves the buffer as it was.
+pub refusal_shown : (o : List ℕ) (count : ℕ) {why : Refusal} {reply : Result (List ℕ) Refusal} → has_line_room (length o) count ≡ true → Err why ≡ reply → IsShown o count reply (Err why) o
+unfolding line_for buffer_for
+refusal_shown o count room e = record { answer_is = rw (room) (ap line_for e); now_is = rw (room) (ap (buffer_for o) e) }
+
+-- What is shown for a reply is shown for an equal one.
+pub shown_as : {o : List ℕ} {count : ℕ} {reply reply' : Result (List ℕ) Refusal} {r : Result ℕ Refusal} {o' : List ℕ} → reply ≡ reply' → IsShown o count reply r o' → IsShown o count reply' r o'
+shown_as {o} {count} {reply} {reply'} {r} {o'} e shown = subst (λ (x : Result (List ℕ) Refusal). IsShown o count x r o') e shown
+
+-- Where a line's word was put, there is room for the line; else the line is refused too.
+pub begun : {o : List ℕ} {count : ℕ} {word : List ℕ} {r : Result ℕ Refusal} {o' : List ℕ} {a : ℕ} → r ≡ Ok a → IsShown o count (Ok word) r o' →
+    (has_line_room (length o) count ≡ true) × Puts o 0 word (length word) o' a
+unfolding line_for buffer_for
+begun {o} {count} {word} {r} {o'} {a} is shown = go (has_line_room (length o) count) refl
+  where
+    go : (t : Bool) → has_line_room (length o) count ≡ t → (has_line_room (length o) count ≡ true) × Puts o 0 word (length word) o' a
+    go true room =
+        let none : length word ≡ 0 + length word = omega arith in
+        let answer : r ≡ Ok (length word) = rw room at shown.answer_is in
+        let end : a ≡ length word = cc in (
+          room,
+          record {
+            put = λ fits. record { fits = fits; end_is = end ∙ none; now_is = (rw room at shown.now_is) ∙ ap (λ (n : ℕ). word ++ drop n o) none };
+            few = omega arith;
+          },
+        )
+    go false none =
+        let answer : r ≡ Err refusal.NoRoom = rw none at shown.answer_is in
+        absurd (cc)
+
+pub not_begun : {o : List ℕ} {count : ℕ} {word : List ℕ} {r r' : Result ℕ Refusal} {o' : List ℕ} {why : Refusal} (reply : Result (List ℕ) Refusal) →
+    r ≡ Err why → (e : Refusal) × (r' ≡ Err e) × (e ≡ why) → IsShown o count (Ok word) r o' → IsShown o count reply r' o'
+unfolding line_for buffer_for
+not_begun {o} {count} {word} {r} {r'} {o'} {why} reply was passed shown = go (has_line_room (length o) count) refl
+  where
+    same : r' ≡ r
+    same = cc (was, passed.1, passed.2)
+
+    go : (t : Bool) → has_line_room (length o) count ≡ t → IsShown o count reply r' o'
+    go true room =
+        let answer : r ≡ Ok (length word) = rw room at shown.answer_is in
+        absurd (cc (was, answer))
+    go false none = record { answer_is = rw none (same ∙ (rw none at shown.answer_is)); now_is = rw none (rw none at shown.now_is) }

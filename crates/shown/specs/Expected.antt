@@ -1,32 +1,31 @@
 -- The readings expected at a place, as text (docs/FORMATS.md, Text; 01, Numbers of refusal: "4 precedes 5").
-use Rattle.std.specs.Prelude.{ℕ, suc, Bool, cond, List, [], ◌∷◌, ◌++◌, leb, ℤ, nat_abs}
+use Rattle.std.specs.Prelude.{ℕ, suc, Bool, cond, List, [], ◌∷◌, ◌++◌, leb, ℤ, nat_abs, Result, Ok, Err}
+use Rattle.refusals.specs.declared.Refusal.{Refusal}
+use Rattle.refusals.specs.declared.Refusal.TheVariants as refusal
 use Rattle.metres.specs.Metres.{most_centimetres}
 use Rattle.metres.specs.Marks.{mark_of, is_rounded}
+use Rattle.chart.specs.declared.Chain.{Chain}
 use Rattle.chart.specs.declared.Place.{Place}
 use Rattle.chart.specs.Places.{in_range}
-use Rattle.chart.specs.Readings.{Expectation, NoneFor, expected_at}
-use Rattle.records.specs.declared.ChainCount.{ChainCount}
-use Rattle.records.specs.declared.ChainCount.TheVariants as count
-use Rattle.records.specs.declared.NamedChain.{NamedChain}
-use Rattle.records.specs.declared.NamedChain.TheVariants as named
+use Rattle.chart.specs.Readings.{expected_at}
 use Rattle.records.specs.Bytes.{unless}
 use Rattle.records.specs.ChainTables.{scaled_count_of, chain_of}
 use Rattle.writing.specs.Writing.{in_metres, metres_bytes}
 use Rattle.text.specs.Texts.{whole_text, hex_of, bytes_in, flag_text}
 use Rattle.shown.specs.Fields.{metres_text}
 
--- The readings for the chain that was named, or the number of its refusal.
-unfoldable pub by_chain : NamedChain → Place → Expectation
-by_chain (named.Chain c) p = expected_at c p
-by_chain (named.Refused number) p = NoneFor number
+-- The readings for the chain that was named, or why it is refused.
+unfoldable pub by_chain : Result Chain Refusal → Place → Result (List ℤ) Refusal
+by_chain (Ok c) p = expected_at c p
+by_chain (Err why) p = Err why
 
 -- The refusals in their order: 1 for the table and its side file, then 4 for the place, then 5 for the chain. If none applies, the
 -- readings.
-unfoldable pub by_table : ChainCount → List ℕ → List ℕ → ℕ → Place → Expectation
-by_table (count.Refused number) table scale chain p = NoneFor number
-by_table (count.Chains n) table scale chain p = unless (in_range p) (NoneFor 4) (by_chain (chain_of table scale chain) p)
+unfoldable pub by_table : Result ℕ Refusal → List ℕ → List ℕ → ℕ → Place → Result (List ℤ) Refusal
+by_table (Err why) table scale chain p = Err why
+by_table (Ok n) table scale chain p = unless (in_range p) (Err refusal.Place) (by_chain (chain_of table scale chain) p)
 
-abbrev pub expected_in : List ℕ → List ℕ → ℕ → Place → Expectation
+abbrev pub expected_in : List ℕ → List ℕ → ℕ → Place → Result (List ℤ) Refusal
 expected_in table scale chain p = by_table (scaled_count_of table scale) table scale chain p
 
 -- Whether the number that is written for a reading is rounded when it is read back (02, A1).

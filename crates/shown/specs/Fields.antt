@@ -1,14 +1,12 @@
 -- The fields of the lines that show records and expected readings (docs/FORMATS.md, Text).
-use Rattle.std.specs.Prelude.{ℕ, ◌+◌, ◌/◌, ◌%◌, cond, List, [], ◌∷◌, ◌++◌, eqb, ℤ, pos, negsuc, nat_abs, Float}
+use Rattle.std.specs.Prelude.{ℕ, ◌+◌, ◌/◌, ◌%◌, cond, List, [], ◌∷◌, ◌++◌, eqb, ℤ, pos, negsuc, nat_abs, Float, Option, Some, None}
 use Rattle.text.specs.Texts.{digits_of, spaced, whole_text, hex_of, bytes_in}
-use Rattle.metres.specs.declared.Whole.{Whole}
-use Rattle.metres.specs.declared.Whole.TheVariants as whole
 use Rattle.metres.specs.Metres.{centimetres_of}
 
 -- A number of metres in whole centimetres, or a dash if it is refused.
-unfoldable pub whole_or : Whole → List ℕ
-whole_or (whole.Centimetres z) = whole_text z
-whole_or whole.Refused = bytes_in "-"
+unfoldable pub whole_or : Option ℤ → List ℕ
+whole_or (Some z) = whole_text z
+whole_or None = bytes_in "-"
 
 abbrev pub centimetres_text : Float → List ℕ
 centimetres_text x = 32 ∷ whole_or (centimetres_of x)

@@ -14,5 +14,5 @@ returns c =
     let z = to_z-of_z w64 c.args.z c.ranges.z in
     let number = c.length_figures-f.ensures ∙ ap length_figures (c.metres.ensures.answer ∙ ap metres_of z) in
     c.is_rounded.ensures
-    ∙ ap (λ (m : MarkedWhole). is_rounded m.mark) c.marked-m.ensures
+    ∙ ap (λ (m : MarkedWhole). is_rounded m.mark) c.marked.ensures
     ∙ ap (λ (f : LengthFigures). is_rounded (mark_of f.metres)) number

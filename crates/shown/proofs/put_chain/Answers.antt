@@ -1,14 +1,9 @@
 -- `shown::put_chain` meets its contract: the number, the stations and the factor, or nothing.
-use Prim.Native.Nat.{ℕ, ◌≤◌}
-use mathlib.Core.Path.{◌≡◌, sym, ap, ◌∙◌, subst}
-use mathlib.Core.List.{List, ◌∷◌}
+use mathlib.Core.Path.{◌≡◌, sym, ap, ◌∙◌}
 use native.Mathlib.Omega.{arith}
-use lib.ListN.{length, length-append}
 use Rattle.records.specs.ChainTables.{raw_chain_of}
-use Rattle.text.specs.Texts.{figures_text}
-use Rattle.text.proofs.PutLaws.{put_both}
-use Rattle.shown.specs.Lines.{station_figures, factor_text, chain_fields, chain_text}
-use Rattle.shown.proofs.ShownLaws.{puts_none, puts_as}
+use Rattle.shown.specs.Lines.{chain_fields, chain_text}
+use Rattle.shown.proofs.ShownLaws.{puts_none, puts_as, puts_few, puts_both}
 use Rattle.shown.proofs.put_chain.Goals.{After-raw_chain}
 use Rattle.shown.proofs.put_chain.Goals as goal
 
@@ -18,15 +13,16 @@ read c =
     let a = c.args in
     ap (chain_fields a.scale.now a.number) (c.raw_chain.ensures ∙ ap (raw_chain_of a.s.now) c.factor_or.ensures)
 
-pub returns-in-Chain : goal.returns-in-Chain
+pub returns-in-Ok : goal.returns-in-Ok
 unfolding chain_fields
-returns-in-Chain c =
+returns-in-Ok c =
     let a = c.args in
-    let text = ap (chain_fields a.scale.now a.number) (sym c.in-Chain.is) ∙ read (goal.at.returns-in-Chain c).After-raw_chain in record { text = puts_as text (put_both c.put_stations-end.ensures.text c.put_factor.ensures.text); few = subst (λ (x : List ℕ). length x ≤ 168) text (omega (arith, length-append (figures_text (a.number ∷ station_figures c.in-Chain.c)) (factor_text a.scale.now a.number), c.put_stations-end.ensures.few, c.put_factor.ensures.few)) }
+    let text = ap (chain_fields a.scale.now a.number) (sym c.in-Ok.is) ∙ read (goal.at.returns-in-Ok c).After-raw_chain in
+    puts_few (puts_as text (puts_both c.put_stations-end.ensures c.put_factor.ensures)) (omega arith)
 
-pub returns-in-Refused : goal.returns-in-Refused
+pub returns-in-Err : goal.returns-in-Err
 unfolding chain_fields
-returns-in-Refused c =
+returns-in-Err c =
     let a = c.args in
-    let text = ap (chain_fields a.scale.now a.number) (sym c.in-Refused.is) ∙ read (goal.at.returns-in-Refused c).After-raw_chain in
-    record { text = puts_as text (puts_none a.out.now a.at); few = subst (λ (x : List ℕ). length x ≤ 168) text (omega arith) }
+    let text = ap (chain_fields a.scale.now a.number) (sym c.in-Err.is) ∙ read (goal.at.returns-in-Err c).After-raw_chain in
+    puts_as text (puts_none a.out.now a.at _)

@@ -1,8 +1,7 @@
 -- `shown::put_number_bytes` meets its contract: a number put into eight bytes leaves exactly its own bytes there.
-use mathlib.Core.Path.{◌≡◌, ap, ◌∙◌}
+use mathlib.Core.Path.{ap, ◌∙◌}
 use native.Mathlib.Omega.{arith}
 use mir.Syntax.{w64}
-use mir.Val.{to_z, of_z}
 use mir.ValLaws.{to_z-of_z}
 use Rattle.fields.specs.Fields.{bytes_of}
 use Rattle.fields.proofs.FieldLaws.{length_bytes}
@@ -12,17 +11,13 @@ use Rattle.metres.specs.Patterns.{pattern_of}
 use Rattle.writing.specs.Writing.{in_metres, metres_bytes}
 use Rattle.text.specs.Texts.{hex_of}
 use Rattle.text.proofs.HexLaws.{length_hex}
-use Rattle.text.proofs.PutLaws.{put_from}
-use Rattle.shown.proofs.ShownLaws.{puts_as, put_filled}
-use Rattle.shown.proofs.put_number_bytes.Goals.{Start}
+use lib.ListN.{length}
+use Rattle.shown.proofs.ShownLaws.{puts_as, puts_few, puts_put, put_filled}
 use Rattle.shown.proofs.put_number_bytes.Goals as goal
-
--- Read back from its 64 bits, the argument is the same.
-same : (c : Start) → to_z w64 (of_z w64 c.args.z) ≡ c.args.z
-same c = to_z-of_z w64 c.args.z c.ranges.z
 
 pub returns : goal.returns
 returns c =
     let z = c.args.z in
-    let metres = c.length_figures-f.ensures ∙ ap length_figures (c.metres.ensures.answer ∙ ap metres_of (same (goal.at.returns c).Start)) in
-    let text = ap hex_of (c.put_number.ensures.buffer ∙ put_filled 8 _ _ (omega arith) ∙ ap (λ (f : LengthFigures). bytes_of 8 (pattern_of f.metres)) metres) in record { text = puts_as text (put_from (c.put_bytes.ensures.end, c.put_bytes.ensures.out)); few = omega (arith, length_hex (metres_bytes z), length_bytes 8 (pattern_of (in_metres z))) }
+    let metres = c.length_figures-f.ensures ∙ ap length_figures (c.metres.ensures.answer ∙ ap metres_of (to_z-of_z w64 z c.ranges.z)) in
+    let text = ap hex_of (c.put_number.ensures.buffer ∙ put_filled 8 _ _ (omega arith) ∙ ap (λ (f : LengthFigures). bytes_of 8 (pattern_of f.metres)) metres) in
+    puts_few (puts_as text (puts_put c.put_bytes.ensures.end c.put_bytes.ensures.out)) (omega (arith, ap length text, length_hex (metres_bytes z), length_bytes 8 (pattern_of (in_metres z))))
