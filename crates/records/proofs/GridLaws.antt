@@ -8,6 +8,7 @@ use lib.Signed.{non_neg}
 use lib.Dec.{T}
 use mir.Syntax.{w32}
 use mir.Val.{Fits}
+use mir.ValLaws.{to_z-of_z}
 use Rattle.std.specs.Int.{FitsUnsignedBits}
 use Rattle.chart.specs.Places.{most_easting, most_northing, in_range}
 use Rattle.chart.proofs.PlaceLaws.{in_range_says, too_far_east, too_far_north}
@@ -32,6 +33,9 @@ unfolding is_place
 no_northing (pos e) (pos n) h = too_far_north _ (omega (arith, h))
 no_northing (pos e) (negsuc n) h = refl
 no_northing (negsuc e) y h = refl
+
+-- All three, of numbers as the machine reads them back from their bits.
+pub ruleset place_or_none = (to_z-of_z, fits_place, no_easting, no_northing)
 
 -- A place's numbers are small.
 pub place_small : (x y : ℤ) → is_place x y ≡ true → (nat_abs x ≤ most_easting) × (nat_abs y ≤ most_northing)

@@ -50,6 +50,8 @@ pub refused_marked : (why : Refusal) → marked_as (Err why) Equal Equal ≡ wit
 unfolding marked_as with_marks_of marks_of in_centimetres numbers_used is_accepted
 refused_marked why = refl
 
+pub ruleset all_marked = (readings_marked, place_marked, hold_marked, refused_marked)
+
 -- Of the two marks of a record one is that of a rounded number exactly if one of its numbers was rounded.
 two_rounded : (t : Bool) (x y : Mark) → let marks = cond t (x ∷ y ∷ []) [] in any_rounded (get_or marks 0 Equal ∷ get_or marks 1 Equal ∷ []) ≡ any_rounded marks
 unfolding any_rounded is_rounded

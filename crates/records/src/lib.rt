@@ -107,7 +107,7 @@ pub fn log_entry(s: &[u8]) -> Result<LogEntry, Refusal>
 }
 
 // The same, and how its numbers were rounded.
-#[tactic(auto, using(crate::proofs::MarkLaws::readings_marked, crate::proofs::MarkLaws::place_marked, crate::proofs::MarkLaws::hold_marked, crate::proofs::MarkLaws::refused_marked), unfolding(crate::specs::Marks::marked_entry_of))]
+#[tactic(auto, using(crate::proofs::MarkLaws::all_marked), unfolding(crate::specs::Marks::marked_entry_of))]
 pub fn marked_entry(s: &[u8]) -> MarkedEntry
     ensures { result ≡ marked_entry_of s.now }
 {
@@ -120,6 +120,7 @@ pub fn marked_entry(s: &[u8]) -> MarkedEntry
 }
 
 // Whether x and y are easting and northing of a place in range. They may be too large for the fields of a `Place`.
+#[tactic(auto, using(crate::proofs::GridLaws::place_or_none))]
 pub fn is_place(x: i64, y: i64) -> bool
     ensures { result ≡ is_place x y }
 {
@@ -157,7 +158,8 @@ pub fn is_scale(chains: usize, s: &[u8]) -> bool
     s.len() % FACTOR_BYTES == 0 && s.len() / FACTOR_BYTES == chains
 }
 
-// How many chains there are in the bytes of a table that its side file fits.
+// How many chains there are in the bytes of a table that its side file fits. The two are two files, and two arguments in C: a struct of
+// both would be made only for this call and that of `chain_of`.
 #[tactic(auto, unfolding(crate::specs::ChainTables::chain_count_of, crate::specs::ChainTables::scaled_count_of))]
 pub fn scaled_count(s: &[u8], scale: &[u8]) -> Result<usize, Refusal>
     ensures { result ≡ scaled_count_of s.now scale.now }
@@ -416,6 +418,8 @@ fn chain_at(s: &[u8], at: usize, factor: u32) -> Chain
     }
 }
 
+// Here and below a field is named by its offset, as in `fields`. As an array each piece would be cut out and converted at the call, and
+// its fields proved to be those of the whole.
 fn place_at(s: &[u8], at: usize) -> Place
     requires { at + 8 ≤ length s.now }
     ensures { result ≡ place_at s.now at }
