@@ -3,6 +3,7 @@ pub mod Theorems
 mod Parts
 mod TellLaws
 mod LineLaws
+pub mod Chunks
 mod EachLaws
 mod ListingLaws
 pub mod Fitting

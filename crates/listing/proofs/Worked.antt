@@ -14,14 +14,14 @@ use Rattle.chart.specs.Readings.{range_of, reading_of, differ, within}
 use Rattle.search.specs.Windows.{is_window}
 use Rattle.search.specs.Questions.{none_too_large}
 use Rattle.search.specs.Walk.{visited, cell, visit}
-use Rattle.search.specs.Answers.{ended, search_of, search_figures}
+use Rattle.search.specs.Answers.{ended, search_of}
 use Rattle.records.specs.Bytes.{all_zero}
 use Rattle.records.specs.LogRecords.{log_record_of, is_place, placed, in_centimetres, log_entry_of}
 use Rattle.records.specs.Marks.{numbers_used, is_accepted, marks_of, any_rounded}
 use Rattle.records.specs.ChainTables.{chain_count_of, chain_of}
 use Rattle.records.specs.Jobs.{formed_job_of, accepted_job, job_of}
 use Rattle.text.specs.Texts.{last_digits, digits_of, bytes_in, flag_text}
-use Rattle.listing.specs.Answers.{searched, fix_by, hold_of, answer_by, answer_of, places_of, says_rounded, only}
+use Rattle.listing.specs.Answers.{fix_with, fix_by, hold_of, answer_by, answer_of, places_of, says_rounded, only}
 use Rattle.listing.specs.Listings.{head_of, places_text, answer_text, lines_from, listing_by, listing_from, listing_of}
 
 -- The window from (30000, 40000) with k 1, tolerance 0, allowance 100.
@@ -70,8 +70,8 @@ line_3 =
 -- The whole listing.
 whole_listing : listing_of job table scale (line_1 ++ (line_2 ++ line_3))
     ≡ bytes_in "1 FIX 2 5 30000 40000 30001 40001 0\n2 GRID 1 0 30001 40000 1\n3 HOLD 1 0 30001 40000 1\n"
-unfolding listing_of listing_from listing_by lines_from head_of places_text answer_text answer_of answer_by fix_by hold_of searched
+unfolding listing_of listing_from listing_by lines_from head_of places_text answer_text answer_of answer_by fix_by hold_of fix_with
     places_of says_rounded only marks_of numbers_used is_accepted any_rounded mark_of mark_by seen_from is_rounded bytes_in flag_text digits_of last_digits job_of accepted_job formed_job_of chain_count_of chain_of log_entry_of log_record_of in_centimetres placed
-    is_place all_zero value_of centimetres_of of_bits search_of search_figures ended visit visited cell none_too_large is_window
+    is_place all_zero value_of centimetres_of of_bits search_of ended visit visited cell none_too_large is_window
     within differ reading_of range_of on_ground distance_of is_sound is_factor in_range same_place root
 whole_listing = refl

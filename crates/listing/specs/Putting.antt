@@ -1,68 +1,79 @@
 -- How the code puts lines into a buffer: what its private functions promise each other. No public contract refers to it.
-use Rattle.std.specs.Prelude.{ℕ, ◌*◌, ◌≤◌, ◌≡◌, Bool, List, [], ◌++◌, length, take, drop}
+use Rattle.std.specs.Prelude.{ℕ, ◌*◌, ◌≤◌, ◌≡◌, Bool, List, [], ◌++◌, length, take, drop, Option, Result, Ok, Err}
+use Rattle.refusals.specs.declared.Refusal.{Refusal}
+use Rattle.refusals.specs.Numbers.{refusal_number}
 use Rattle.chart.specs.declared.Place.{Place}
+use Rattle.search.specs.declared.Found.{Found}
+use Rattle.search.specs.declared.Unfound.{Unfound}
+use Rattle.search.specs.declared.Stopped.{Stopped}
 use Rattle.search.specs.Answers.{entries_of}
-use Rattle.text.specs.Texts.{flag_text, bytes_in}
+use Rattle.text.specs.Texts.{spaced, flag_text, figures_text, bytes_in}
+use Rattle.listing.specs.declared.Carried.{Carried}
+use Rattle.listing.specs.declared.Sources.{Sources}
 use Rattle.listing.specs.declared.Word.{Word}
 use Rattle.listing.specs.declared.Word.TheVariants as word
 use Rattle.listing.specs.declared.Told.{Told}
 use Rattle.listing.specs.declared.Listed.{Listed}
-use Rattle.listing.specs.declared.Listed.TheVariants as listed
-use Rattle.listing.specs.Answers.{RecordAnswer, Fix, Grid, Hold, Refused, program_room, places_of, says_rounded}
-use Rattle.listing.specs.Listings.{Part}
+use Rattle.listing.specs.Answers.{RecordAnswer, Fix, Grid, Hold, Refused, program_room, stopped_by, answer_of, places_of}
+use Rattle.listing.specs.Listings.{Part, lines_of, listing_by, listed_as}
+
+-- What a record answers, the lines of a log, and its listing with a count of chains, from the same sources.
+abbrev pub answer_in : Sources → Option Carried → List ℕ → RecordAnswer
+answer_in f before s = answer_of f.job f.table.now f.scale.now before s
+
+abbrev pub lines_in : Sources → Option Carried → List ℕ → Part
+lines_in f before log = lines_of f.job f.table.now f.scale.now before log
+
+abbrev pub listing_in : Result ℕ Refusal → Sources → Option Carried → List ℕ → Part
+listing_in chains f before log = listing_by (Ok f.job) chains f.table.now f.scale.now log before
 
 -- The listing `p` was put at the start of a buffer, and `answer` was returned for it.
 pub record Gives (before : List ℕ) (p : Part) (now : List ℕ) (answer : Listed) : Type 0 where
-  pub answer_is : answer ≡ listed.Text (length p.text) p.carried
+  pub answer_is : answer ≡ listed_as p
   pub now_is : now ≡ p.text ++ drop (length p.text) before
 
 -- How many entries the program's list has: two for each place.
 abbrev pub list_entries : ℕ
 list_entries = 2 * program_room
 
--- A list begins with these places. There are `n` of them, not more than the program's list has room for.
-pub record Begins (places : List Place) (n : ℕ) (list : List ℕ) : Type 0 where
-  pub count : n ≡ length places
-  pub few : n ≤ program_room
-  pub entries : take (2 * n) list ≡ entries_of places
+-- A list begins with these places, which are not more than the program's list has room for.
+pub record Begins (places : List Place) (list : List ℕ) : Type 0 where
+  pub few : length places ≤ program_room
+  pub entries : take (2 * length places) list ≡ entries_of places
+
+-- An answer without its places: its word, their count, the visits and the last field; or its refusal.
+unfoldable pub told_of : RecordAnswer → Result Told Stopped
+told_of (Fix visits ps rounded) = Ok (record { word = word.Fix; count = length ps; visits = visits; rounded = rounded })
+told_of (Grid p rounded) = Ok (record { word = word.Grid; count = 1; visits = 0; rounded = rounded })
+told_of (Hold p rounded) = Ok (record { word = word.Hold; count = 1; visits = 0; rounded = rounded })
+told_of (Refused why visits) = Err (record { refusal = why; visits = visits })
+
+-- What a search answers, as a fix, without its places.
+unfoldable pub told_found : Bool → Result Found Unfound → Result Told Stopped
+told_found rounded (Ok found) = Ok (record { word = word.Fix; count = found.count; visits = found.visits; rounded = rounded })
+told_found rounded (Err why) = Err (stopped_by why)
+
+-- `t` is the answer `a` without its places, and `list` begins with them.
+pub record Tells (a : RecordAnswer) (t : Result Told Stopped) (list : List ℕ) : Type 0 where
+  pub told : t ≡ told_of a
+  pub places : Begins (places_of a) list
 
 -- The word of a line.
 unfoldable pub word_text : Word → List ℕ
 word_text word.Fix = bytes_in " FIX"
 word_text word.Grid = bytes_in " GRID"
 word_text word.Hold = bytes_in " HOLD"
-word_text word.Refused = bytes_in " REFUSED"
 
--- An answer's word, and the two numbers after it.
-unfoldable pub word_of : RecordAnswer → Word
-word_of (Fix visits places rounded) = word.Fix
-word_of (Grid p rounded) = word.Grid
-word_of (Hold p rounded) = word.Hold
-word_of (Refused number visits) = word.Refused
+-- What is printed of a refused record after the head of its line.
+unfoldable pub refused_text : Stopped → List ℕ
+refused_text s = bytes_in " REFUSED" ++ (spaced (refusal_number s.refusal) ++ spaced s.visits)
 
-unfoldable pub figure_of : RecordAnswer → ℕ
-figure_of (Fix visits places rounded) = length places
-figure_of (Grid p rounded) = 1
-figure_of (Hold p rounded) = 1
-figure_of (Refused number visits) = number
+-- What stands between the head of a line and its last field, with the places in a list.
+unfoldable pub middle_text : Result Told Stopped → List ℕ → List ℕ
+middle_text (Ok t) list = word_text t.word ++ (spaced t.count ++ (spaced t.visits ++ figures_text (take (2 * t.count) list)))
+middle_text (Err s) list = refused_text s
 
-unfoldable pub answer_visits : RecordAnswer → ℕ
-answer_visits (Fix visits places rounded) = visits
-answer_visits (Grid p rounded) = 0
-answer_visits (Hold p rounded) = 0
-answer_visits (Refused number visits) = visits
-
--- What follows the places in a line.
-unfoldable pub last_text : Word → Bool → List ℕ
-last_text word.Fix rounded = flag_text rounded
-last_text word.Grid rounded = flag_text rounded
-last_text word.Hold rounded = flag_text rounded
-last_text word.Refused rounded = []
-
--- `t` has the word and the numbers of the answer `a`, `list` begins with the places of `a`, and `t` says the same of its rounding.
-pub record Tells (a : RecordAnswer) (t : Told) (list : List ℕ) : Type 0 where
-  pub word : t.word ≡ word_of a
-  pub figure : t.figure ≡ figure_of a
-  pub visits : t.visits ≡ answer_visits a
-  pub places : Begins (places_of a) t.count list
-  pub rounded : t.rounded ≡ says_rounded a
+-- The last field.
+unfoldable pub last_text : Result Told Stopped → List ℕ
+last_text (Ok t) = flag_text t.rounded
+last_text (Err s) = []

@@ -5,14 +5,13 @@ use Rattle.listing.specs.Listings.{listing_by}
 use Rattle.listing.proofs.ListingLaws.{gives_as, by_count}
 use Rattle.listing.proofs.by_job.Goals as goal
 
-pub returns-in-Chains : goal.returns-in-Chains
-unfolding listing_by
-returns-in-Chains c =
-    let a = c.args in
-    gives_as (by_count a.table.now a.scale.now a.log.now a.before a.j _ (sym c.chain_count.ensures ∙ c.in-Chains.is)) c.by_scale.ensures
+pub returns-in-Ok : goal.returns-in-Ok
+returns-in-Ok c =
+    let f = c.args.sources.now in
+    gives_as (by_count f.table.now f.scale.now c.args.log.now c.args.before f.job _ (sym c.chain_count.ensures ∙ c.in-Ok.is)) c.by_scale.ensures
 
-pub returns-in-Refused : goal.returns-in-Refused
+pub returns-in-Err : goal.returns-in-Err
 unfolding listing_by bytes_in
-returns-in-Refused c =
-    let a = c.args in
-    gives_as (by_count a.table.now a.scale.now a.log.now a.before a.j _ (sym c.chain_count.ensures ∙ c.in-Refused.is)) c.notice.ensures
+returns-in-Err c =
+    let f = c.args.sources.now in
+    gives_as (by_count f.table.now f.scale.now c.args.log.now c.args.before f.job _ (sym c.chain_count.ensures ∙ c.in-Err.is)) c.notice.ensures

@@ -1,11 +1,11 @@
 -- `listing::notice` meets its contract: the four pieces of its line, one after the other.
-use Prim.Native.Nat.{◌+◌}
-use mathlib.Core.Path.{◌≡◌, refl}
+use Prim.Native.Nat.{ℕ, ◌+◌}
+use mathlib.Core.Path.{◌≡◌, refl, ◌∙◌, subst}
 use native.Mathlib.Omega.{arith}
-use Rattle.text.specs.Texts.{bytes_in}
+use Rattle.text.specs.Texts.{spaced, bytes_in}
 use Rattle.text.specs.Puts.{Put}
 use Rattle.text.proofs.PutLaws.{put_from, put_then}
-use Rattle.listing.specs.declared.Carried.TheVariants as carried
+use Rattle.std.specs.Prelude.{None}
 use Rattle.listing.proofs.ListingLaws.{put_first}
 use Rattle.listing.proofs.notice.Goals.{After-put-a, After-put-b}
 use Rattle.listing.proofs.notice.Goals as goal
@@ -33,5 +33,6 @@ returns c =
     let newline =
     put_from (c.put-length.ensures.end, c.put-length.ensures.out)
     (omega (arith, c.requires, (word-put (goal.at.returns c).After-put-a).end_is, refused_end (goal.at.returns c).After-put-b, c.put_figure-c.ensures.end, c.put-a.auto.out, c.put-b.auto.out, c.put_figure-c.auto.out)) in
-    put_first carried.Nothing refl
-    (put_then (word-put (goal.at.returns c).After-put-a) (put_then (refused-put (goal.at.returns c).After-put-b) (put_then c.put_figure-c.ensures.text newline)))
+    let number = subst (λ (n : ℕ). Put c.put-b.new.out c.put-b.result (spaced n) c.put_figure-c.new.out c.put_figure-c.result) (c.from.ensures ∙ c.number.ensures) c.put_figure-c.ensures.text in
+    put_first None refl
+    (put_then (word-put (goal.at.returns c).After-put-a) (put_then (refused-put (goal.at.returns c).After-put-b) (put_then number newline)))

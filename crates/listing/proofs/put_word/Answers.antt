@@ -23,9 +23,3 @@ unfolding word_text bytes_in
 returns-in-Hold c =
     let told = put_from (c.put-in-Hold.ensures.end, c.put-in-Hold.ensures.out) (omega arith) in
     record { text = put_as (sym (ap word_text c.in-Hold.is)) told; end = end_within told (omega arith) }
-
-pub returns-in-Refused : goal.returns-in-Refused
-unfolding word_text bytes_in
-returns-in-Refused c =
-    let told = put_from (c.put-in-Refused.ensures.end, c.put-in-Refused.ensures.out) (omega arith) in
-    record { text = put_as (sym (ap word_text c.in-Refused.is)) told; end = end_within told (omega arith) }
