@@ -1,35 +1,27 @@
 -- The tests of the writer of chains, one after the other, what follows from each, and the bytes that it puts.
 use Prim.Native.Nat.{ℕ}
 use mathlib.Core.Path.{◌≡◌, refl, sym, ◌∙◌}
-use mathlib.Core.Bool.{true, false}
-use native.Mathlib.Omega.{arith}
+use mathlib.Core.Bool.{true}
 use lib.ListN.{length, replicate}
-use borrow.Author.Tests.{eqb-true, eq-eqb, ne_eqb}
+use borrow.Author.Tests.{eqb-true, eq-eqb}
+use Rattle.std.specs.Prelude.{Ok}
 use Rattle.fields.specs.Fields.{bytes_of, put_at}
 use Rattle.chart.specs.declared.Chain.{Chain}
 use Rattle.chart.specs.Chains.{is_sound}
 use Rattle.records.specs.ChainTables.{chain_bytes}
 use Rattle.records.proofs.RefusalLaws.{passed}
 use Rattle.writing.specs.ChainWriting.{put_place_at, bytes_of_chain, chain_refusal_of, chain_buffer_of}
-use Rattle.writing.proofs.BufferLaws.{left_written, left_zero, left_length}
+use Rattle.writing.proofs.BufferLaws.{not_refused, left_written, left_zero, left_length}
 
--- The first test that fails refuses.
-pub chain_1 : (bytes : ℕ) (c : Chain) → (bytes ≡ chain_bytes → ⊥) → chain_refusal_of bytes c ≡ 1
-unfolding chain_refusal_of
-chain_1 bytes c n = rw (ne_eqb bytes chain_bytes n)
-
-pub chain_5 : (bytes : ℕ) (c : Chain) → bytes ≡ chain_bytes → is_sound c ≡ false → chain_refusal_of bytes c ≡ 5
-unfolding chain_refusal_of
-chain_5 bytes c whole s = rw (eq-eqb bytes chain_bytes whole, s)
-
-pub chain_accepted : (bytes : ℕ) (c : Chain) → bytes ≡ chain_bytes → is_sound c ≡ true → chain_refusal_of bytes c ≡ 0
+-- A sound chain is accepted.
+pub chain_accepted : (bytes : ℕ) (c : Chain) → bytes ≡ chain_bytes → is_sound c ≡ true → chain_refusal_of bytes c ≡ Ok tt
 unfolding chain_refusal_of
 chain_accepted bytes c whole s = rw (eq-eqb bytes chain_bytes whole, s)
 
 -- Only a buffer of 24 bytes is written.
-pub chain_fills : (bytes : ℕ) (c : Chain) → chain_refusal_of bytes c ≡ 0 → bytes ≡ chain_bytes
+pub chain_fills : (bytes : ℕ) (c : Chain) → chain_refusal_of bytes c ≡ Ok tt → bytes ≡ chain_bytes
 unfolding chain_refusal_of
-chain_fills bytes c e = eqb-true bytes chain_bytes (passed _ (λ f. omega arith) e).0
+chain_fills bytes c e = eqb-true bytes chain_bytes (passed _ not_refused e).0
 
 -- Put one after the other into zeros, the places are the bytes of the chain.
 pub places_together : (c : Chain) → put_place_at (put_place_at (put_place_at (replicate chain_bytes 0) 0 c.master) 8 c.a) 16 c.b ≡ bytes_of_chain c
@@ -42,11 +34,11 @@ unfolding bytes_of_chain bytes_of
 chain_length c = refl
 
 -- What a buffer holds after a chain that was not refused, and after one that was.
-pub chain_written_lem : (bytes : ℕ) (c : Chain) → chain_refusal_of bytes c ≡ 0 → chain_buffer_of bytes c ≡ bytes_of_chain c
+pub chain_written_lem : (bytes : ℕ) (c : Chain) → chain_refusal_of bytes c ≡ Ok tt → chain_buffer_of bytes c ≡ bytes_of_chain c
 unfolding chain_buffer_of
-chain_written_lem bytes c e = left_written bytes (chain_refusal_of bytes c) (bytes_of_chain c) e
+chain_written_lem bytes c e = left_written bytes (bytes_of_chain c) e
 
-pub chain_zero : (bytes : ℕ) (c : Chain) → (chain_refusal_of bytes c ≡ 0 → ⊥) → chain_buffer_of bytes c ≡ replicate bytes 0
+pub chain_zero : (bytes : ℕ) (c : Chain) → (chain_refusal_of bytes c ≡ Ok tt → ⊥) → chain_buffer_of bytes c ≡ replicate bytes 0
 unfolding chain_buffer_of
 chain_zero bytes c n = left_zero bytes (chain_refusal_of bytes c) (bytes_of_chain c) n
 

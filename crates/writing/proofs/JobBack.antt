@@ -8,6 +8,9 @@ use native.Mathlib.Nat.{le_refl}
 use lib.Dec.{leb}
 use lib.Pow.{pow_pos}
 use borrow.Author.Tests.{le-leb}
+use Rattle.std.specs.Prelude.{Result, Ok, Err}
+use Rattle.refusals.specs.declared.Refusal.{Refusal}
+use Rattle.refusals.specs.declared.Refusal.TheVariants as refusal
 use Rattle.fields.specs.Fields.{value_of, bytes_of}
 use Rattle.fields.proofs.FieldLaws.{value_bytes}
 use Rattle.search.specs.declared.Window.{Window}
@@ -15,7 +18,6 @@ use Rattle.search.specs.Windows.{is_window}
 use Rattle.search.specs.Questions.{most_tolerance}
 use Rattle.search.proofs.WindowLaws.{every_cell_in_range}
 use Rattle.records.specs.declared.Job.{Job}
-use Rattle.records.specs.declared.JobAnswer.TheVariants as answer
 use Rattle.records.specs.Bytes.{all_zero, unless}
 use Rattle.records.specs.Jobs.{job_in, formed_job_of, accepted_job, job_of}
 use Rattle.writing.specs.JobWriting.{bytes_of_job}
@@ -42,13 +44,12 @@ module _ (j : Job) (window : is_window j.window ≡ true) (few : j.tolerance ≤
       )
 
   -- So does the job: the bytes that must be zero are zero, and its window and tolerance pass their tests.
-  pub job_back : job_of (bytes_of_job j) ≡ answer.Job j
+  pub job_back : job_of (bytes_of_job j) ≡ Ok j
   unfolding job_of accepted_job formed_job_of bytes_of_job bytes_of all_zero
   job_back =
       subst⁻¹
       (λ (i : Job).
-      unless (is_window i.window) (answer.Refused 6)
-      (unless (leb i.tolerance most_tolerance) (answer.Refused 7) (answer.Job i))
-      ≡ answer.Job j)
+      ◌≡◌ {A = Result Job Refusal}
+      (unless (is_window i.window) (Err refusal.Window) (unless (leb i.tolerance most_tolerance) (Err refusal.Tolerance) (Ok i))) (Ok j))
       fields_back
       (rw (window, le-leb j.tolerance most_tolerance few))

@@ -1,11 +1,12 @@
 -- The tests of the writer of jobs, one after the other, what follows from each, and the bytes that it puts.
 use Prim.Native.Nat.{ℕ, ◌≤◌, ◌<◌}
 use mathlib.Core.Path.{◌≡◌, refl}
-use mathlib.Core.Bool.{true, false}
+use mathlib.Core.Bool.{true}
 use native.Mathlib.Omega.{arith}
 use lib.Dec.{leb, eqb}
 use lib.ListN.{length, set, replicate}
-use borrow.Author.Tests.{eqb-true, eq-eqb, ne_eqb, le-leb, lt-leb, leb-true}
+use borrow.Author.Tests.{eqb-true, eq-eqb, le-leb, leb-true}
+use Rattle.std.specs.Prelude.{Ok}
 use Rattle.fields.specs.Fields.{bytes_of, put_at}
 use Rattle.search.specs.Windows.{is_window}
 use Rattle.search.specs.Questions.{most_tolerance}
@@ -15,33 +16,20 @@ use Rattle.records.specs.Jobs.{job_bytes}
 use Rattle.records.proofs.RefusalLaws.{passed}
 use Rattle.writing.specs.ChainWriting.{put_place_at}
 use Rattle.writing.specs.JobWriting.{bytes_of_job, job_refusal_of, job_buffer_of}
-use Rattle.writing.proofs.BufferLaws.{left_written, left_zero}
+use Rattle.writing.proofs.BufferLaws.{not_refused, left_written, left_zero}
 
--- The first test that fails refuses.
-pub job_1 : (bytes : ℕ) (j : Job) → (bytes ≡ job_bytes → ⊥) → job_refusal_of bytes j ≡ 1
+-- A job whose window and tolerance are allowed is accepted.
+pub job_accepted : (bytes : ℕ) (j : Job) → bytes ≡ job_bytes → is_window j.window ≡ true → j.tolerance ≤ most_tolerance → job_refusal_of bytes j ≡ Ok tt
 unfolding job_refusal_of
-job_1 bytes j n = rw (ne_eqb bytes job_bytes n)
-
-module _ (bytes : ℕ) (j : Job) (whole : bytes ≡ job_bytes) where
-  pub job_6 : is_window j.window ≡ false → job_refusal_of bytes j ≡ 6
-  unfolding job_refusal_of
-  job_6 w = rw (eq-eqb bytes job_bytes whole, w)
-
-  pub job_7 : is_window j.window ≡ true → most_tolerance < j.tolerance → job_refusal_of bytes j ≡ 7
-  unfolding job_refusal_of
-  job_7 w t = rw (eq-eqb bytes job_bytes whole, w, lt-leb j.tolerance most_tolerance t)
-
-  pub job_accepted : is_window j.window ≡ true → j.tolerance ≤ most_tolerance → job_refusal_of bytes j ≡ 0
-  unfolding job_refusal_of
-  job_accepted w t = rw (eq-eqb bytes job_bytes whole, w, le-leb j.tolerance most_tolerance t)
+job_accepted bytes j whole w t = rw (eq-eqb bytes job_bytes whole, w, le-leb j.tolerance most_tolerance t)
 
 -- A job that is not refused has passed the tests: the buffer has 32 bytes, and the window and the tolerance are allowed.
-pub job_passed : (bytes : ℕ) (j : Job) → job_refusal_of bytes j ≡ 0 → (bytes ≡ job_bytes) × (is_window j.window ≡ true) × (j.tolerance ≤ most_tolerance)
+pub job_passed : (bytes : ℕ) (j : Job) → job_refusal_of bytes j ≡ Ok tt → (bytes ≡ job_bytes) × (is_window j.window ≡ true) × (j.tolerance ≤ most_tolerance)
 unfolding job_refusal_of
 job_passed bytes j e =
-    let whole = passed (eqb bytes job_bytes) (λ f. omega arith) e in
-    let window = passed (is_window j.window) (λ f. omega arith) whole.1 in
-    (eqb-true bytes job_bytes whole.0, window.0, leb-true _ _ (passed (leb j.tolerance most_tolerance) (λ f. omega arith) window.1).0)
+    let whole = passed (eqb bytes job_bytes) not_refused e in
+    let window = passed (is_window j.window) not_refused whole.1 in
+    (eqb-true bytes job_bytes whole.0, window.0, leb-true _ _ (passed (leb j.tolerance most_tolerance) not_refused window.1).0)
 
 -- The exponent of its window fits a byte.
 pub small_k : (j : Job) → is_window j.window ≡ true → j.window.k < 256
@@ -58,10 +46,10 @@ unfolding bytes_of_job bytes_of
 job_length j = refl
 
 -- What a buffer holds after a job that was not refused, and after one that was.
-pub job_written : (bytes : ℕ) (j : Job) → job_refusal_of bytes j ≡ 0 → job_buffer_of bytes j ≡ bytes_of_job j
+pub job_written : (bytes : ℕ) (j : Job) → job_refusal_of bytes j ≡ Ok tt → job_buffer_of bytes j ≡ bytes_of_job j
 unfolding job_buffer_of
-job_written bytes j e = left_written bytes (job_refusal_of bytes j) (bytes_of_job j) e
+job_written bytes j e = left_written bytes (bytes_of_job j) e
 
-pub job_zero : (bytes : ℕ) (j : Job) → (job_refusal_of bytes j ≡ 0 → ⊥) → job_buffer_of bytes j ≡ replicate bytes 0
+pub job_zero : (bytes : ℕ) (j : Job) → (job_refusal_of bytes j ≡ Ok tt → ⊥) → job_buffer_of bytes j ≡ replicate bytes 0
 unfolding job_buffer_of
 job_zero bytes j n = left_zero bytes (job_refusal_of bytes j) (bytes_of_job j) n

@@ -1,7 +1,8 @@
 -- What a write leaves in its buffer, whatever it writes (01, Numbers of refusal: "a refused write leaves its whole buffer zero").
-use Rattle.std.specs.Prelude.{ℕ, cond, List, eqb, replicate}
+use Rattle.std.specs.Prelude.{ℕ, List, Result, Ok, Err, replicate}
+use Rattle.refusals.specs.declared.Refusal.{Refusal}
 
--- What a buffer of `bytes` bytes holds after a write: what was to be written if the refusal number is 0, which means none; else
--- only zeros.
-unfoldable pub left_in : ℕ → ℕ → List ℕ → List ℕ
-left_in bytes refusal written = cond (eqb refusal 0) written (replicate bytes 0)
+-- What a buffer of `bytes` bytes holds after a write: what was to be written, or only zeros if the write was refused.
+unfoldable pub left_in : ℕ → Result (Unit {0}) Refusal → List ℕ → List ℕ
+left_in bytes (Ok done) written = written
+left_in bytes (Err refusal) written = replicate bytes 0

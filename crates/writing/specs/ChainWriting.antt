@@ -1,5 +1,7 @@
 -- The writer of chains: which chains it refuses, and the bytes that it makes from a chain (01, The records).
-use Rattle.std.specs.Prelude.{ℕ, ◌+◌, Bool, true, ◌&&◌, List, [], ◌∷◌, ◌++◌, eqb}
+use Rattle.std.specs.Prelude.{ℕ, ◌+◌, Bool, true, ◌&&◌, List, [], ◌∷◌, ◌++◌, Result, Ok, Err, eqb}
+use Rattle.refusals.specs.declared.Refusal.{Refusal}
+use Rattle.refusals.specs.declared.Refusal.TheVariants as refusal
 use Rattle.fields.specs.Fields.{bytes_of, put_at}
 use Rattle.chart.specs.declared.Place.{Place}
 use Rattle.chart.specs.declared.Chain.{Chain}
@@ -20,13 +22,13 @@ put_place_at s at p = put_at 4 (put_at 4 s at p.easting) (at + 4) p.northing
 unfoldable pub bytes_of_chain : Chain → List ℕ
 bytes_of_chain c = bytes_of_place c.master ++ (bytes_of_place c.a ++ bytes_of_place c.b)
 
--- The refusal number of a chain for a buffer of `bytes` bytes: 1 for the buffer, then 5 for a chain that is not sound, and 0 if
--- it is written.
-unfoldable pub chain_refusal_of : ℕ → Chain → ℕ
+-- Whether a chain is written into a buffer of `bytes` bytes. If not, it is refused for the buffer, then as a chain that is not
+-- sound.
+unfoldable pub chain_refusal_of : ℕ → Chain → Result (Unit {0}) Refusal
 chain_refusal_of bytes c =
-    unless (eqb bytes chain_bytes) 1
-    (unless (is_sound c) 5
-    0)
+    unless (eqb bytes chain_bytes) (Err refusal.Length)
+    (unless (is_sound c) (Err refusal.Chain)
+    (Ok tt))
 
 -- What a buffer of `bytes` bytes holds after a chain was written or refused.
 unfoldable pub chain_buffer_of : ℕ → Chain → List ℕ

@@ -1,5 +1,7 @@
 -- The writer of scale factors: which it refuses, and the bytes of the side file (02, A3).
-use Rattle.std.specs.Prelude.{ℕ, List, [], ◌∷◌, ◌++◌, eqb}
+use Rattle.std.specs.Prelude.{ℕ, List, [], ◌∷◌, ◌++◌, Result, Ok, Err, eqb}
+use Rattle.refusals.specs.declared.Refusal.{Refusal}
+use Rattle.refusals.specs.declared.Refusal.TheVariants as refusal
 use Rattle.fields.specs.Fields.{bytes_of}
 use Rattle.chart.specs.declared.Chain.{Chain}
 use Rattle.chart.specs.Factors.{is_factor}
@@ -7,13 +9,12 @@ use Rattle.records.specs.Bytes.{unless}
 use Rattle.records.specs.ChainTables.{factor_bytes}
 use Rattle.writing.specs.Buffers.{left_in}
 
--- The refusal number of a factor for a buffer of `bytes` bytes: 1 for the buffer, then 5 for a factor that is not allowed, and 0 if it
--- is written.
-unfoldable pub factor_refusal_of : ℕ → ℕ → ℕ
+-- Whether a factor is written into a buffer of `bytes` bytes. If not, it is refused for the buffer, then as one that is not allowed.
+unfoldable pub factor_refusal_of : ℕ → ℕ → Result (Unit {0}) Refusal
 factor_refusal_of bytes f =
-    unless (eqb bytes factor_bytes) 1
-    (unless (is_factor f) 5
-    0)
+    unless (eqb bytes factor_bytes) (Err refusal.Length)
+    (unless (is_factor f) (Err refusal.Chain)
+    (Ok tt))
 
 -- What a buffer of `bytes` bytes holds after a factor was written or refused.
 unfoldable pub factor_buffer_of : ℕ → ℕ → List ℕ

@@ -1,5 +1,7 @@
 -- The writer of jobs: which jobs it refuses, and the bytes that it makes from a job (01, The records).
-use Rattle.std.specs.Prelude.{ℕ, List, ◌∷◌, ◌++◌, leb, eqb, replicate}
+use Rattle.std.specs.Prelude.{ℕ, List, ◌∷◌, ◌++◌, Result, Ok, Err, leb, eqb, replicate}
+use Rattle.refusals.specs.declared.Refusal.{Refusal}
+use Rattle.refusals.specs.declared.Refusal.TheVariants as refusal
 use Rattle.fields.specs.Fields.{bytes_of}
 use Rattle.search.specs.Windows.{is_window}
 use Rattle.search.specs.Questions.{most_tolerance}
@@ -15,14 +17,14 @@ bytes_of_job j =
     bytes_of_place j.window.corner
     ++ (j.window.k ∷ 0 ∷ 0 ∷ 0 ∷ (bytes_of 4 j.tolerance ++ (bytes_of 8 j.allowance ++ replicate 8 0)))
 
--- The refusal number of a job for a buffer of `bytes` bytes: 1 for the buffer, then 6 for the window, then 7 for the tolerance,
--- and 0 if it is written.
-unfoldable pub job_refusal_of : ℕ → Job → ℕ
+-- Whether a job is written into a buffer of `bytes` bytes. If not, it is refused for the buffer, then for its window, then for its
+-- tolerance.
+unfoldable pub job_refusal_of : ℕ → Job → Result (Unit {0}) Refusal
 job_refusal_of bytes j =
-    unless (eqb bytes job_bytes) 1
-    (unless (is_window j.window) 6
-    (unless (leb j.tolerance most_tolerance) 7
-    0))
+    unless (eqb bytes job_bytes) (Err refusal.Length)
+    (unless (is_window j.window) (Err refusal.Window)
+    (unless (leb j.tolerance most_tolerance) (Err refusal.Tolerance)
+    (Ok tt)))
 
 -- What a buffer of `bytes` bytes holds after a job was written or refused.
 unfoldable pub job_buffer_of : ℕ → Job → List ℕ

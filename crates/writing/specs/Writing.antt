@@ -1,10 +1,11 @@
 -- The writer of log records: which drafts it refuses, and the bytes that it makes from a draft (01, The records).
-use Rattle.std.specs.Prelude.{ℕ, ◌≡◌, Bool, not, cond, ◌&&◌, ◌||◌, List, ◌∷◌, ◌++◌, leb, eqb, ℤ, pos, nat_abs, Float, replicate}
+use Rattle.std.specs.Prelude.{ℕ, ◌≡◌, Bool, not, cond, ◌&&◌, ◌||◌, List, ◌∷◌, ◌++◌, Result, Ok, Err, leb, eqb, ℤ, pos, nat_abs, Float, replicate}
+use Rattle.refusals.specs.declared.Refusal.{Refusal}
+use Rattle.refusals.specs.declared.Refusal.TheVariants as refusal
 use Rattle.fields.specs.Fields.{bytes_of}
 use Rattle.metres.specs.Metres.{most_centimetres, metres_of, length_figures, plus_zero}
 use Rattle.metres.specs.Patterns.{pattern_of}
 use Rattle.records.specs.declared.RawRecord.{RawRecord}
-use Rattle.records.specs.declared.RawAnswer.TheVariants as raw
 use Rattle.records.specs.declared.LogEntry.{LogEntry}
 use Rattle.records.specs.declared.LogEntry.TheVariants as entry
 use Rattle.records.specs.Bytes.{unless}
@@ -29,15 +30,15 @@ place_fits d = not (eqb d.kind 2) || is_place d.x d.y
 abbrev pub chain_fits : Draft → Bool
 chain_fits d = not (eqb d.kind 1) || one_to most_chains d.chain
 
--- The refusal number of a draft for a buffer of `bytes` bytes, and 0 if it is written.
-unfoldable pub refusal_of : ℕ → Draft → ℕ
+-- Whether a draft is written into a buffer of `bytes` bytes, or why not: the first test that it fails.
+unfoldable pub refusal_of : ℕ → Draft → Result (Unit {0}) Refusal
 refusal_of bytes d =
-    unless (eqb bytes log_bytes) 1
-    (unless (is_kind d.kind) 2
-    (unless (numbers_fit d) 3
-    (unless (place_fits d) 4
-    (unless (chain_fits d) 5
-    0))))
+    unless (eqb bytes log_bytes) (Err refusal.Length)
+    (unless (is_kind d.kind) (Err refusal.Form)
+    (unless (numbers_fit d) (Err refusal.Number)
+    (unless (place_fits d) (Err refusal.Place)
+    (unless (chain_fits d) (Err refusal.Chain)
+    (Ok tt)))))
 
 -- What a draft's kind does not use is ignored: it counts as 0.
 unfoldable pub used_of : Draft → Draft
@@ -89,5 +90,5 @@ entry_for d =
 
 -- The bytes s read as the draft says: the same kind, chain number, line number and centimetres.
 pub record ReadsAs (d : Draft) (s : List ℕ) : Type 0 where
-  pub raw : raw_record_of s ≡ raw.Record (raw_for d)
-  pub entry : log_entry_of s ≡ entry_for d
+  pub raw : raw_record_of s ≡ Ok (raw_for d)
+  pub entry : log_entry_of s ≡ Ok (entry_for d)

@@ -12,8 +12,10 @@ ghost use Rattle.writing.specs.JobWriting.{bytes_of_job, job_refusal_of, job_buf
 
 use chart::{Chain, Place};
 use records::{CHAIN_BYTES, FACTOR_BYTES, JOB_BYTES, Job, LOG_BYTES, MOST_CHAINS};
+use refusals::Refusal;
 
-// The content of a log record to be written. x and y are readings A and B, or easting and northing, in centimetres.
+// The content of a log record to be written. x and y are readings A and B, or easting and northing, in centimetres. The kind is a
+// number, since a draft may have one that no record has: `write` refuses that with `Form`.
 #[derive(Clone, Copy)]
 pub struct Draft {
     pub kind: u32,
@@ -23,143 +25,112 @@ pub struct Draft {
     pub y: i64,
 }
 
-// Writes a draft into a buffer of 32 bytes. Answers with the number of the refusal, 0 for none; a refused write leaves the
-// whole buffer zero, whatever its length.
-pub fn write(buffer: &mut [u8], d: Draft) -> u32
+// Writes a draft into a buffer of 32 bytes. A refused write leaves the whole buffer zero, whatever its length.
+// The four writers stay four: their tests and their bytes have nothing in common, so a trait for them would have as many lines.
+#[tactic(auto, using(crate::proofs::WriteLaws::written_bytes, crate::proofs::WriteLaws::used_small), unfolding(crate::specs::Writing::buffer_of, crate::specs::Buffers::left_in))]
+pub fn write(buffer: &mut [u8], d: Draft) -> Result<(), Refusal>
     ensures answer { result ≡ refusal_of (length buffer.old) d }
     ensures buffer { buffer.new ≡ buffer_of (length buffer.old) d }
 {
-    let refusal = refusal_of(buffer.len(), d);
     clear_buffer(buffer);
-    if refusal != 0 {
-        return refusal;
-    }
+    refusal_of(buffer.len(), d)?;
     put(buffer, used(d));
-    0
+    Ok(())
 }
 
 // Writes a chain into a buffer of 24 bytes, by the same rules.
-pub fn write_chain(buffer: &mut [u8], c: Chain) -> u32
+#[tactic(auto, using(crate::proofs::ChainWriteLaws::chain_fills), unfolding(crate::specs::ChainWriting::chain_buffer_of, crate::specs::Buffers::left_in))]
+pub fn write_chain(buffer: &mut [u8], c: Chain) -> Result<(), Refusal>
     ensures answer { result ≡ chain_refusal_of (length buffer.old) c }
     ensures buffer { buffer.new ≡ chain_buffer_of (length buffer.old) c }
 {
-    let refusal = chain_refusal(buffer.len(), c);
     clear_buffer(buffer);
-    if refusal != 0 {
-        return refusal;
-    }
+    chain_refusal(buffer.len(), c)?;
     put_chain(buffer, c);
-    0
+    Ok(())
 }
 
 // Writes the factor of a chain into a buffer of 4 bytes, by the same rules.
-pub fn write_factor(buffer: &mut [u8], factor: u32) -> u32
+#[tactic(auto, using(crate::proofs::FactorWriteLaws::factor_fills, crate::proofs::FactorWriteLaws::factor_put), unfolding(crate::specs::FactorWriting::factor_buffer_of, crate::specs::Buffers::left_in))]
+pub fn write_factor(buffer: &mut [u8], factor: u32) -> Result<(), Refusal>
     ensures answer { result ≡ factor_refusal_of (length buffer.old) factor }
     ensures buffer { buffer.new ≡ factor_buffer_of (length buffer.old) factor }
 {
-    let refusal = factor_refusal(buffer.len(), factor);
     clear_buffer(buffer);
-    if refusal != 0 {
-        return refusal;
-    }
+    factor_refusal(buffer.len(), factor)?;
     fields::put_four(buffer, 0, factor);
-    0
+    Ok(())
 }
 
 // Writes a job into a buffer of 32 bytes, by the same rules.
-pub fn write_job(buffer: &mut [u8], j: Job) -> u32
+#[tactic(auto, using(crate::proofs::JobWriteLaws::job_passed, crate::proofs::JobWriteLaws::small_k), unfolding(crate::specs::JobWriting::job_buffer_of, crate::specs::Buffers::left_in))]
+pub fn write_job(buffer: &mut [u8], j: Job) -> Result<(), Refusal>
     ensures answer { result ≡ job_refusal_of (length buffer.old) j }
     ensures buffer { buffer.new ≡ job_buffer_of (length buffer.old) j }
 {
-    let refusal = job_refusal(buffer.len(), j);
     clear_buffer(buffer);
-    if refusal != 0 {
-        return refusal;
-    }
+    job_refusal(buffer.len(), j)?;
     put_job(buffer, j);
-    0
+    Ok(())
 }
 
-// The refusal number of a draft for a buffer of `bytes` bytes, 0 for none.
-fn refusal_of(bytes: usize, d: Draft) -> u32
+// Whether a draft is written into a buffer of `bytes` bytes, or why not.
+#[tactic(auto, unfolding(crate::specs::Writing::refusal_of))]
+fn refusal_of(bytes: usize, d: Draft) -> Result<(), Refusal>
     ensures { result ≡ refusal_of bytes d }
 {
-    let kind = records::one_to(3, d.kind);
-    let numbers = numbers_fit(d);
-    let place = place_fits(d);
-    let chain = chain_fits(d);
     if bytes != LOG_BYTES {
-        return 1;
+        return Err(Refusal::Length);
     }
-    if !kind {
-        return 2;
+    if !records::one_to(3, d.kind) {
+        return Err(Refusal::Form);
     }
-    if !numbers {
-        return 3;
+    if !numbers_fit(d) {
+        return Err(Refusal::Number);
     }
-    if !place {
-        return 4;
+    if !place_fits(d) {
+        return Err(Refusal::Place);
     }
-    if !chain {
-        return 5;
+    if !chain_fits(d) {
+        return Err(Refusal::Chain);
     }
-    0
+    Ok(())
 }
 
 fn numbers_fit(d: Draft) -> bool
     ensures { result ≡ numbers_fit d }
 {
-    if d.kind == 3 {
-        return true;
-    }
-    if metres::size(d.x) > metres::MOST_CENTIMETRES {
-        return false;
-    }
-    metres::size(d.y) <= metres::MOST_CENTIMETRES
+    d.kind == 3
+        || metres::size(d.x) <= metres::MOST_CENTIMETRES
+            && metres::size(d.y) <= metres::MOST_CENTIMETRES
 }
 
 fn place_fits(d: Draft) -> bool
     ensures { result ≡ place_fits d }
 {
-    if d.kind != 2 {
-        return true;
-    }
-    records::is_place(d.x, d.y)
+    d.kind != 2 || records::is_place(d.x, d.y)
 }
 
 fn chain_fits(d: Draft) -> bool
     ensures { result ≡ chain_fits d }
 {
-    if d.kind != 1 {
-        return true;
-    }
-    records::one_to(MOST_CHAINS, d.chain)
+    d.kind != 1 || records::one_to(MOST_CHAINS, d.chain)
 }
 
 // A draft with 0 for what its kind does not use.
+#[tactic(auto, unfolding(crate::specs::Writing::used_of))]
 fn used(d: Draft) -> Draft
     ensures { result ≡ used_of d }
 {
-    let kind = d.kind;
-    let line = d.line;
-    if kind == 1 {
-        return d;
-    }
-    if kind == 3 {
-        return Draft {
-            kind,
+    match d.kind {
+        1 => d,
+        3 => Draft {
             chain: 0,
-            line,
             x: 0,
             y: 0,
-        };
-    }
-    Draft {
-        kind,
-        chain: 0,
-        line,
-        x: d.x,
-        y: d.y,
+            ..d
+        },
+        _ => Draft { chain: 0, ..d },
     }
 }
 
@@ -167,11 +138,7 @@ fn used(d: Draft) -> Draft
 pub fn clear_buffer(buffer: &mut [u8])
     ensures { buffer.new ≡ replicate (length buffer.old) 0 }
 {
-    let mut i = 0;
-    while i < buffer.len() {
-        buffer[i] = 0;
-        i += 1;
-    }
+    buffer.fill(0);
 }
 
 // Puts the bytes of a record into a buffer that is all zeros.
@@ -191,50 +158,52 @@ fn put(buffer: &mut [u8], d: Draft)
 fn in_metres(c: i64) -> f64
     ensures { result ≡ in_metres c }
 {
-    let f = metres::length_figures(metres::metres(c));
-    f.metres
+    metres::metres(c).unwrap_or(0.0)
 }
 
-// The refusal number of a chain for a buffer of `bytes` bytes, 0 for none.
-fn chain_refusal(bytes: usize, c: Chain) -> u32
+// Whether a chain is written into a buffer of `bytes` bytes, or why not.
+#[tactic(auto, unfolding(crate::specs::ChainWriting::chain_refusal_of))]
+fn chain_refusal(bytes: usize, c: Chain) -> Result<(), Refusal>
     ensures { result ≡ chain_refusal_of bytes c }
 {
     if bytes != CHAIN_BYTES {
-        return 1;
+        return Err(Refusal::Length);
     }
     if !chart::sound(c) {
-        return 5;
+        return Err(Refusal::Chain);
     }
-    0
+    Ok(())
 }
 
-// The refusal number of a factor for a buffer of `bytes` bytes, 0 for none.
-fn factor_refusal(bytes: usize, factor: u32) -> u32
+// The same for a factor.
+#[tactic(auto, unfolding(crate::specs::FactorWriting::factor_refusal_of))]
+fn factor_refusal(bytes: usize, factor: u32) -> Result<(), Refusal>
     ensures { result ≡ factor_refusal_of bytes factor }
 {
     if bytes != FACTOR_BYTES {
-        return 1;
+        return Err(Refusal::Length);
     }
     if !chart::is_factor(factor) {
-        return 5;
+        return Err(Refusal::Chain);
     }
-    0
+    Ok(())
 }
 
-// The refusal number of a job for a buffer of `bytes` bytes, 0 for none.
-fn job_refusal(bytes: usize, j: Job) -> u32
+// The same for a job.
+#[tactic(auto, unfolding(crate::specs::JobWriting::job_refusal_of))]
+fn job_refusal(bytes: usize, j: Job) -> Result<(), Refusal>
     ensures { result ≡ job_refusal_of bytes j }
 {
     if bytes != JOB_BYTES {
-        return 1;
+        return Err(Refusal::Length);
     }
     if !search::is_window(j.window) {
-        return 6;
+        return Err(Refusal::Window);
     }
     if j.tolerance > search::MOST_TOLERANCE {
-        return 7;
+        return Err(Refusal::Tolerance);
     }
-    0
+    Ok(())
 }
 
 // Puts the bytes of a chain into a buffer that is all zeros.

@@ -2,20 +2,9 @@
 use Prim.Native.Nat.{ℕ}
 use mathlib.Core.Path.{ap, ◌∙◌}
 use mathlib.Core.List.{List}
-use native.Mathlib.Omega.{arith}
-use lib.ListN.{length}
 use Rattle.writing.specs.ChainWriting.{put_place_at}
 use Rattle.writing.proofs.ChainWriteLaws.{places_together}
 use Rattle.writing.proofs.put_chain.Goals as goal
-
-pub put_place-requires : goal.put_place-requires
-put_place-requires c = omega (arith, ap length c.requires)
-
-pub put_place-requires-2 : goal.put_place-requires-2
-put_place-requires-2 c = omega (arith, ap length c.requires)
-
-pub put_place-requires-3 : goal.put_place-requires-3
-put_place-requires-3 c = omega (arith, ap length c.requires)
 
 pub returns : goal.returns
 returns c =
