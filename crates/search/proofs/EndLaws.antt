@@ -19,16 +19,12 @@ use Rattle.search.proofs.AnswerLaws.{ended-gone}
 abbrev pub IsTold : ℕ → Outcome → Answer → List ℕ → Type 0
 IsTold n o a l = (a ≡ o.answer) × (l ≡ list_of n o.places)
 
--- The list l' is l cleared from its start on.
-abbrev pub Empty : List ℕ → List ℕ → Type 0
-Empty l l' = l' ≡ take 0 l ++ replicate (length l - 0) 0
-
 -- If the outcome is a refusal, this refusal and a cleared list are right.
-pub refusal_told : (n : ℕ) (o : Outcome) (a : Unfound) (l l' : List ℕ) → length l ≡ n → o ≡ refused a → Empty l l' → IsTold n o (Err a) l'
+pub refusal_told : (n : ℕ) (o : Outcome) (a : Unfound) (l l' : List ℕ) → length l ≡ n → o ≡ refused a → l' ≡ replicate (length l) 0 → IsTold n o (Err a) l'
 unfolding list_of entries_of
 refusal_told n o a l l' same e empty =
     subst⁻¹ (λ (x : Outcome). IsTold n x (Err a) l') e
-    (refl, empty ∙ ap (λ (m : ℕ). replicate m 0) (sub-zero (length l) ∙ same ∙ sym (sub-zero n)))
+    (refl, empty ∙ ap (λ (m : ℕ). replicate m 0) (same ∙ sym (sub-zero n)))
 
 no_place : (ps : List Place) → length ps ≡ 0 → ps ≡ []
 no_place [] e = refl
@@ -44,7 +40,7 @@ unfolding entries_of
 start_holds l = record { goes_on = refl; visits = refl; count = refl; entries = refl }
 
 -- The end of a walk that was stopped, answered with the list cleared.
-pub halted_told : (n : ℕ) (s : Standing) (why : Unfound) (l l' : List ℕ) → Halted s why → length l ≡ n → Empty l l' → IsTold n (ended s) (Err why) l'
+pub halted_told : (n : ℕ) (s : Standing) (why : Unfound) (l l' : List ℕ) → Halted s why → length l ≡ n → l' ≡ replicate (length l) 0 → IsTold n (ended s) (Err why) l'
 unfolding ended
 halted_told n s why l l' h same empty = refusal_told n (ended s) why l l' same (rw (h.stop, h.refusal)) empty
 
@@ -55,7 +51,7 @@ module _ (n : ℕ) (s : Standing) (t : Tally) (l l' : List ℕ) (h : Holds s t l
   none_told e =
       refusal_told n (ended s) _ l l' same
       (ended-gone s h.goes_on ∙ ap₂ gone (no_place s.places (sym h.count ∙ e)) (sym h.visits))
-      (cleared ∙ ap (λ (m : ℕ). take (2 * m) l ++ replicate (length l - 2 * m) 0) e)
+      (cleared ∙ ap (λ (m : ℕ). take (2 * m) l ++ replicate (length l - 2 * m) 0) e ∙ ap (λ (m : ℕ). replicate m 0) (sub-zero (length l)))
 
   pub some_told : (t.count ≡ 0 → ⊥) → IsTold n (ended s) (Ok (record { count = t.count; visits = t.visits })) l'
   unfolding list_of

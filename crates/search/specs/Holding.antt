@@ -1,26 +1,17 @@
 -- How the code represents a search: what its private functions promise each other. No public contract uses it.
-use Rattle.std.specs.Prelude.{ℕ, suc, ◌+◌, ◌-◌, ◌*◌, ◌/◌, ◌≤◌, ◌^◌, ◌≡◌, true, List, [], ◌∷◌, ℤ, pos, negsuc, length, take, None, Some, Result, Ok, Err}
+use Rattle.std.specs.Prelude.{ℕ, ◌+◌, ◌-◌, ◌*◌, ◌/◌, ◌≤◌, ◌^◌, ◌≡◌, List, [], ◌∷◌, length, take, None, Some, Result, Ok, Err}
 use Rattle.std.proofs.Math.IntN.{sub_ℕ}
 use Rattle.chart.specs.declared.Place.{Place}
-use Rattle.chart.specs.Places.{most_easting, most_northing, in_range}
-use Rattle.chart.specs.Factors.{unit_factor, is_factor}
+use Rattle.chart.specs.Places.{most_easting, most_northing}
+use Rattle.chart.specs.Factors.{unit_factor}
 use Rattle.chart.specs.Readings.{Wanted}
-use Rattle.search.specs.declared.Wish.{Wish}
-use Rattle.search.specs.declared.Hunt.{Hunt}
+use Rattle.search.specs.declared.hunt.Wish.{Wish}
+use Rattle.search.specs.declared.hunt.Hunt.{Hunt}
 use Rattle.search.specs.declared.Tally.{Tally}
 use Rattle.search.specs.declared.Unfound.{Unfound}
-use Rattle.search.specs.Questions.{Rule, Limits, Question, most_reading, most_tolerance}
+use Rattle.search.specs.Questions.{Rule, Limits, Question}
 use Rattle.search.specs.Walk.{Halt, Standing}
 use Rattle.search.specs.Answers.{unfound_by, entries_of}
-
--- How far a number lies above 0, and how far below.
-abbrev pub above_zero : ℤ → ℕ
-above_zero (pos n) = n
-above_zero (negsuc n) = 0
-
-abbrev pub below_zero : ℤ → ℕ
-below_zero (pos n) = 0
-below_zero (negsuc n) = suc n
 
 -- The slave of a wish, and the reading that it wants.
 abbrev pub wanted_by : Wish → Wanted
@@ -41,23 +32,9 @@ limits_by h = record { allowance = h.allowance; room = h.room }
 abbrev pub question_by : Hunt → Question
 question_by h = record { rule = rule_by h; limits = limits_by h }
 
--- A wish whose slave is in range and whose reading is not too large, so that the sums of the code fit.
-pub record Fair (w : Wish) : Type 0 where
-  pub slave : in_range w.slave ≡ true
-  pub above : w.above ≤ most_reading
-  pub below : w.below ≤ most_reading
-
 -- The least distance on the grid that is at least r long on the ground, under the factor f: the quotient is rounded up.
 abbrev pub least_for : ℕ → ℕ → ℕ
 least_for f r = (r * f + (unit_factor - 1)) / unit_factor
-
--- A hunt that has passed the tests of a search.
-pub record Ready (h : Hunt) : Type 0 where
-  pub factor : is_factor h.factor ≡ true
-  pub master : in_range h.master ≡ true
-  pub a : Fair h.a
-  pub b : Fair h.b
-  pub tolerance : h.tolerance ≤ most_tolerance
 
 -- The square of side 2^k at p lies on the chart.
 pub record OnChart (k side : ℕ) (p : Place) : Type 0 where

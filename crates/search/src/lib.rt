@@ -1,21 +1,24 @@
 // The search of a window: every cell that matches, each once, in chart order.
 #![tactic(auto)]
 
-ghost use Rattle.std.specs.Prelude.{◌≡◌, true, ◌++◌, ◌∷◌, [], ◌+◌, ◌-◌, ◌*◌, ◌≤◌, ◌<◌, ◌^◌, leb, length, take, replicate, Err};
+ghost use Rattle.std.specs.Prelude.{◌≡◌, true, ◌++◌, ◌∷◌, [], ◌+◌, ◌-◌, ◌*◌, ◌≤◌, ◌<◌, ◌^◌, leb, length, take, replicate, nat_abs, Err};
 ghost use Rattle.std.proofs.Math.IntN.{sub_ℕ};
 ghost use Rattle.chart.specs.Places.{in_range, squared_distance, distance_of};
 ghost use Rattle.chart.specs.Factors.{is_factor, on_ground};
 ghost use Rattle.chart.specs.Readings.{differ, wanted_of, within};
 ghost use Rattle.search.specs.Windows.{is_window};
 ghost use Rattle.search.specs.Windows as windows;
-ghost use Rattle.search.specs.Questions.{rule_of, none_too_large};
+ghost use Rattle.search.specs.Questions.{rule_of, most_reading, none_too_large};
 ghost use Rattle.search.specs.Walk.{Standing, start};
 ghost use Rattle.search.specs.Walk as walk;
 ghost use Rattle.search.specs.Answers.{ended, refusal_for, visits_before, list_of, search_left, search_figures};
 ghost use Rattle.search.specs.Counts.{said_for, stopped_with, how_many_of};
-ghost use Rattle.search.specs.Holding.{above_zero, below_zero, rule_by, question_by, least_for, Fair, Ready, OnChart, Holds, Represents};
+ghost use Rattle.search.specs.Holding.{wanted_by, rule_by, question_by, least_for, OnChart, Holds, Represents};
+
+mod hunt;
 
 use chart::{Chain, Place};
+use hunt::{Hunt, Wish};
 use refusals::Refusal;
 
 // The square of 2^k by 2^k cells whose south-west cell is the corner.
@@ -99,26 +102,6 @@ pub struct Stopped {
     pub visits: u64,
 }
 
-// A slave and the reading that is wanted for it, split into how far it is above 0 and how far below.
-#[derive(Clone, Copy)]
-struct Wish {
-    slave: Place,
-    above: u64,
-    below: u64,
-}
-
-// What a walk uses at every visit. It stays the same during the walk.
-#[derive(Clone, Copy)]
-struct Hunt {
-    factor: u64,
-    master: Place,
-    a: Wish,
-    b: Wish,
-    tolerance: u64,
-    allowance: u64,
-    room: usize,
-}
-
 // The state of a walk that goes on: the count of places listed, and the visits made.
 #[derive(Clone, Copy)]
 struct Tally {
@@ -166,43 +149,31 @@ pub fn search(
     ensures answer { result ≡ (search_left c (ra ∷ rb ∷ []) w tolerance allowance (length list.old)).answer }
     ensures list { list.new ≡ (search_left c (ra ∷ rb ∷ []) w tolerance allowance (length list.old)).list }
 {
-    let readings = none_too_large(ra, rb);
-    let chain = chart::sound(c);
-    let window = is_window(w);
-    if !readings {
-        clear_entries(list, 0);
-        return Err(Unfound::ReadingTooLarge);
+    if !none_too_large(ra, rb) {
+        return refused(list, Unfound::ReadingTooLarge);
     }
-    if !chain {
-        clear_entries(list, 0);
-        return Err(Unfound::Unsound);
+    if !chart::sound(c) {
+        return refused(list, Unfound::Unsound);
     }
-    if !window {
-        clear_entries(list, 0);
-        return Err(Unfound::BadWindow);
+    if !is_window(w) {
+        return refused(list, Unfound::BadWindow);
     }
     if tolerance > MOST_TOLERANCE {
-        clear_entries(list, 0);
-        return Err(Unfound::BadTolerance);
+        return refused(list, Unfound::BadTolerance);
     }
-    let factor = c.factor as u64;
-    let master = c.master;
     let a = wished(c.a, ra);
     let b = wished(c.b, rb);
     let room = list.len() / 2;
-    walked(
-        list,
-        Hunt {
-            factor,
-            master,
-            a,
-            b,
-            tolerance: tolerance as u64,
-            allowance,
-            room,
-        },
-        w,
-    )
+    let hunt = Hunt {
+        factor: c.factor as u64,
+        master: c.master,
+        a,
+        b,
+        tolerance: tolerance as u64,
+        allowance,
+        room,
+    };
+    walked(list, &hunt, w)
 }
 
 // An answer of `search` as figures.
@@ -260,10 +231,10 @@ fn said_for(a: Result<Found, Unfound>, first: Place) -> Result<HowMany, Stopped>
         Err(Unfound::BadTolerance) => unvisited(Refusal::Tolerance),
         Err(Unfound::NoMatch { visits }) => Ok(HowMany::None { visits }),
         Err(Unfound::NoRoom { visits }) => Ok(HowMany::Several { visits }),
-        Err(Unfound::AllowanceUsed { visits }) => Err(Stopped {
-            refusal: Refusal::Allowance,
-            visits,
-        }),
+        Err(Unfound::AllowanceUsed { visits }) => {
+            let refusal = Refusal::Allowance;
+            Err(Stopped { refusal, visits })
+        }
     }
 }
 
@@ -281,15 +252,23 @@ fn none_too_large(ra: i64, rb: i64) -> bool
     metres::size(ra) <= MOST_READING && metres::size(rb) <= MOST_READING
 }
 
+// A slave in range, and a reading that is not too large.
 fn wished(slave: Place, reading: i64) -> Wish
-    ensures { result ≡ record { slave = slave; above = above_zero reading; below = below_zero reading } }
+    requires { (in_range slave ≡ true) × (nat_abs reading ≤ most_reading) }
+    ensures { wanted_by result ≡ record { slave = slave; reading = reading } }
 {
     let size = metres::size(reading);
-    let (above, below) = if reading < 0 { (0, size) } else { (size, 0) };
+    if reading < 0 {
+        return Wish {
+            slave,
+            above: 0,
+            below: size,
+        };
+    }
     Wish {
         slave,
-        above,
-        below,
+        above: size,
+        below: 0,
     }
 }
 
@@ -341,11 +320,20 @@ pub fn clear_entries(list: &mut [u32], from: usize)
     }
 }
 
+// A refusal, with the whole list cleared.
+fn refused(list: &mut [u32], why: Unfound) -> Result<Found, Unfound>
+    ensures answer { result ≡ Err why }
+    ensures list { list.new ≡ replicate (length list.old) 0 }
+{
+    clear_entries(list, 0);
+    Err(why)
+}
+
 // The walk from its start to its end. At the end, every entry of the list that holds no place of the answer is cleared.
-fn walked(list: &mut [u32], h: Hunt, w: Window) -> Result<Found, Unfound>
-    requires { Ready h × (is_window w ≡ true) × (2 * h.room ≤ length list.old) }
-    ensures answer { result ≡ (ended (walk.visit (question_by h) w.k w.corner start)).answer }
-    ensures list { list.new ≡ list_of (length list.old) (ended (walk.visit (question_by h) w.k w.corner start)).places }
+fn walked(list: &mut [u32], h: &Hunt, w: Window) -> Result<Found, Unfound>
+    requires { (is_window w ≡ true) × (2 * h.now.room ≤ length list.old) }
+    ensures answer { result ≡ (ended (walk.visit (question_by h.now) w.k w.corner start)).answer }
+    ensures list { list.new ≡ list_of (length list.old) (ended (walk.visit (question_by h.now) w.k w.corner start)).places }
 {
     let begin = Tally {
         count: 0,
@@ -359,10 +347,7 @@ fn walked(list: &mut [u32], h: Hunt, w: Window) -> Result<Found, Unfound>
             }
             Ok(Found { count, visits })
         }
-        Err(why) => {
-            clear_entries(list, 0); // what was found so far is no answer, and no part of one
-            Err(why)
-        }
+        Err(why) => refused(list, why), // what was found so far is no answer, and no part of one
     }
 }
 
@@ -370,15 +355,15 @@ fn walked(list: &mut [u32], h: Hunt, w: Window) -> Result<Found, Unfound>
 // enough that one of Newton's steps mostly finds the distance that is needed here.
 fn visit(
     list: &mut [u32],
-    h: Hunt,
+    h: &Hunt,
     k: u32,
     side: u32,
     p: Place,
     guess: u64,
     t: Tally,
 ) -> Result<Tally, Unfound>
-    requires { Ready h × OnChart k side p × (2 * h.room ≤ length list.old) }
-    ensures { (s : Standing) → Holds s t list.old → Represents (walk.visit (question_by h) k p s) result list.new }
+    requires { OnChart k side p × (2 * h.now.room ≤ length list.old) }
+    ensures { (s : Standing) → Holds s t list.old → Represents (walk.visit (question_by h.now) k p s) result list.new }
 {
     if h.allowance <= t.visits {
         return Err(Unfound::AllowanceUsed { visits: t.visits });
@@ -405,9 +390,9 @@ fn visit(
 }
 
 // Tests a cell. One that matches goes into the list, or stops the walk if the list is full.
-fn cell(list: &mut [u32], h: Hunt, p: Place, guess: u64, t: Tally) -> Result<Tally, Unfound>
-    requires { Ready h × (in_range p ≡ true) × (2 * h.room ≤ length list.old) }
-    ensures { (s : Standing) → Holds s t list.old → Represents (walk.cell (question_by h) p s) result list.new }
+fn cell(list: &mut [u32], h: &Hunt, p: Place, guess: u64, t: Tally) -> Result<Tally, Unfound>
+    requires { (in_range p ≡ true) × (2 * h.now.room ≤ length list.old) }
+    ensures { (s : Standing) → Holds s t list.old → Represents (walk.cell (question_by h.now) p s) result list.new }
 {
     let m = distance(p, h.master, guess);
     if !near(h, p, m, h.tolerance) {
@@ -429,19 +414,19 @@ fn cell(list: &mut [u32], h: Hunt, p: Place, guess: u64, t: Tally) -> Result<Tal
 
 // Whether every slave's reading at p differs from the wanted one by at most slack. d is the master's distance from p.
 #[tactic(auto, using(chart::proofs::RangeLaws::range_is_on_ground), unfolding(chart::specs::Readings::within, chart::specs::Readings::reading_of))]
-fn near(h: Hunt, p: Place, d: u64, slack: u64) -> bool
-    requires { Ready h × (in_range p ≡ true) × (d ≡ distance_of p h.master) × (d < 2 ^ 30) × (slack < 2 ^ 28) }
-    ensures { result ≡ within slack (rule_by h).chain (rule_by h).wanted p }
+fn near(h: &Hunt, p: Place, d: u64, slack: u64) -> bool
+    requires { (in_range p ≡ true) × (d ≡ distance_of p h.now.master) × (d < 2 ^ 30) × (slack < 2 ^ 28) }
+    ensures { result ≡ within slack (rule_by h.now).chain (rule_by h.now).wanted p }
 {
     let m = on_ground(h.factor, d);
-    agrees(h.a, h.factor, p, m, slack) && agrees(h.b, h.factor, p, m, slack)
+    agrees(&h.a, h.factor, p, m, slack) && agrees(&h.b, h.factor, p, m, slack)
 }
 
 // The same for one slave; m is the master's range. The slave's distance is the root of y. Its range is at least r exactly if y is at
 // least the square of the least distance for r; so no root is computed, and nothing is divided by the factor.
-fn agrees(w: Wish, factor: u64, p: Place, m: u64, slack: u64) -> bool
-    requires { Fair w × (is_factor factor ≡ true) × (in_range p ≡ true) × (m < 2 ^ 31) × (slack < 2 ^ 28) }
-    ensures { result ≡ leb (differ (sub_ℕ (on_ground factor (distance_of p w.slave)) m) (sub_ℕ w.above w.below)) slack }
+fn agrees(w: &Wish, factor: u64, p: Place, m: u64, slack: u64) -> bool
+    requires { (is_factor factor ≡ true) × (in_range p ≡ true) × (m < 2 ^ 31) × (slack < 2 ^ 28) }
+    ensures { result ≡ leb (differ (sub_ℕ (on_ground factor (distance_of p w.now.slave)) m) (sub_ℕ w.now.above w.now.below)) slack }
 {
     let y = squared(p, w.slave);
     let far = m + w.above;

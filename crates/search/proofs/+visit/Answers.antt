@@ -22,19 +22,19 @@ use Rattle.search.proofs.+visit.Goals as goal
 
 -- The exponent of the quarters.
 exponent : (t : ℕ) (e : Else-k-eq0 t) → e.args.k ≡ suc (e.args.k - 1)
-exponent t e = let a = e.args in k_is a.k a.side a.p e.requires.1 e.if-k-eq0.false
+exponent t e = let a = e.args in k_is a.k a.side a.p e.requires.0 e.if-k-eq0.false
 
 -- The middle is in range, and the test there is the definition's.
 middle_ok : (t : ℕ) (c : After-north_east-middle t) → in_range c.north_east-middle.result ≡ true
 middle_ok t c =
     let a = c.args in
-    subst⁻¹ (λ (o : Place). in_range o ≡ true) c.north_east-middle.ensures (middle_in_range a.k a.side a.p c.requires.1 c.if-k-eq0.false)
+    subst⁻¹ (λ (o : Place). in_range o ≡ true) c.north_east-middle.ensures (middle_in_range a.k a.side a.p c.requires.0 c.if-k-eq0.false)
 
-test_is : (t : ℕ) (c : After-near t) → let a = c.args in c.near.result ≡ is_kept (rule_by a.h) (a.k - 1) a.p
+test_is : (t : ℕ) (c : After-near t) → let a = c.args in c.near.result ≡ is_kept (rule_by a.h.now) (a.k - 1) a.p
 test_is t c =
     let a = c.args in
     c.near.ensures
-    ∙ kept_is a.k a.side a.p c.requires.1 c.if-k-eq0.false (rule_by a.h) _ c.north_east-middle.ensures
+    ∙ kept_is a.k a.side a.p c.requires.0 c.if-k-eq0.false (rule_by a.h.now) _ c.north_east-middle.ensures
 
 -- Where the other three corners lie.
 parts : (t : ℕ) (n : After-north-north_west t) → let a = n.args in let se = n.east-south_east.result in let nw = n.north-north_west.result in let ne = n.north_east-middle.result in
@@ -51,21 +51,21 @@ parts t n =
 quarter : (t : ℕ) (n : After-north-north_west t) (o : Place) → let a = n.args in
     o.easting ≤ a.p.easting + a.side / 2 → o.northing ≤ a.p.northing + a.side / 2 → OnChart (a.k - 1) (a.side / 2) o
 quarter t n o e f =
-    let w = n.requires.1 in
-    record { side_is = half_is n.args.k n.args.side n.args.p n.requires.1 n.if-k-eq0.false; east = omega (arith, w.east); north = omega (arith, w.north) }
+    let w = n.requires.0 in
+    record { side_is = half_is n.args.k n.args.side n.args.p n.requires.0 n.if-k-eq0.false; east = omega (arith, w.east); north = omega (arith, w.north) }
 
 -- What represents the walk after the four quarters represents it after the square.
-square_told : (t : ℕ) (n : After-north-north_west t) (s : Standing) → let a = n.args in let q = question_by a.h in let k = a.k - 1 in
+square_told : (t : ℕ) (n : After-north-north_west t) (s : Standing) → let a = n.args in let q = question_by a.h.now in let k = a.k - 1 in
     Holds s a.t a.list.now → (r : Result Tally Unfound) (l : List ℕ) →
     Represents (visit q k n.north_east-middle.result (visit q k n.north-north_west.result (visit q k n.east-south_east.result (visit q k a.p (counted s))))) r l →
     Represents (visit q a.k a.p s) r l
 square_told t n s h r l g =
     let a = n.args in
-    let half : a.side / 2 ≡ 2 ^ (a.k - 1) = half_is a.k a.side a.p n.requires.1 n.if-k-eq0.false in
-    let test : n.near.result ≡ is_kept (rule_by a.h) (a.k - 1) a.p =
-    n.near.ensures ∙ kept_is a.k a.side a.p n.requires.1 n.if-k-eq0.false (rule_by a.h) _ n.north_east-middle.ensures in
-    let kept : is_kept (rule_by a.h) (a.k - 1) a.p ≡ true = cc test in
-    quarters-hold s a.t a.list.now h (question_by a.h) a.p n.if-h-t.false a.k (a.k - 1) _ _ _ r l (k_is a.k a.side a.p n.requires.1 n.if-k-eq0.false) kept
+    let half : a.side / 2 ≡ 2 ^ (a.k - 1) = half_is a.k a.side a.p n.requires.0 n.if-k-eq0.false in
+    let test : n.near.result ≡ is_kept (rule_by a.h.now) (a.k - 1) a.p =
+    n.near.ensures ∙ kept_is a.k a.side a.p n.requires.0 n.if-k-eq0.false (rule_by a.h.now) _ n.north_east-middle.ensures in
+    let kept : is_kept (rule_by a.h.now) (a.k - 1) a.p ≡ true = cc test in
+    quarters-hold s a.t a.list.now h (question_by a.h.now) a.p n.if-h-t.false a.k (a.k - 1) _ _ _ r l (k_is a.k a.side a.p n.requires.0 n.if-k-eq0.false) kept
     (n.east-south_east.ensures ∙ ap (λ (d : ℕ). east d a.p) half)
     (n.north-north_west.ensures ∙ ap (λ (d : ℕ). north d a.p) half)
     (n.north_east-middle.ensures ∙ ap (λ (d : ℕ). north_east d a.p) half)
@@ -74,87 +74,87 @@ square_told t n s h r l g =
 pub returns-then-h-t : goal.returns-then-h-t
 returns-then-h-t t c = λ s h.
     let a = c.args in
-    out_halts s a.t a.list.now h (question_by a.h) a.p a.k (omega (arith, c.if-h-t.true))
+    out_halts s a.t a.list.now h (question_by a.h.now) a.p a.k (omega (arith, c.if-h-t.true))
 
 pub cell-requires : goal.cell-requires
 cell-requires t c =
     let a = c.args in
-    (c.requires.0, corner_in_range a.k a.side a.p c.requires.1, c.requires.2)
+    (corner_in_range a.k a.side a.p c.requires.0, c.requires.1)
 
 pub returns-then-k-eq0 : goal.returns-then-k-eq0
 returns-then-k-eq0 t c = λ s h.
     let a = c.args in
-    cell_holds s a.t a.list.now h (question_by a.h) a.p c.if-h-t.false a.k _ _ c.if-k-eq0.true
+    cell_holds s a.t a.list.now h (question_by a.h.now) a.p c.if-h-t.false a.k _ _ c.if-k-eq0.true
     (c.cell.ensures (counted s) (count_holds s a.t a.list.now h))
 
 pub north_east-middle-requires : goal.north_east-middle-requires
 north_east-middle-requires t c =
-    omega (arith, c.requires.1.side_is, c.requires.1.east, c.requires.1.north)
+    omega (arith, c.requires.0.side_is, c.requires.0.east, c.requires.0.north)
 
 pub distance-m-requires : goal.distance-m-requires
-distance-m-requires t c = (middle_ok t (goal.at.distance-m-requires t c).After-north_east-middle, c.requires.0.master)
+distance-m-requires t c = (middle_ok t (goal.at.distance-m-requires t c).After-north_east-middle, c.args.h.now.master_on_grid)
 
 pub overflow_add-h : goal.overflow_add-h
 overflow_add-h t c =
-    omega (arith, c.requires.0.tolerance, c.requires.1.east, c.requires.1.side_is)
+    omega (arith, c.args.h.now.tolerable, c.requires.0.east, c.requires.0.side_is)
 
 pub overflow_add-h-2 : goal.overflow_add-h-2
 overflow_add-h-2 t c =
-    omega (arith, c.requires.0.tolerance, c.requires.1.east, c.requires.1.side_is)
+    omega (arith, c.args.h.now.tolerable, c.requires.0.east, c.requires.0.side_is)
 
 pub near-requires : goal.near-requires
 near-requires t c =
-    (c.requires.0, middle_ok t (goal.at.near-requires t c).After-north_east-middle, c.distance-m.ensures.0, c.distance-m.ensures.1, omega (arith, c.requires.0.tolerance, c.requires.1.east, c.requires.1.side_is))
+    (middle_ok t (goal.at.near-requires t c).After-north_east-middle, c.distance-m.ensures.0, c.distance-m.ensures.1, omega (arith, c.args.h.now.tolerable, c.requires.0.east, c.requires.0.side_is))
 
 pub returns-then-not-near : goal.returns-then-not-near
 returns-then-not-near t c = λ s h.
     let a = c.args in
     let kept = test_is t (goal.at.returns-then-not-near t c).After-near in
-    let dropped : is_kept (rule_by a.h) (a.k - 1) a.p ≡ false = cc kept in
-    dropped-holds s a.t a.list.now h (question_by a.h) a.p c.if-h-t.false a.k (a.k - 1) (exponent t (goal.at.returns-then-not-near t c).Else-k-eq0) dropped
+    let dropped : is_kept (rule_by a.h.now) (a.k - 1) a.p ≡ false = cc kept in
+    dropped-holds s a.t a.list.now h (question_by a.h.now) a.p c.if-h-t.false a.k (a.k - 1) (exponent t (goal.at.returns-then-not-near t c).Else-k-eq0) dropped
 
 pub east-south_east-requires : goal.east-south_east-requires
 east-south_east-requires t c =
-    omega (arith, c.requires.1.side_is, c.requires.1.east)
+    omega (arith, c.requires.0.side_is, c.requires.0.east)
 
 pub north-north_west-requires : goal.north-north_west-requires
 north-north_west-requires t c =
-    omega (arith, c.requires.1.side_is, c.requires.1.north)
+    omega (arith, c.requires.0.side_is, c.requires.0.north)
 
 -- A quarter may be visited: its exponent is less, it lies on the chart, and the list keeps its length.
 pub visit-requires : goal.visit-requires
 visit-requires t c =
     let n = (goal.at.visit-requires t c).After-north-north_west in (
       omega (arith, c.if-k-eq0.false, c),
-      (c.requires.0, quarter t n _ (omega (arith, parts t n)) (omega (arith, parts t n)), omega (arith, c.requires.2)),
+      (quarter t n _ (omega (arith, parts t n)) (omega (arith, parts t n)), omega (arith, c.requires.1)),
     )
 
 pub visit-requires-2 : goal.visit-requires-2
 visit-requires-2 t c =
     let n = (goal.at.visit-requires-2 t c).After-north-north_west in (
       omega (arith, c.if-k-eq0.false, c),
-      (c.requires.0, quarter t n _ (omega (arith, parts t n)) (omega (arith, parts t n)), omega (arith, c.requires.2, c.visit.auto.list)),
+      (quarter t n _ (omega (arith, parts t n)) (omega (arith, parts t n)), omega (arith, c.requires.1, c.visit.auto.list)),
     )
 
 pub visit-requires-3 : goal.visit-requires-3
 visit-requires-3 t c =
     let n = (goal.at.visit-requires-3 t c).After-north-north_west in (
       omega (arith, c.if-k-eq0.false, c),
-      (c.requires.0, quarter t n _ (omega (arith, parts t n)) (omega (arith, parts t n)), omega (arith, c.requires.2, c.visit.auto.list, c.visit-2.auto.list)),
+      (quarter t n _ (omega (arith, parts t n)) (omega (arith, parts t n)), omega (arith, c.requires.1, c.visit.auto.list, c.visit-2.auto.list)),
     )
 
 pub visit-requires-4 : goal.visit-requires-4
 visit-requires-4 t c =
     let n = (goal.at.visit-requires-4 t c).After-north-north_west in (
       omega (arith, c.if-k-eq0.false, c),
-      (c.requires.0, quarter t n _ (omega (arith, parts t n)) (omega (arith, parts t n)), omega (arith, c.requires.2, c.visit.auto.list, c.visit-2.auto.list, c.visit-3.auto.list)),
+      (quarter t n _ (omega (arith, parts t n)) (omega (arith, parts t n)), omega (arith, c.requires.1, c.visit.auto.list, c.visit-2.auto.list, c.visit-3.auto.list)),
     )
 
 -- A stop in one quarter is a stop of the square.
 pub returns-in_err-sw : goal.returns-in_err-sw
 returns-in_err-sw t c = λ s h.
     let a = c.args in
-    let q = question_by a.h in
+    let q = question_by a.h.now in
     let up = err_from_is_err_and c.from_residual.result c.from_residual.ensures.1 in
     let halted = c.in_err-sw.ensures (counted s) (count_holds s a.t a.list.now h) in
     square_told t (goal.at.returns-in_err-sw t c).After-north-north_west s h _ _
@@ -163,7 +163,7 @@ returns-in_err-sw t c = λ s h.
 pub returns-in_err-se : goal.returns-in_err-se
 returns-in_err-se t c = λ s h.
     let a = c.args in
-    let q = question_by a.h in
+    let q = question_by a.h.now in
     let up = err_from_is_err_and c.from_residual-in_err-se.result c.from_residual-in_err-se.ensures.1 in
     let sw = c.in_ok-sw.ensures (counted s) (count_holds s a.t a.list.now h) in
     let halted = c.in_err-se.ensures _ sw in
@@ -173,7 +173,7 @@ returns-in_err-se t c = λ s h.
 pub returns-in_err-nw : goal.returns-in_err-nw
 returns-in_err-nw t c = λ s h.
     let a = c.args in
-    let q = question_by a.h in
+    let q = question_by a.h.now in
     let up = err_from_is_err_and c.from_residual-in_err-nw.result c.from_residual-in_err-nw.ensures.1 in
     let sw = c.in_ok-sw.ensures (counted s) (count_holds s a.t a.list.now h) in
     let se = c.in_ok-se.ensures _ sw in

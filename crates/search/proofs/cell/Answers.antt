@@ -9,17 +9,17 @@ use Rattle.search.proofs.cell.Goals as goal
 pub returns-then-not-near : goal.returns-then-not-near
 returns-then-not-near c s h =
     let a = c.args in
-    let m : matches (rule_by a.h) a.p ≡ false = cc in
-    missed_holds s a.t a.list.now h (question_by a.h) a.p m
+    let m : matches (rule_by a.h.now) a.p ≡ false = cc in
+    missed_holds s a.t a.list.now h (question_by a.h.now) a.p m
 
 pub returns-then-h-n : goal.returns-then-h-n
 returns-then-h-n c s h =
     let a = c.args in
-    let m : matches (rule_by a.h) a.p ≡ true = cc in
-    full_halts s a.t a.list.now h (question_by a.h) a.p m c.if-h-n.true
+    let m : matches (rule_by a.h.now) a.p ≡ true = cc in
+    full_halts s a.t a.list.now h (question_by a.h.now) a.p m c.if-h-n.true
 
 pub returns : goal.returns
 returns c s h =
     let a = c.args in
-    let m : matches (rule_by a.h) a.p ≡ true = cc in
-    listed_holds s a.t a.list.now h (question_by a.h) a.p m c.if-h-n.false c.requires.2
+    let m : matches (rule_by a.h.now) a.p ≡ true = cc in
+    listed_holds s a.t a.list.now h (question_by a.h.now) a.p m c.if-h-n.false c.requires.1

@@ -1,4 +1,5 @@
 -- `search::walked` meets its contract: the walk may start with any list, and its end is answered with the list cleared.
+use mathlib.Core.Path.{◌∙◌}
 use native.Mathlib.Omega.{arith}
 use Rattle.search.specs.Walk.{start}
 use Rattle.search.proofs.WindowLaws.{window_says}
@@ -7,16 +8,16 @@ use Rattle.search.proofs.EndLaws.{start_holds, halted_told, none_told, some_told
 use Rattle.search.proofs.walked.Goals as goal
 
 pub side_of-requires : goal.side_of-requires
-side_of-requires c = omega (arith, (window_says c.args.w c.requires.1).0)
+side_of-requires c = omega (arith, (window_says c.args.w c.requires.0).0)
 
 pub visit-requires : goal.visit-requires
 visit-requires c =
-    (c.requires.0, (window_says c.args.w c.requires.1).1 _ _ (omega arith) c.side_of.ensures, c.requires.2)
+    ((window_says c.args.w c.requires.0).1 _ _ (omega arith) c.side_of.ensures, c.requires.1)
 
 pub returns-in-Err : goal.returns-in-Err
 returns-in-Err c =
-    let told = halted_told _ _ _ c.visit.new.list _ (c.in-Err.ensures start (start_holds _)) c.visit.auto.list c.clear_entries-in-Err.ensures in
-    record { answer = told.0; list = told.1 }
+    let told = halted_told _ _ _ c.visit.new.list _ (c.in-Err.ensures start (start_holds _)) c.visit.auto.list c.refused.ensures.list in
+    record { answer = c.refused.ensures.answer ∙ told.0; list = told.1 }
 
 pub overflow_mul-count : goal.overflow_mul-count
 overflow_mul-count c =
