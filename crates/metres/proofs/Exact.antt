@@ -1,14 +1,13 @@
 -- From exactly 100 times a number of metres to its centimetres, or to the refusal. Equal fractions round to the same number.
-use Prim.Native.Nat.{ℕ, ◌*◌, ◌/◌, ◌%◌, ◌^◌, ◌<◌, compare}
+use Prim.Native.Nat.{ℕ, ◌*◌, ◌^◌}
 use mathlib.Core.Path.{◌≡◌, refl, sym, ap, ap₂, ◌∙◌}
 use mathlib.Core.Bool.{Bool}
-use native.Mathlib.Nat.{div-le_self, mul_assoc}
-use native.Mathlib.Omega.{arith}
+use native.Mathlib.Nat.{mul_assoc}
 use lib.Pow.{pow_pos}
 use lib.IntN.{ℤ}
 use lib.Ieee.{Float, nan, inf, fin, up, down}
 use lib.Ieee.Exact.{HasValue}
-use lib.Ieee.Fits.{down_pos, nearest-le}
+use lib.Ieee.Fits.{down_pos}
 use lib.Ieee.Nearest.{closest, closest_same}
 use Rattle.std.specs.Prelude.{Some, None}
 use Rattle.metres.specs.declared.hundredfold.Hundredfold.{Hundredfold}

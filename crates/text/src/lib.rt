@@ -1,5 +1,6 @@
 // Puts text into a buffer: bytes as they are, numbers in decimal, bytes in hexadecimal. Each public function returns where the
-// text ends. Without room for all of it, nothing is put, and the function returns where the text would have begun.
+// text ends. Without room for all of it, nothing is put, and the function returns where the text would have begun. The buffer and the
+// place are parameters, not a struct, and the end is no Option, since the clauses `end` and `out` speak of the buffer that was lent.
 #![tactic(auto)]
 
 ghost use Rattle.std.specs.Prelude.{◌≡◌, ◌∷◌, [], ◌+◌, ◌*◌, ◌≤◌, ◌<◌, length};
@@ -20,7 +21,7 @@ pub fn put(out: &mut [u8], at: usize, s: &[u8]) -> usize
     put_all(out, at, s)
 }
 
-// Puts a number in decimal.
+// Puts a number in decimal. This and `put_whole` are two calls of one generic function, itoa's.
 #[tactic(auto, using(crate::proofs::WholeLaws::decimal_is))]
 pub fn put_number(out: &mut [u8], at: usize, n: u64) -> usize
     ensures end { result ≡ end_after (length out.old) at (digits_of n) }
@@ -98,6 +99,7 @@ fn put_pair(out: &mut [u8], at: usize, b: u8) -> usize
     put_all(out, at, &[hex_digit(b / 16), hex_digit(b % 16)])
 }
 
+// `char::from_digit` gives a char in an Option, which would have to be taken out and cast.
 #[tactic(auto, unfolding(crate::specs::Texts::hex_digit))]
 fn hex_digit(half: u8) -> u8
     requires { half < 16 }
