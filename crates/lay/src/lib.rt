@@ -3,23 +3,25 @@
 // memory as the array's elements do.
 #![tactic(auto)]
 
-ghost use Rattle.std.specs.Prelude.{cond, [], ◌∷◌, ◌≡◌, pos, length, get_or, replicate, ◌+◌, ◌<◌};
+ghost use Rattle.std.specs.Prelude.{[], ◌∷◌, ◌≡◌, pos, length, get_or, replicate, ◌+◌, ◌<◌, Ok, Err};
+ghost use Rattle.refusals.specs.Numbers.{refusal_number, number_told};
 ghost use Rattle.chart.specs.Places.{place_of};
 ghost use Rattle.metres.specs.Metres.{centimetres_of, metres_of, whole_figures, length_figures};
 ghost use Rattle.metres.specs.Marks.{mark_of};
-ghost use Rattle.search.specs.declared.HowMany.TheVariants as many;
-ghost use Rattle.records.specs.declared.NamedChain.TheVariants as named;
 ghost use Rattle.writing.specs.Writing.{refusal_of, buffer_of};
 ghost use Rattle.writing.specs.FactorWriting.{factor_refusal_of, factor_buffer_of};
 ghost use Rattle.writing.specs.JobWriting.{job_refusal_of, job_buffer_of};
-ghost use Rattle.lay.specs.Figures.{version, mark_figure, job_by, draft_by, chain_by, chain_lent, chain_told, chain_written, factor_after, factor_told, stations_lent, stations_told, expected_lent, expected_told, unsearched, searched_by, searched_in, search_told, found_in, many_figures, asked_in, many_told, numbers_of, entry_figures, marked_figures, record_figures, count_figures, count_told, job_answered, job_told, carried_in, held_figures, listed_figures, part_of, list_told};
+ghost use Rattle.lay.specs.Figures.{version, mark_figure, job_by, draft_by, chain_by, chain_lent, chain_told, chain_written, factor_after, factor_told, stations_lent, stations_told, expected_lent, expected_told, unsearched, searched_by, searched_in, search_told, found_in, many_figures, asked_in, many_told, numbers_of, entry_figures, marked_figures, record_figures, count_figures, count_told, job_answered, job_told, unasked, carried_in, held_figures, listed_figures, part_of, list_told};
 
 use chart::{Chain, Place};
 use listing::{Carried, Listed};
 use metres::Mark;
-use records::{ChainCount, Job, JobAnswer, LogEntry, MarkedEntry, NamedChain, RawAnswer};
-use search::{HowMany, SearchFigures, Window};
+use records::{Job, LogEntry, MarkedEntry};
+use refusals::{Refusal, number_told};
+use search::{HowMany, SearchFigures, Stopped, Window};
 use writing::Draft;
+
+// The figures below stand in for answers at the C interface, which knows no enums: a refusal is its number there, 0 for none.
 
 // How many places readings allow.
 #[derive(Clone, Copy)]
@@ -84,6 +86,12 @@ const CHAIN_NUMBERS: usize = 6;
 
 const CHAIN_READINGS: usize = 2;
 
+// The place in figures that give none.
+const NOWHERE: Place = Place {
+    easting: 0,
+    northing: 0,
+};
+
 // 2^32, which splits a number of 64 bits into its two halves.
 const HALF: usize = 1 << 32;
 
@@ -95,6 +103,7 @@ pub fn lay_version() -> u32
 }
 
 // Metres to whole centimetres, and how they were rounded.
+#[tactic(auto, unfolding(metres::specs::Marks::marked_of))]
 pub fn lay_centimetres(metres: f64, centimetres: &mut i64, mark: &mut u32) -> u32
     ensures answer { result ≡ (whole_figures (centimetres_of metres)).refusal }
     ensures centimetres { centimetres.new ≡ (whole_figures (centimetres_of metres)).centimetres }
@@ -129,7 +138,8 @@ pub fn lay_expected(readings: &mut [i64], chain: &[u8], factor: u32, e: u32, n: 
         easting: e,
         northing: n,
     };
-    expected(readings, records::raw_chain(chain, factor), place)
+    let answer = expected(readings, records::raw_chain(chain, factor), place);
+    number_told(&answer)
 }
 
 // Every cell of a job's window that matches the readings, in chart order. Chain and job are given as bytes, the chain with its factor.
@@ -224,19 +234,18 @@ pub fn lay_write_record(
     first: i64,
     second: i64,
 ) -> u32
-    ensures answer { result ≡ refusal_of (length buffer.old) (draft_by kind chain line first second) }
+    ensures answer { result ≡ number_told (refusal_of (length buffer.old) (draft_by kind chain line first second)) }
     ensures buffer { buffer.new ≡ buffer_of (length buffer.old) (draft_by kind chain line first second) }
 {
-    writing::write(
-        buffer,
-        Draft {
-            kind,
-            chain,
-            line,
-            x: first,
-            y: second,
-        },
-    )
+    let draft = Draft {
+        kind,
+        chain,
+        line,
+        x: first,
+        y: second,
+    };
+    let answer = writing::write(buffer, draft);
+    number_told(&answer)
 }
 
 // Reads the job in 32 bytes.
@@ -266,23 +275,23 @@ pub fn lay_read_job(
 
 // Writes a job into a buffer.
 pub fn lay_write_job(buffer: &mut [u8], ce: u32, cn: u32, k: u32, t: u32, allowance: u64) -> u32
-    ensures answer { result ≡ job_refusal_of (length buffer.old) (job_by ce cn k t allowance) }
+    ensures answer { result ≡ number_told (job_refusal_of (length buffer.old) (job_by ce cn k t allowance)) }
     ensures buffer { buffer.new ≡ job_buffer_of (length buffer.old) (job_by ce cn k t allowance) }
 {
-    writing::write_job(
-        buffer,
-        Job {
-            window: Window {
-                corner: Place {
-                    easting: ce,
-                    northing: cn,
-                },
-                k,
-            },
-            tolerance: t,
-            allowance,
+    let window = Window {
+        corner: Place {
+            easting: ce,
+            northing: cn,
         },
-    )
+        k,
+    };
+    let job = Job {
+        window,
+        tolerance: t,
+        allowance,
+    };
+    let answer = writing::write_job(buffer, job);
+    number_told(&answer)
 }
 
 // How many chains a table has.
@@ -308,9 +317,9 @@ pub fn lay_chain(
     ensures factor { factor.new ≡ factor_told (length buffer.old) table.now scale.now number }
 {
     let chain = records::chain_of(table, scale, number);
-    let refusal = put_chain(buffer, chain);
-    *factor = factor_after(refusal, chain);
-    refusal
+    let put = put_chain(buffer, chain);
+    *factor = factor_after(put, chain);
+    number_told(&put)
 }
 
 // The stations of a chain from its bytes and its factor, easting and northing in turn.
@@ -318,7 +327,8 @@ pub fn lay_read_chain(chain: &[u8], factor: u32, stations: &mut [u32]) -> u32
     ensures answer { result ≡ (stations_told (length stations.old) chain.now factor).refusal }
     ensures stations { stations.new ≡ (stations_told (length stations.old) chain.now factor).holds }
 {
-    read_chain(stations, records::raw_chain(chain, factor))
+    let answer = read_chain(stations, records::raw_chain(chain, factor));
+    number_told(&answer)
 }
 
 // Writes a chain into a buffer, from the numbers of its stations and its factor.
@@ -326,15 +336,17 @@ pub fn lay_write_chain(buffer: &mut [u8], stations: &[u32], factor: u32) -> u32
     ensures answer { result ≡ (chain_written (length buffer.old) stations.now factor).refusal }
     ensures buffer { buffer.new ≡ (chain_written (length buffer.old) stations.now factor).holds }
 {
-    put_chain(buffer, chain_by(stations, factor))
+    let answer = put_chain(buffer, chain_by(stations, factor));
+    number_told(&answer)
 }
 
 // Writes a factor into a buffer.
 pub fn lay_write_factor(buffer: &mut [u8], factor: u32) -> u32
-    ensures answer { result ≡ factor_refusal_of (length buffer.old) factor }
+    ensures answer { result ≡ number_told (factor_refusal_of (length buffer.old) factor) }
     ensures buffer { buffer.new ≡ factor_buffer_of (length buffer.old) factor }
 {
-    writing::write_factor(buffer, factor)
+    let answer = writing::write_factor(buffer, factor);
+    number_told(&answer)
 }
 
 // Puts the listing of a log, or of a further part of one, into a buffer as text. On entry `part` has the place carried to it; on
@@ -371,72 +383,90 @@ pub fn lay_list(
     f.refusal
 }
 
-fn expected(readings: &mut [i64], chain: NamedChain, place: Place) -> u32
-    ensures answer { result ≡ (expected_lent (length readings.old) chain place).refusal }
+#[tactic(auto, unfolding(crate::specs::Figures::expected_lent))]
+fn expected(
+    readings: &mut [i64],
+    chain: Result<Chain, Refusal>,
+    place: Place,
+) -> Result<(), Refusal>
+    ensures answer { number_told result ≡ (expected_lent (length readings.old) chain place).refusal }
     ensures readings { readings.new ≡ (expected_lent (length readings.old) chain place).holds }
 {
     clear_readings(readings);
-    match chain {
-        NamedChain::Chain(c) => put_expected(readings, c, place),
-        NamedChain::Refused(number) => number,
-    }
+    let c = chain?;
+    put_expected(readings, c, place)
 }
 
 fn clear_readings(readings: &mut [i64])
     ensures { readings.new ≡ replicate (length readings.old) (pos 0) }
 {
-    let mut i = 0;
-    while i < readings.len() {
-        readings[i] = 0;
-        i += 1;
-    }
+    readings.fill(0);
 }
 
 // Puts the readings expected for a chain into a list of zeros.
-fn put_expected(readings: &mut [i64], c: Chain, place: Place) -> u32
+#[tactic(auto, unfolding(crate::specs::Figures::expected_lent, chart::specs::Readings::figures_of, chart::specs::Readings::said_by))]
+fn put_expected(readings: &mut [i64], c: Chain, place: Place) -> Result<(), Refusal>
     requires { readings.old ≡ replicate (length readings.old) (pos 0) }
-    ensures answer { result ≡ (expected_lent (length readings.old) (named.Chain c) place).refusal }
-    ensures readings { readings.new ≡ (expected_lent (length readings.old) (named.Chain c) place).holds }
+    ensures answer { number_told result ≡ (expected_lent (length readings.old) (Ok c) place).refusal }
+    ensures readings { readings.new ≡ (expected_lent (length readings.old) (Ok c) place).holds }
 {
     if readings.len() != CHAIN_READINGS {
-        return 1;
+        return Err(Refusal::Length);
     }
-    let f = chart::as_figures(chart::readings(c, place));
+    let f = chart::readings(c, place)?;
     let a = f.a;
     let b = f.b;
-    readings[0] = a;
-    readings[1] = b;
-    f.refusal
+    readings.copy_from_slice(&[a, b]);
+    Ok(())
 }
 
-fn searched(list: &mut [u32], chain: NamedChain, readings: &[i64], job: JobAnswer) -> SearchFigures
+#[tactic(auto, unfolding(crate::specs::Figures::searched_in))]
+fn searched(
+    list: &mut [u32],
+    chain: Result<Chain, Refusal>,
+    readings: &[i64],
+    job: Result<Job, Refusal>,
+) -> SearchFigures
     ensures answer { result ≡ (searched_in chain readings.now job (length list.old)).figures }
     ensures list { list.new ≡ (searched_in chain readings.now job (length list.old)).list }
 {
     match chain {
-        NamedChain::Chain(c) => searched_for(list, c, readings, job),
-        NamedChain::Refused(number) => not_searched(list, number),
+        Ok(c) => searched_for(list, c, readings, job),
+        Err(refusal) => not_searched(list, refusal),
     }
 }
 
-fn searched_for(list: &mut [u32], c: Chain, readings: &[i64], job: JobAnswer) -> SearchFigures
-    ensures answer { result ≡ (searched_in (named.Chain c) readings.now job (length list.old)).figures }
-    ensures list { list.new ≡ (searched_in (named.Chain c) readings.now job (length list.old)).list }
+#[tactic(auto, using(crate::proofs::Lists::two_read), unfolding(crate::specs::Figures::searched_in))]
+fn searched_for(
+    list: &mut [u32],
+    c: Chain,
+    readings: &[i64],
+    job: Result<Job, Refusal>,
+) -> SearchFigures
+    ensures answer { result ≡ (searched_in (Ok c) readings.now job (length list.old)).figures }
+    ensures list { list.new ≡ (searched_in (Ok c) readings.now job (length list.old)).list }
 {
     if readings.len() != CHAIN_READINGS {
-        return not_searched(list, 1);
+        return not_searched(list, Refusal::Length);
     }
     let a = readings[0];
     let b = readings[1];
     searched_by(list, c, a, b, job)
 }
 
-fn searched_by(list: &mut [u32], c: Chain, a: i64, b: i64, job: JobAnswer) -> SearchFigures
+#[tactic(auto, unfolding(crate::specs::Figures::searched_by))]
+fn searched_by(
+    list: &mut [u32],
+    c: Chain,
+    a: i64,
+    b: i64,
+    job: Result<Job, Refusal>,
+) -> SearchFigures
     ensures answer { result ≡ (searched_by c (a ∷ b ∷ []) job (length list.old)).figures }
     ensures list { list.new ≡ (searched_by c (a ∷ b ∷ []) job (length list.old)).list }
 {
     match job {
-        JobAnswer::Job(j) => search::as_figures(search::search(
+        Ok(j) => search::as_figures(search::search(
             list,
             c,
             a,
@@ -445,66 +475,62 @@ fn searched_by(list: &mut [u32], c: Chain, a: i64, b: i64, job: JobAnswer) -> Se
             j.tolerance,
             j.allowance,
         )),
-        JobAnswer::Refused(number) => not_searched(list, number),
+        Err(refusal) => not_searched(list, refusal),
     }
 }
 
-fn not_searched(list: &mut [u32], number: u32) -> SearchFigures
-    ensures answer { result ≡ (unsearched number (length list.old)).figures }
-    ensures list { list.new ≡ (unsearched number (length list.old)).list }
+fn not_searched(list: &mut [u32], refusal: Refusal) -> SearchFigures
+    ensures answer { result ≡ (unsearched refusal (length list.old)).figures }
+    ensures list { list.new ≡ (unsearched refusal (length list.old)).list }
 {
-    search::clear_entries(list, 0);
+    list.fill(0);
     SearchFigures {
-        refusal: number,
+        refusal: refusal.number(),
         count: 0,
         visits: 0,
     }
 }
 
-fn asked(chain: NamedChain, readings: &[i64], job: JobAnswer) -> HowMany
+#[tactic(auto, unfolding(crate::specs::Figures::asked_in))]
+fn asked(
+    chain: Result<Chain, Refusal>,
+    readings: &[i64],
+    job: Result<Job, Refusal>,
+) -> Result<HowMany, Stopped>
     ensures { result ≡ asked_in chain readings.now job }
 {
-    match chain {
-        NamedChain::Chain(c) => asked_for(c, readings, job),
-        NamedChain::Refused(number) => not_asked(number),
-    }
+    let c = chain.map_err(not_asked)?;
+    asked_for(c, readings, job)
 }
 
-fn asked_for(c: Chain, readings: &[i64], job: JobAnswer) -> HowMany
-    ensures { result ≡ asked_in (named.Chain c) readings.now job }
+#[tactic(auto, using(crate::proofs::Lists::two_read), unfolding(crate::specs::Figures::asked_in))]
+fn asked_for(c: Chain, readings: &[i64], job: Result<Job, Refusal>) -> Result<HowMany, Stopped>
+    ensures { result ≡ asked_in (Ok c) readings.now job }
 {
     if readings.len() != CHAIN_READINGS {
-        return not_asked(1);
+        return Err(not_asked(Refusal::Length));
     }
     let a = readings[0];
     let b = readings[1];
     records::many_by(job, c, a, b)
 }
 
-fn not_asked(number: u32) -> HowMany
-    ensures { result ≡ many.Refused number 0 }
+fn not_asked(refusal: Refusal) -> Stopped
+    ensures { result ≡ unasked refusal }
 {
-    HowMany::Refused { number, visits: 0 }
+    Stopped { refusal, visits: 0 }
 }
 
-fn many_figures(m: HowMany) -> ManyFigures
+#[tactic(auto, unfolding(crate::specs::Figures::many_figures))]
+fn many_figures(m: Result<HowMany, Stopped>) -> ManyFigures
     ensures { result ≡ many_figures m }
 {
-    let nowhere = Place {
-        easting: 0,
-        northing: 0,
+    let (refusal, many, place, visits) = match m {
+        Ok(HowMany::None { visits }) => (0, 1, NOWHERE, visits),
+        Ok(HowMany::One { place, visits }) => (0, 2, place, visits),
+        Ok(HowMany::Several { visits }) => (0, 3, NOWHERE, visits),
+        Err(stopped) => (stopped.refusal.number(), 0, NOWHERE, stopped.visits),
     };
-    match m {
-        HowMany::None { visits } => many_told(0, 1, nowhere, visits),
-        HowMany::One { place, visits } => many_told(0, 2, place, visits),
-        HowMany::Several { visits } => many_told(0, 3, nowhere, visits),
-        HowMany::Refused { number, visits } => many_told(number, 0, nowhere, visits),
-    }
-}
-
-fn many_told(refusal: u32, many: u32, place: Place, visits: u64) -> ManyFigures
-    ensures { result ≡ record { refusal = refusal; many = many; place = place; visits = visits } }
-{
     ManyFigures {
         refusal,
         many,
@@ -513,47 +539,45 @@ fn many_told(refusal: u32, many: u32, place: Place, visits: u64) -> ManyFigures
     }
 }
 
-fn put_chain(buffer: &mut [u8], a: NamedChain) -> u32
-    ensures answer { result ≡ (chain_lent (length buffer.old) a).refusal }
+#[tactic(auto, unfolding(crate::specs::Figures::chain_lent))]
+fn put_chain(buffer: &mut [u8], a: Result<Chain, Refusal>) -> Result<(), Refusal>
+    ensures answer { number_told result ≡ (chain_lent (length buffer.old) a).refusal }
     ensures buffer { buffer.new ≡ (chain_lent (length buffer.old) a).holds }
 {
     match a {
-        NamedChain::Chain(c) => writing::write_chain(buffer, c),
-        NamedChain::Refused(number) => no_chain(buffer, number),
+        Ok(c) => writing::write_chain(buffer, c),
+        Err(refusal) => no_chain(buffer, refusal),
     }
 }
 
 // The factor of a chain whose bytes were put, 0 after a refusal.
-fn factor_after(refusal: u32, a: NamedChain) -> u32
-    ensures { result ≡ factor_after refusal a }
+#[tactic(auto, unfolding(crate::specs::Figures::factor_after))]
+fn factor_after(put: Result<(), Refusal>, chain: Result<Chain, Refusal>) -> u32
+    ensures { result ≡ factor_after (number_told put) chain }
 {
-    match a {
-        NamedChain::Chain(c) => {
-            if refusal != 0 {
-                return 0;
-            }
-            c.factor
-        }
-        NamedChain::Refused(_) => 0,
+    match put.and(chain) {
+        Ok(c) => c.factor,
+        Err(_) => 0,
     }
 }
 
-fn no_chain(buffer: &mut [u8], number: u32) -> u32
-    ensures answer { result ≡ number }
+fn no_chain(buffer: &mut [u8], refusal: Refusal) -> Result<(), Refusal>
+    ensures answer { result ≡ Err refusal }
     ensures buffer { buffer.new ≡ replicate (length buffer.old) 0 }
 {
-    writing::clear_buffer(buffer);
-    number
+    buffer.fill(0);
+    Err(refusal)
 }
 
-// The chain with these numbers of its stations and this factor; 1 if there are not six numbers.
-fn chain_by(stations: &[u32], factor: u32) -> NamedChain
+// The chain with these numbers of its stations and this factor; refused if there are not six numbers.
+#[tactic(auto, unfolding(crate::specs::Figures::chain_by))]
+fn chain_by(stations: &[u32], factor: u32) -> Result<Chain, Refusal>
     ensures { result ≡ chain_by stations.now factor }
 {
     if stations.len() != CHAIN_NUMBERS {
-        return NamedChain::Refused(1);
+        return Err(Refusal::Length);
     }
-    NamedChain::Chain(Chain {
+    Ok(Chain {
         master: place_by(stations, 0),
         a: place_by(stations, 2),
         b: place_by(stations, 4),
@@ -571,55 +595,55 @@ fn place_by(stations: &[u32], at: usize) -> Place
     }
 }
 
-fn read_chain(stations: &mut [u32], a: NamedChain) -> u32
-    ensures answer { result ≡ (stations_lent (length stations.old) a).refusal }
+#[tactic(auto, unfolding(crate::specs::Figures::stations_lent))]
+fn read_chain(stations: &mut [u32], a: Result<Chain, Refusal>) -> Result<(), Refusal>
+    ensures answer { number_told result ≡ (stations_lent (length stations.old) a).refusal }
     ensures stations { stations.new ≡ (stations_lent (length stations.old) a).holds }
 {
-    search::clear_entries(stations, 0);
-    match a {
-        NamedChain::Chain(c) => put_stations(stations, c),
-        NamedChain::Refused(number) => number,
-    }
+    stations.fill(0);
+    let c = a?;
+    put_stations(stations, c)
 }
 
 // Puts the numbers of a chain's stations into a list of zeros.
-fn put_stations(stations: &mut [u32], c: Chain) -> u32
+#[tactic(auto, unfolding(crate::specs::Figures::stations_lent, search::specs::Answers::entries_of))]
+fn put_stations(stations: &mut [u32], c: Chain) -> Result<(), Refusal>
     requires { stations.old ≡ replicate (length stations.old) 0 }
-    ensures answer { result ≡ (stations_lent (length stations.old) (named.Chain c)).refusal }
-    ensures stations { stations.new ≡ (stations_lent (length stations.old) (named.Chain c)).holds }
+    ensures answer { number_told result ≡ (stations_lent (length stations.old) (Ok c)).refusal }
+    ensures stations { stations.new ≡ (stations_lent (length stations.old) (Ok c)).holds }
 {
     if stations.len() != CHAIN_NUMBERS {
-        return 1;
+        return Err(Refusal::Length);
     }
     if !chart::sound(c) {
-        return 5;
+        return Err(Refusal::Chain);
     }
-    stations[0] = c.master.easting;
-    stations[1] = c.master.northing;
-    stations[2] = c.a.easting;
-    stations[3] = c.a.northing;
-    stations[4] = c.b.easting;
-    stations[5] = c.b.northing;
-    0
+    stations.copy_from_slice(&[
+        c.master.easting,
+        c.master.northing,
+        c.a.easting,
+        c.a.northing,
+        c.b.easting,
+        c.b.northing,
+    ]);
+    Ok(())
 }
 
+#[tactic(auto, unfolding(crate::specs::Figures::record_by))]
 fn record_figures(bytes: &[u8]) -> RecordFigures
     ensures { result ≡ record_figures bytes.now }
 {
     match records::raw_record(bytes) {
-        RawAnswer::Record(raw) => marked_figures(
-            raw.line,
-            raw.chain as u32,
-            records::marked_entry(bytes),
-        ),
-        RawAnswer::Refused(number) => RecordFigures {
-            entry: entry_figures(0, 0, LogEntry::Refused(number)),
+        Ok(raw) => marked_figures(raw.line, u32::from(raw.chain), records::marked_entry(bytes)),
+        Err(refusal) => RecordFigures {
+            entry: entry_figures(0, 0, Err(refusal)),
             xmark: 0,
             ymark: 0,
         },
     }
 }
 
+#[tactic(auto, unfolding(crate::specs::Figures::marked_figures))]
 fn marked_figures(line: u32, chain: u32, m: MarkedEntry) -> RecordFigures
     ensures { result ≡ marked_figures line chain m }
 {
@@ -633,6 +657,7 @@ fn marked_figures(line: u32, chain: u32, m: MarkedEntry) -> RecordFigures
     }
 }
 
+#[tactic(auto, unfolding(crate::specs::Figures::mark_figure))]
 fn mark_figure(mark: Mark) -> u32
     ensures { result ≡ mark_figure mark }
 {
@@ -643,20 +668,16 @@ fn mark_figure(mark: Mark) -> u32
     }
 }
 
-fn entry_figures(line: u32, chain: u32, e: LogEntry) -> EntryFigures
+#[tactic(auto, unfolding(crate::specs::Figures::entry_figures))]
+fn entry_figures(line: u32, chain: u32, e: Result<LogEntry, Refusal>) -> EntryFigures
     ensures { result ≡ entry_figures line chain e }
 {
-    match e {
-        LogEntry::Readings { a, b } => told(0, 1, chain, line, a, b),
-        LogEntry::Place(p) => told(0, 2, 0, line, p.easting as i64, p.northing as i64),
-        LogEntry::Hold => told(0, 3, 0, line, 0, 0),
-        LogEntry::Refused(number) => told(number, 0, 0, line, 0, 0),
-    }
-}
-
-fn told(refusal: u32, kind: u32, chain: u32, line: u32, x: i64, y: i64) -> EntryFigures
-    ensures { result ≡ record { refusal = refusal; kind = kind; chain = chain; line = line; x = x; y = y } }
-{
+    let (refusal, kind, chain, line, x, y) = match e {
+        Ok(LogEntry::Readings { a, b }) => (0, 1, chain, line, a, b),
+        Ok(LogEntry::Place(p)) => (0, 2, 0, line, i64::from(p.easting), i64::from(p.northing)),
+        Ok(LogEntry::Hold) => (0, 3, 0, line, 0, 0),
+        Err(refusal) => (refusal.number(), 0, 0, line, 0, 0),
+    };
     EntryFigures {
         refusal,
         kind,
@@ -667,94 +688,79 @@ fn told(refusal: u32, kind: u32, chain: u32, line: u32, x: i64, y: i64) -> Entry
     }
 }
 
-fn count_figures(a: ChainCount) -> CountFigures
-    ensures { result ≡ count_figures a }
+#[tactic(auto, unfolding(crate::specs::Figures::count_figures))]
+fn count_figures(chains: Result<usize, Refusal>) -> CountFigures
+    ensures { result ≡ count_figures chains }
 {
-    match a {
-        ChainCount::Chains(count) => CountFigures { refusal: 0, count },
-        ChainCount::Refused(number) => CountFigures {
-            refusal: number,
-            count: 0,
-        },
+    CountFigures {
+        refusal: number_told(&chains),
+        count: chains.unwrap_or(0),
     }
 }
 
-fn job_figures(a: JobAnswer) -> JobFigures
-    ensures { result ≡ job_answered a }
+#[tactic(auto, unfolding(crate::specs::Figures::job_answered))]
+fn job_figures(job: Result<Job, Refusal>) -> JobFigures
+    ensures { result ≡ job_answered job }
 {
-    match a {
-        JobAnswer::Job(job) => JobFigures { refusal: 0, job },
-        JobAnswer::Refused(number) => JobFigures {
-            refusal: number,
-            job: Job {
-                window: Window {
-                    corner: Place {
-                        easting: 0,
-                        northing: 0,
-                    },
-                    k: 0,
-                },
-                tolerance: 0,
-                allowance: 0,
-            },
+    let none = Job {
+        window: Window {
+            corner: NOWHERE,
+            k: 0,
         },
+        tolerance: 0,
+        allowance: 0,
+    };
+    JobFigures {
+        refusal: number_told(&job),
+        job: job.unwrap_or(none),
     }
 }
 
-fn carried_in(held: u32, place: Place, rounded: u32) -> Carried
+#[tactic(auto, unfolding(crate::specs::Figures::carried_in))]
+fn carried_in(held: u32, place: Place, rounded: u32) -> Option<Carried>
     ensures { result ≡ carried_in held place.easting place.northing rounded }
 {
     if held == 0 {
-        return Carried::Nothing;
+        return None;
     }
-    Carried::Place {
+    Some(Carried {
         place,
         rounded: rounded != 0,
-    }
+    })
 }
 
-fn held_figures(c: Carried) -> HeldFigures
-    ensures { result ≡ held_figures c }
+#[tactic(auto, unfolding(crate::specs::Figures::held_figures))]
+fn held_figures(carried: Option<Carried>) -> HeldFigures
+    ensures { result ≡ held_figures carried }
 {
-    match c {
-        Carried::Place { place, rounded } => HeldFigures {
+    match carried {
+        Some(c) => HeldFigures {
             held: 1,
-            place,
-            rounded: one_if(rounded),
+            place: c.place,
+            rounded: u32::from(c.rounded),
         },
-        Carried::Nothing => HeldFigures {
+        None => HeldFigures {
             held: 0,
-            place: Place {
-                easting: 0,
-                northing: 0,
-            },
+            place: NOWHERE,
             rounded: 0,
         },
     }
 }
 
-fn one_if(so: bool) -> u32
-    ensures { result ≡ cond so 1 0 }
-{
-    if so {
-        return 1;
-    }
-    0
-}
-
-fn listed_figures(l: Listed) -> ListedFigures
+#[tactic(auto, unfolding(crate::specs::Figures::listed_figures))]
+fn listed_figures(l: Result<Listed, Refusal>) -> ListedFigures
     ensures { result ≡ listed_figures l }
 {
     match l {
-        Listed::Text { length, carried } => ListedFigures {
+        Ok(listed) => ListedFigures {
             refusal: 0,
-            length,
-            carried: held_figures(carried),
+            length: listed.length,
+            carried: held_figures(listed.carried),
         },
-        Listed::Refused(number) => ListedFigures {
-            refusal: number,
+        Err(refusal) => ListedFigures {
+            refusal: refusal.number(),
             length: 0,
-            carried: held_figures(Carried::Nothing),
+            carried: held_figures(None),
         },
     }
 }
