@@ -122,6 +122,7 @@ fn no_two_equal(c: Chain) -> bool
 }
 
 // The range from a place to a station of a chain.
+#[tactic(auto, using(crate::proofs::RangeLaws::range_is_on_ground))]
 fn range(c: Chain, p: Place, station: Place) -> u64
     requires { (is_factor c.factor ≡ true) × (in_range p ≡ true) × (in_range station ≡ true) }
     ensures { (result ≡ range_of c p station) × (result < 2 ^ 31) }
@@ -130,6 +131,7 @@ fn range(c: Chain, p: Place, station: Place) -> u64
 }
 
 // How long a distance of the grid is on the ground.
+#[tactic(auto, using(crate::proofs::GroundLaws::factor_some, crate::proofs::GroundLaws::ground_small), unfolding(crate::specs::Factors::on_ground))]
 fn on_ground(factor: u32, d: u64) -> u64
     requires { (is_factor factor ≡ true) × (d < 2 ^ 30) }
     ensures { (result ≡ on_ground factor d) × (result < 2 ^ 31) }
@@ -138,6 +140,7 @@ fn on_ground(factor: u32, d: u64) -> u64
 }
 
 // Both squares fit, since both places are in range.
+#[tactic(auto, using(crate::proofs::PlaceLaws::squares_small, squares::proofs::RootLaws::root_at_most), unfolding(crate::specs::Places::distance_of))]
 fn distance(p: Place, station: Place) -> u64
     requires { (in_range p ≡ true) × (in_range station ≡ true) }
     ensures { (result ≡ distance_of p station) × (result < 2 ^ 30) }

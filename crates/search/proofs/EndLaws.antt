@@ -1,4 +1,4 @@
--- The end of a walk: the answer made from the tally, and the cleared list, are those of the definitions.
+-- The end of a walk: the answer made from what is found, and the cleared list, are those of the definitions.
 use Prim.Native.Nat.{ℕ, ◌-◌, ◌*◌}
 use mathlib.Core.Path.{◌≡◌, refl, sym, ap, ap₂, ◌∙◌, subst⁻¹}
 use mathlib.Core.List.{List, [], ◌∷◌, ◌++◌}
@@ -9,7 +9,7 @@ use Rattle.std.specs.Prelude.{Ok, Err}
 use Rattle.chart.specs.declared.Place.{Place}
 use Rattle.search.specs.declared.Unfound.{Unfound}
 use Rattle.search.specs.declared.Unfound.TheVariants.{NoMatch}
-use Rattle.search.specs.declared.Tally.{Tally}
+use Rattle.search.specs.declared.Found.{Found}
 use Rattle.search.specs.Walk.{Standing, start}
 use Rattle.search.specs.Answers.{Answer, Outcome, refused, gone, ended, entries_of, list_of}
 use Rattle.search.specs.Holding.{Holds, Halted}
@@ -34,7 +34,7 @@ gone_some : (ps : List Place) (v : ℕ) → (length ps ≡ 0 → ⊥) → gone p
 gone_some [] v f = absurd (f refl)
 gone_some (p ∷ ps) v f = refl
 
--- Before the first visit, a tally of zeros and any list represent the walk.
+-- Before the first visit, nothing found and any list represent the walk.
 pub start_holds : (l : List ℕ) → Holds start (record { count = 0; visits = 0 }) l
 unfolding entries_of
 start_holds l = record { goes_on = refl; visits = refl; count = refl; entries = refl }
@@ -45,7 +45,7 @@ unfolding ended
 halted_told n s why l l' h same empty = refusal_told n (ended s) why l l' same (rw (h.stop, h.refusal)) empty
 
 -- The end of one that went on, answered with the list cleared: with no place, or with places.
-module _ (n : ℕ) (s : Standing) (t : Tally) (l l' : List ℕ) (h : Holds s t l) (same : length l ≡ n)
+module _ (n : ℕ) (s : Standing) (t : Found) (l l' : List ℕ) (h : Holds s t l) (same : length l ≡ n)
     (cleared : l' ≡ take (2 * t.count) l ++ replicate (length l - 2 * t.count) 0) where
   pub none_told : t.count ≡ 0 → IsTold n (ended s) (Err (NoMatch t.visits)) l'
   none_told e =

@@ -1,4 +1,4 @@
--- The tally and the list represent the state of the walk from visit to visit.
+-- What is found and the list represent the state of the walk from visit to visit.
 use Prim.Native.Nat.{ℕ, suc, ◌+◌, ◌*◌, ◌^◌, ◌≤◌, ◌<◌}
 use mathlib.Core.Path.{◌≡◌, refl, sym, ap, ap₂, ◌∙◌, subst⁻¹}
 use mathlib.Core.Bool.{Bool, true, false}
@@ -10,7 +10,7 @@ use Rattle.std.specs.Prelude.{Result}
 use Rattle.chart.specs.declared.Place.{Place}
 use Rattle.search.specs.declared.Unfound.{Unfound}
 use Rattle.search.specs.declared.Unfound.TheVariants.{NoRoom, AllowanceUsed}
-use Rattle.search.specs.declared.Tally.{Tally}
+use Rattle.search.specs.declared.Found.{Found}
 use Rattle.search.specs.Windows.{east, north, north_east}
 use Rattle.search.specs.Questions.{Question, matches, is_kept}
 use Rattle.search.specs.Walk.{Full, Spent, Standing, either, unchanged, counted, listed, cell, visit}
@@ -33,29 +33,29 @@ set_two l i e n h =
     ∙ ap (λ (j : ℕ). take j (set l i e) ++ (n ∷ [])) (let g : i + 1 ≡ suc i = omega arith in g)
     ∙ ap (λ (x : List ℕ). x ++ (n ∷ [])) (take-suc-set l i e (omega arith))
 
--- The tally of one more visit, and of one more place.
-abbrev pub begun_tally : Tally → Tally
-begun_tally t = record { count = t.count; visits = t.visits + 1 }
+-- What is found with one more visit, and with one more place.
+abbrev pub with_visit : Found → Found
+with_visit t = record { count = t.count; visits = t.visits + 1 }
 
-abbrev pub more_tally : Tally → Tally
-more_tally t = record { count = t.count + 1; visits = t.visits }
+abbrev pub with_place : Found → Found
+with_place t = record { count = t.count + 1; visits = t.visits }
 
 -- A walk that was stopped is left as it is.
 pub halted_stays : (q : Question) (k : ℕ) (p : Place) (s : Standing) (why : Unfound) → Halted s why → Halted (visit q k p s) why
 halted_stays q k p s why h = subst⁻¹ (λ (x : Standing). Halted x why) (visit_after q k p s h.stop) h
 
-module _ (s : Standing) (t : Tally) (l : List ℕ) (h : Holds s t l) where
-  -- The places counted in the tally fit in the list.
+module _ (s : Standing) (t : Found) (l : List ℕ) (h : Holds s t l) where
+  -- The places found fit in the list.
   pub held_fits : 2 * t.count ≤ length l
   held_fits = omega (arith, h.count, ap length h.entries, length_entries s.places, length-take (2 * t.count) l)
 
   -- A counted visit leaves the list as it is.
-  pub count_holds : Holds (counted s) (begun_tally t) l
+  pub count_holds : Holds (counted s) (with_visit t) l
   count_holds =
       record { goes_on = h.goes_on; visits = ap (λ (v : ℕ). v + 1) h.visits; count = h.count; entries = h.entries }
 
   -- One more place is put after the others.
-  pub list_holds : (p : Place) → 2 * t.count + 2 ≤ length l → Holds (listed p s) (more_tally t) (set (set l (2 * t.count) p.easting) (2 * t.count + 1) p.northing)
+  pub list_holds : (p : Place) → 2 * t.count + 2 ≤ length l → Holds (listed p s) (with_place t) (set (set l (2 * t.count) p.easting) (2 * t.count + 1) p.northing)
   list_holds p room =
       let i : ℕ = 2 * t.count in
       record {
@@ -80,9 +80,9 @@ module _ (s : Standing) (t : Tally) (l : List ℕ) (h : Holds s t l) where
         (cell_full q p s e (omega (arith, h.count)))
         (record { halt = Full; stop = refl; refusal = ap NoRoom h.visits })
 
-    pub listed_holds : matches q.rule p ≡ true → t.count < q.limits.room → 2 * q.limits.room ≤ length l → Holds (cell q p s) (more_tally t) (set (set l (2 * t.count) p.easting) (2 * t.count + 1) p.northing)
+    pub listed_holds : matches q.rule p ≡ true → t.count < q.limits.room → 2 * q.limits.room ≤ length l → Holds (cell q p s) (with_place t) (set (set l (2 * t.count) p.easting) (2 * t.count + 1) p.northing)
     listed_holds e room fits =
-        subst⁻¹ (λ (x : Standing). Holds x (more_tally t) (set (set l (2 * t.count) p.easting) (2 * t.count + 1) p.northing))
+        subst⁻¹ (λ (x : Standing). Holds x (with_place t) (set (set l (2 * t.count) p.easting) (2 * t.count + 1) p.northing))
         (cell-listed q p s e (omega (arith, h.count)))
         (list_holds p (omega arith))
 
@@ -95,7 +95,7 @@ module _ (s : Standing) (t : Tally) (l : List ℕ) (h : Holds s t l) where
 
     -- A visit that begins: what represents the walk after the cell, dropped square or quarters represents it after the visit.
     module _ (a : t.visits < q.limits.allowance) where
-      pub cell_holds : (k : ℕ) (r : Result Tally Unfound) (l' : List ℕ) → k ≡ 0 → Represents (cell q p (counted s)) r l' → Represents (visit q k p s) r l'
+      pub cell_holds : (k : ℕ) (r : Result Found Unfound) (l' : List ℕ) → k ≡ 0 → Represents (cell q p (counted s)) r l' → Represents (visit q k p s) r l'
       cell_holds k r l' e g =
           subst⁻¹ (λ (x : Standing). Represents x r l')
           (ap (λ (x : ℕ). visit q x p s) e ∙ visit-cell q p s h.goes_on (omega (arith, h.visits)))
@@ -107,10 +107,10 @@ module _ (s : Standing) (t : Tally) (l : List ℕ) (h : Holds s t l) where
           ∙ visit_square q j p s h.goes_on (omega (arith, h.visits))
           ∙ ap (λ (x : Bool). either x (quarters q j p) unchanged (counted s)) e
 
-      pub dropped-holds : (k j : ℕ) → k ≡ suc j → is_kept q.rule j p ≡ false → Holds (visit q k p s) (begun_tally t) l
-      dropped-holds k j ek e = subst⁻¹ (λ (x : Standing). Holds x (begun_tally t) l) (square k j false ek e) count_holds
+      pub dropped-holds : (k j : ℕ) → k ≡ suc j → is_kept q.rule j p ≡ false → Holds (visit q k p s) (with_visit t) l
+      dropped-holds k j ek e = subst⁻¹ (λ (x : Standing). Holds x (with_visit t) l) (square k j false ek e) count_holds
 
-      pub quarters-hold : (k j : ℕ) (se nw ne : Place) (r : Result Tally Unfound) (l' : List ℕ) → k ≡ suc j → is_kept q.rule j p ≡ true → se ≡ east (2 ^ j) p → nw ≡ north (2 ^ j) p → ne ≡ north_east (2 ^ j) p → Represents (visit q j ne (visit q j nw (visit q j se (visit q j p (counted s))))) r l' → Represents (visit q k p s) r l'
+      pub quarters-hold : (k j : ℕ) (se nw ne : Place) (r : Result Found Unfound) (l' : List ℕ) → k ≡ suc j → is_kept q.rule j p ≡ true → se ≡ east (2 ^ j) p → nw ≡ north (2 ^ j) p → ne ≡ north_east (2 ^ j) p → Represents (visit q j ne (visit q j nw (visit q j se (visit q j p (counted s))))) r l' → Represents (visit q k p s) r l'
       quarters-hold k j se nw ne r l' ek e ese enw ene g =
           subst⁻¹ (λ (x : Standing). Represents x r l')
           (square k j true ek e

@@ -17,7 +17,6 @@ pub mod Telling
 pub mod Theorems
 pub mod CountLaws
 mod Agreeing
-pub mod Clearing
 mod Signs
 mod HoldLaws
 mod SquareLaws

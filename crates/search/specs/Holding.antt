@@ -7,7 +7,7 @@ use Rattle.chart.specs.Factors.{unit_factor}
 use Rattle.chart.specs.Readings.{Wanted}
 use Rattle.search.specs.declared.hunt.Wish.{Wish}
 use Rattle.search.specs.declared.hunt.Hunt.{Hunt}
-use Rattle.search.specs.declared.Tally.{Tally}
+use Rattle.search.specs.declared.Found.{Found}
 use Rattle.search.specs.declared.Unfound.{Unfound}
 use Rattle.search.specs.Questions.{Rule, Limits, Question}
 use Rattle.search.specs.Walk.{Halt, Standing}
@@ -42,8 +42,8 @@ pub record OnChart (k side : ℕ) (p : Place) : Type 0 where
   pub east : p.easting + side ≤ most_easting + 1
   pub north : p.northing + side ≤ most_northing + 1
 
--- The tally t and the list l represent the state s of a walk that goes on: the list begins with its places.
-pub record Holds (s : Standing) (t : Tally) (l : List ℕ) : Type 0 where
+-- What is found so far, t, and the list l represent the state s of a walk that goes on: the list begins with its places.
+pub record Holds (s : Standing) (t : Found) (l : List ℕ) : Type 0 where
   pub goes_on : s.stop ≡ None
   pub visits : t.visits ≡ s.visits
   pub count : t.count ≡ length s.places
@@ -56,6 +56,6 @@ pub record Halted (s : Standing) (why : Unfound) : Type 0 where
   pub refusal : why ≡ unfound_by halt s.visits
 
 -- What a visit answers, and the list that it leaves, represent the state s of a walk. Of a walk that was stopped the list tells nothing.
-abbrev pub Represents : Standing → Result Tally Unfound → List ℕ → Type 0
+abbrev pub Represents : Standing → Result Found Unfound → List ℕ → Type 0
 Represents s (Ok t) l = Holds s t l
 Represents s (Err why) l = Halted s why

@@ -28,7 +28,7 @@ pub struct Window {
     pub k: u32,
 }
 
-// What a search found: how many places, in so many visits.
+// What a search found, or a walk has found so far: how many places, in so many visits.
 #[derive(Clone, Copy)]
 pub struct Found {
     pub count: usize,
@@ -102,13 +102,6 @@ pub struct Stopped {
     pub visits: u64,
 }
 
-// The state of a walk that goes on: the count of places listed, and the visits made.
-#[derive(Clone, Copy)]
-struct Tally {
-    count: usize,
-    visits: u64,
-}
-
 pub const MOST_EXPONENT: u32 = 24;
 
 const MOST_READING: u64 = 1_000_000_000;
@@ -119,6 +112,7 @@ const UNIT_FACTOR: u64 = chart::UNIT_FACTOR as u64;
 pub const MOST_TOLERANCE: u32 = 100_000;
 
 // Whether k is at most 24 and every cell of the window in range.
+#[tactic(auto, using(crate::proofs::WindowLaws::too_large_k, crate::proofs::WindowLaws::by_last_cell, chart::proofs::PlaceLaws::too_far_east, chart::proofs::PlaceLaws::too_far_north))]
 pub fn is_window(w: Window) -> bool
     ensures { result ≡ is_window w }
 {
@@ -335,12 +329,12 @@ fn walked(list: &mut [u32], h: &Hunt, w: Window) -> Result<Found, Unfound>
     ensures answer { result ≡ (ended (walk.visit (question_by h.now) w.k w.corner start)).answer }
     ensures list { list.new ≡ list_of (length list.old) (ended (walk.visit (question_by h.now) w.k w.corner start)).places }
 {
-    let begin = Tally {
+    let begin = Found {
         count: 0,
         visits: 0,
     };
     match visit(list, h, w.k, side_of(w.k), w.corner, 0, begin) {
-        Ok(Tally { count, visits }) => {
+        Ok(Found { count, visits }) => {
             clear_entries(list, 2 * count);
             if count == 0 {
                 return Err(Unfound::NoMatch { visits });
@@ -360,15 +354,15 @@ fn visit(
     side: u32,
     p: Place,
     guess: u64,
-    t: Tally,
-) -> Result<Tally, Unfound>
+    t: Found,
+) -> Result<Found, Unfound>
     requires { OnChart k side p × (2 * h.now.room ≤ length list.old) }
     ensures { (s : Standing) → Holds s t list.old → Represents (walk.visit (question_by h.now) k p s) result list.new }
 {
     if h.allowance <= t.visits {
         return Err(Unfound::AllowanceUsed { visits: t.visits });
     }
-    let begun = Tally {
+    let begun = Found {
         count: t.count,
         visits: t.visits + 1,
     };
@@ -390,7 +384,8 @@ fn visit(
 }
 
 // Tests a cell. One that matches goes into the list, or stops the walk if the list is full.
-fn cell(list: &mut [u32], h: &Hunt, p: Place, guess: u64, t: Tally) -> Result<Tally, Unfound>
+#[tactic(auto, using(crate::proofs::HoldLaws::missed_holds, crate::proofs::HoldLaws::full_halts))]
+fn cell(list: &mut [u32], h: &Hunt, p: Place, guess: u64, t: Found) -> Result<Found, Unfound>
     requires { (in_range p ≡ true) × (2 * h.now.room ≤ length list.old) }
     ensures { (s : Standing) → Holds s t list.old → Represents (walk.cell (question_by h.now) p s) result list.new }
 {
@@ -406,7 +401,7 @@ fn cell(list: &mut [u32], h: &Hunt, p: Place, guess: u64, t: Tally) -> Result<Ta
     list[i] = p.easting;
     let j = i + 1;
     list[j] = p.northing;
-    Ok(Tally {
+    Ok(Found {
         count: n + 1,
         visits: t.visits,
     })
@@ -445,6 +440,7 @@ fn agrees(w: &Wish, factor: u64, p: Place, m: u64, slack: u64) -> bool
 }
 
 // The least distance of the grid that is at least r long on the ground.
+#[tactic(auto, using(chart::proofs::GroundLaws::factor_says))]
 fn least_for(factor: u64, r: u64) -> u64
     requires { (is_factor factor ≡ true) × (r < 4_000_000_000) }
     ensures { (result ≡ least_for factor r) × (result < 2 ^ 32) }
@@ -453,6 +449,7 @@ fn least_for(factor: u64, r: u64) -> u64
 }
 
 // How long a distance of the grid is on the ground.
+#[tactic(auto, using(chart::proofs::GroundLaws::factor_some, chart::proofs::GroundLaws::ground_small), unfolding(chart::specs::Factors::on_ground))]
 fn on_ground(factor: u64, d: u64) -> u64
     requires { (is_factor factor ≡ true) × (d < 2 ^ 30) }
     ensures { (result ≡ on_ground factor d) × (result < 2 ^ 31) }
@@ -461,6 +458,7 @@ fn on_ground(factor: u64, d: u64) -> u64
 }
 
 // The distance of p from a station, computed from a guess of it.
+#[tactic(auto, using(squares::proofs::RootLaws::root_at_most), unfolding(chart::specs::Places::distance_of))]
 fn distance(p: Place, station: Place, guess: u64) -> u64
     requires { (in_range p ≡ true) × (in_range station ≡ true) }
     ensures { (result ≡ distance_of p station) × (result < 2 ^ 30) }
@@ -468,6 +466,7 @@ fn distance(p: Place, station: Place, guess: u64) -> u64
     squares::root_near(squared(p, station), guess)
 }
 
+#[tactic(auto, using(chart::proofs::PlaceLaws::squares_small))]
 fn squared(p: Place, q: Place) -> u64
     requires { (in_range p ≡ true) × (in_range q ≡ true) }
     ensures { (result ≡ squared_distance p q) × (result < 2 ^ 60) }

@@ -1,5 +1,5 @@
--- `search::visit` meets its contract, by induction on the exponent, which falls at each call: if tally and list represent the walk
--- before a call, they represent it after the call, so the four calls follow one another.
+-- `search::visit` meets its contract, by induction on the exponent, which falls at each call: if what is found and the list represent
+-- the walk before a call, they represent it after the call, so the four calls follow one another.
 use Prim.Native.Nat.{ℕ, suc, ◌+◌, ◌-◌, ◌/◌, ◌^◌, ◌≤◌}
 use mathlib.Core.Path.{◌≡◌, ap, ◌∙◌, subst⁻¹}
 use mathlib.Core.Bool.{true, false}
@@ -8,7 +8,7 @@ use mathlib.Core.List.{List}
 use Rattle.std.proofs.lemmas.Result.{err_from_is_err_and}
 use Rattle.std.specs.Prelude.{Result}
 use Rattle.chart.specs.declared.Place.{Place}
-use Rattle.search.specs.declared.Tally.{Tally}
+use Rattle.search.specs.declared.Found.{Found}
 use Rattle.search.specs.declared.Unfound.{Unfound}
 use Rattle.chart.specs.Places.{in_range}
 use Rattle.search.specs.Windows.{east, north, north_east}
@@ -56,7 +56,7 @@ quarter t n o e f =
 
 -- What represents the walk after the four quarters represents it after the square.
 square_told : (t : ℕ) (n : After-north-north_west t) (s : Standing) → let a = n.args in let q = question_by a.h.now in let k = a.k - 1 in
-    Holds s a.t a.list.now → (r : Result Tally Unfound) (l : List ℕ) →
+    Holds s a.t a.list.now → (r : Result Found Unfound) (l : List ℕ) →
     Represents (visit q k n.north_east-middle.result (visit q k n.north-north_west.result (visit q k n.east-south_east.result (visit q k a.p (counted s))))) r l →
     Represents (visit q a.k a.p s) r l
 square_told t n s h r l g =
@@ -76,31 +76,19 @@ returns-then-h-t t c = λ s h.
     let a = c.args in
     out_halts s a.t a.list.now h (question_by a.h.now) a.p a.k (omega (arith, c.if-h-t.true))
 
-pub cell-requires : goal.cell-requires
-cell-requires t c =
-    let a = c.args in
-    (corner_in_range a.k a.side a.p c.requires.0, c.requires.1)
-
 pub returns-then-k-eq0 : goal.returns-then-k-eq0
 returns-then-k-eq0 t c = λ s h.
     let a = c.args in
     cell_holds s a.t a.list.now h (question_by a.h.now) a.p c.if-h-t.false a.k _ _ c.if-k-eq0.true
     (c.cell.ensures (counted s) (count_holds s a.t a.list.now h))
 
-pub north_east-middle-requires : goal.north_east-middle-requires
-north_east-middle-requires t c =
-    omega (arith, c.requires.0.side_is, c.requires.0.east, c.requires.0.north)
+pub cell-requires : goal.cell-requires
+cell-requires t c =
+    let a = c.args in
+    (corner_in_range a.k a.side a.p c.requires.0, c.requires.1)
 
 pub distance-m-requires : goal.distance-m-requires
 distance-m-requires t c = (middle_ok t (goal.at.distance-m-requires t c).After-north_east-middle, c.args.h.now.master_on_grid)
-
-pub overflow_add-h : goal.overflow_add-h
-overflow_add-h t c =
-    omega (arith, c.args.h.now.tolerable, c.requires.0.east, c.requires.0.side_is)
-
-pub overflow_add-h-2 : goal.overflow_add-h-2
-overflow_add-h-2 t c =
-    omega (arith, c.args.h.now.tolerable, c.requires.0.east, c.requires.0.side_is)
 
 pub near-requires : goal.near-requires
 near-requires t c =
@@ -112,14 +100,6 @@ returns-then-not-near t c = λ s h.
     let kept = test_is t (goal.at.returns-then-not-near t c).After-near in
     let dropped : is_kept (rule_by a.h.now) (a.k - 1) a.p ≡ false = cc kept in
     dropped-holds s a.t a.list.now h (question_by a.h.now) a.p c.if-h-t.false a.k (a.k - 1) (exponent t (goal.at.returns-then-not-near t c).Else-k-eq0) dropped
-
-pub east-south_east-requires : goal.east-south_east-requires
-east-south_east-requires t c =
-    omega (arith, c.requires.0.side_is, c.requires.0.east)
-
-pub north-north_west-requires : goal.north-north_west-requires
-north-north_west-requires t c =
-    omega (arith, c.requires.0.side_is, c.requires.0.north)
 
 -- A quarter may be visited: its exponent is less, it lies on the chart, and the list keeps its length.
 pub visit-requires : goal.visit-requires
