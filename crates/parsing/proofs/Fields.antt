@@ -3,11 +3,14 @@
 -- typed.
 use Prim.Native.Nat.{ℕ, ◌+◌, ◌^◌, ◌<◌}
 use mathlib.Core.Path.{◌≡◌, refl, sym, ap, ap₂, ◌∙◌}
-use mathlib.Core.Bool.{Bool, true, false, cond, ◌&&◌, ◌||◌, false≢true}
+use mathlib.Core.Bool.{Bool, true, false, cond, ◌&&◌, ◌||◌}
 use mathlib.Core.List.{List, [], ◌∷◌}
 use native.Mathlib.Omega.{arith}
 use borrow.Author.Tests.{ltb-true}
 use lib.IntN.{ℤ}
+use Rattle.std.specs.Prelude.{Some, None, Result, Ok, Err}
+use Rattle.refusals.specs.declared.Refusal.{Refusal}
+use Rattle.refusals.specs.declared.Refusal.TheVariants as refusal
 use Rattle.chart.specs.declared.Place.{Place}
 use Rattle.chart.specs.declared.Chain.{Chain}
 use Rattle.chart.specs.Places.{in_range}
@@ -15,7 +18,6 @@ use Rattle.chart.specs.Readings.{expected_at}
 use Rattle.chart.proofs.PlaceLaws.{both}
 use Rattle.records.specs.Bytes.{unless}
 use Rattle.records.specs.declared.Job.{Job}
-use Rattle.records.specs.declared.JobAnswer.{JobAnswer}
 use Rattle.records.specs.Jobs.{usual_allowance, many_by}
 use Rattle.records.specs.ChainTables.{chain_of}
 use Rattle.writing.specs.declared.Draft.{Draft}
@@ -23,11 +25,8 @@ use Rattle.writing.specs.Writing.{refusal_of, used_of}
 use Rattle.writing.specs.ChainWriting.{chain_refusal_of}
 use Rattle.writing.specs.JobWriting.{job_refusal_of}
 use Rattle.records.proofs.RefusalLaws.{passed}
-use Rattle.parsing.specs.declared.ParsedJob.TheVariants as job
-use Rattle.parsing.specs.declared.ParsedChain.TheVariants as chain
-use Rattle.parsing.specs.declared.ParsedDraft.TheVariants as draft
-use Rattle.parsing.specs.declared.ParsedQuestion.TheVariants as question
-use Rattle.parsing.specs.declared.ParsedReadings.TheVariants as readings
+use Rattle.parsing.specs.declared.PlaceAsked.{PlaceAsked}
+use Rattle.parsing.specs.declared.ReadingsAsked.{ReadingsAsked}
 use Rattle.parsing.specs.declared.Form.TheVariants as form
 use Rattle.parsing.specs.Words.{word_at, no_word, is_passed}
 use Rattle.parsing.specs.Numbers.{is_number, is_below, fits, value_at, length_at, held, size_at, reading_at, held_reading}
@@ -83,74 +82,75 @@ spoken true never e = absurd (never e)
 spoken false never e = (refl, e)
 
 -- A line's draft has the typed numbers as their fields hold them.
-pub draft_line : (s : List ℕ) → parsed_draft s ≡ cond (is_passed s) draft.Passed (unless (is_form form.Draft s) (draft.Refused 12) (draft.Draft (held_draft (draft_typed s))))
+pub draft_line : (s : List ℕ) → parsed_draft s ≡ cond (is_passed s) (Ok None) (unless (is_form form.Draft s) (Err refusal.Line) (Ok (Some (held_draft (draft_typed s)))))
 unfolding parsed_draft
 draft_line s = rw (held-signed (is_below (word_at 3 s)) (size_at s 3), held-signed (is_below (word_at 4 s)) (size_at s 4))
 
 -- A line that is read as a job: the writer refuses the job exactly as it would refuse the typed numbers, whatever their size;
 -- and a job that it accepts has the typed numbers.
-pub job_as_typed : (bytes : ℕ) (s : List ℕ) (j : Job) → parsed_job s ≡ job.Job j →
-    (job_refusal_of bytes j ≡ job_refusal_of bytes (job_typed s)) × (job_refusal_of bytes j ≡ 0 → j ≡ job_typed s)
+pub job_as_typed : (bytes : ℕ) (s : List ℕ) (j : Job) → parsed_job s ≡ Ok j →
+    (job_refusal_of bytes j ≡ job_refusal_of bytes (job_typed s)) × (job_refusal_of bytes j ≡ Ok tt → j ≡ job_typed s)
 unfolding parsed_job
 job_as_typed bytes s j e =
-    let of = passed (is_form form.Job s) (λ f. false≢true (cc)) e in
+    let of = passed (is_form form.Job s) (λ f. cc) e in
     let same : j ≡ held_job (job_typed s) = cc of.1 in
     let small = allowance_fits s of.0 in
     let refused = ap (job_refusal_of bytes) same ∙ job_refused bytes (job_typed s) in
     (refused, λ accepted. same ∙ job_kept bytes (job_typed s) small (sym refused ∙ accepted))
 
 -- The same for a chain.
-pub chain_as_typed : (bytes : ℕ) (s : List ℕ) (c : Chain) → parsed_chain s ≡ chain.Chain c →
-    (chain_refusal_of bytes c ≡ chain_refusal_of bytes (chain_typed s)) × (chain_refusal_of bytes c ≡ 0 → c ≡ chain_typed s)
+pub chain_as_typed : (bytes : ℕ) (s : List ℕ) (c : Chain) → parsed_chain s ≡ Ok (Some c) →
+    (chain_refusal_of bytes c ≡ chain_refusal_of bytes (chain_typed s)) × (chain_refusal_of bytes c ≡ Ok tt → c ≡ chain_typed s)
 unfolding parsed_chain
 chain_as_typed bytes s c e =
-    let said = spoken (is_passed s) (λ f. false≢true (cc)) e in
-    let of = passed (is_form form.Chain s) (λ f. false≢true (cc)) said.1 in
+    let said = spoken (is_passed s) (λ f. cc) e in
+    let of = passed (is_form form.Chain s) (λ f. cc) said.1 in
     let same : c ≡ held_chain (chain_typed s) = cc of.1 in
     let refused = ap (chain_refusal_of bytes) same ∙ chain_refused bytes (chain_typed s) in
     (refused, λ accepted. same ∙ chain_kept bytes (chain_typed s) (sym refused ∙ accepted))
 
 -- The same for a draft; one that is accepted has the typed numbers that its kind uses.
-pub draft_as_typed : (bytes : ℕ) (s : List ℕ) (d : Draft) → parsed_draft s ≡ draft.Draft d →
-    (refusal_of bytes d ≡ refusal_of bytes (draft_typed s)) × (refusal_of bytes d ≡ 0 → used_of d ≡ used_of (draft_typed s))
+pub draft_as_typed : (bytes : ℕ) (s : List ℕ) (d : Draft) → parsed_draft s ≡ Ok (Some d) →
+    (refusal_of bytes d ≡ refusal_of bytes (draft_typed s)) × (refusal_of bytes d ≡ Ok tt → used_of d ≡ used_of (draft_typed s))
 draft_as_typed bytes s d e =
-    let said = spoken (is_passed s) (λ f. false≢true (cc)) (sym (draft_line s) ∙ e) in
-    let of = passed (is_form form.Draft s) (λ f. false≢true (cc)) said.1 in
+    let said = spoken (is_passed s) (λ f. cc) (sym (draft_line s) ∙ e) in
+    let of = passed (is_form form.Draft s) (λ f. cc) said.1 in
     let same : d ≡ held_draft (draft_typed s) = cc of.1 in
     let refused = ap (refusal_of bytes) same ∙ draft_refused bytes (draft_typed s) in
     (refused, λ accepted. ap used_of same ∙ draft_kept bytes (draft_typed s) (line_fits s of.0) (sym refused ∙ accepted))
 
 -- The other way: a line of the right form whose numbers the writer accepts is read as these numbers; for a draft, as the
 -- numbers that its kind uses.
-pub job_taken : (bytes : ℕ) (s : List ℕ) → is_form form.Job s ≡ true → job_refusal_of bytes (job_typed s) ≡ 0 →
-    parsed_job s ≡ job.Job (job_typed s)
+pub job_taken : (bytes : ℕ) (s : List ℕ) → is_form form.Job s ≡ true → job_refusal_of bytes (job_typed s) ≡ Ok tt →
+    parsed_job s ≡ Ok (job_typed s)
 unfolding parsed_job
-job_taken bytes s line accepted = rw line (ap job.Job (job_kept bytes (job_typed s) (allowance_fits s line) accepted))
+job_taken bytes s line accepted = rw line (ap Ok (job_kept bytes (job_typed s) (allowance_fits s line) accepted))
 
-pub chain_taken : (bytes : ℕ) (s : List ℕ) → is_passed s ≡ false → is_form form.Chain s ≡ true → chain_refusal_of bytes (chain_typed s) ≡ 0 →
-    parsed_chain s ≡ chain.Chain (chain_typed s)
+pub chain_taken : (bytes : ℕ) (s : List ℕ) → is_passed s ≡ false → is_form form.Chain s ≡ true → chain_refusal_of bytes (chain_typed s) ≡ Ok tt →
+    parsed_chain s ≡ Ok (Some (chain_typed s))
 unfolding parsed_chain
-chain_taken bytes s said line accepted = rw (said, line) (ap chain.Chain (chain_kept bytes (chain_typed s) accepted))
+chain_taken bytes s said line accepted = rw (said, line) (ap (λ (c : Chain). Ok (Some c)) (chain_kept bytes (chain_typed s) accepted))
 
-pub draft_taken : (bytes : ℕ) (s : List ℕ) (d : Draft) → is_passed s ≡ false → is_form form.Draft s ≡ true → draft_typed s ≡ used_of d → refusal_of bytes d ≡ 0 →
-    parsed_draft s ≡ draft.Draft (used_of d)
+pub draft_taken : (bytes : ℕ) (s : List ℕ) (d : Draft) → is_passed s ≡ false → is_form form.Draft s ≡ true → draft_typed s ≡ used_of d → refusal_of bytes d ≡ Ok tt →
+    parsed_draft s ≡ Ok (Some (used_of d))
 unfolding used_of
 draft_taken bytes s d said of typed accepted =
     let line : value_at s 2 ≡ d.line = ap (λ (e : Draft). e.line) typed in
     draft_line s
-    ∙ rw (said, of) (ap draft.Draft (ap held_draft typed ∙ used_kept bytes d (omega (arith, line_fits s of)) accepted))
+    ∙ rw (said, of) (ap (λ (e : Draft). Ok (Some e)) (ap held_draft typed ∙ used_kept bytes d (omega (arith, line_fits s of)) accepted))
 
 -- A line that is read as a question: its number names the same chain of a table as the typed number, whatever its size; and at
 -- its place a chain has the same readings, or the same refusal, as at the typed place.
-pub question_as_typed : (table scale s : List ℕ) (number : ℕ) (p : Place) → parsed_question s ≡ question.Question number p →
+pub question_as_typed : (table scale s : List ℕ) (number : ℕ) (p : Place) → parsed_question s ≡ Ok (record { chain = number; place = p }) →
     (chain_of table scale number ≡ chain_of table scale (value_at s 0))
     × (in_range p ≡ in_range (place_typed s 1))
     × ((c : Chain) → expected_at c p ≡ expected_at c (place_typed s 1))
 unfolding parsed_question
 question_as_typed table scale s number p e =
-    let of = passed (is_form form.Question s) (λ f. false≢true (cc)) e in
-    let n : number ≡ held 32 (value_at s 0) = cc of.1 in
-    let place : p ≡ held_place (place_typed s 1) = cc of.1 in (
+    let of = passed (is_form form.Question s) (λ f. cc) e in
+    let asked : ◌≡◌ {A = PlaceAsked} (record { chain = held 32 (value_at s 0); place = held_place (place_typed s 1) }) (record { chain = number; place = p }) = cc of.1 in
+    let n : number ≡ held 32 (value_at s 0) = sym (ap (λ (q : PlaceAsked). q.chain) asked) in
+    let place : p ≡ held_place (place_typed s 1) = sym (ap (λ (q : PlaceAsked). q.place) asked) in (
       ap (chain_of table scale) n ∙ named_held table scale (value_at s 0),
       ap in_range place ∙ held_in_range 32 (length_at s 1) (length_at s 2) (omega arith),
       λ c. ap (expected_at c) place ∙ expected_held c (place_typed s 1),
@@ -158,15 +158,16 @@ question_as_typed table scale s number p e =
 
 -- A line that is read as readings: its number names the same chain of a table as the typed number, and by any job and chain its
 -- readings allow as many places as the typed ones, or are refused as these would be.
-pub readings_as_typed : (table scale s : List ℕ) (number : ℕ) (a b : ℤ) → parsed_readings s ≡ readings.Readings number a b →
+pub readings_as_typed : (table scale s : List ℕ) (number : ℕ) (a b : ℤ) → parsed_readings s ≡ Ok (record { chain = number; a = a; b = b }) →
     (chain_of table scale number ≡ chain_of table scale (value_at s 0))
-    × ((j : JobAnswer) (c : Chain) → many_by j c (a ∷ b ∷ []) ≡ many_by j c (reading_at s 1 ∷ reading_at s 2 ∷ []))
+    × ((j : Result Job Refusal) (c : Chain) → many_by j c (a ∷ b ∷ []) ≡ many_by j c (reading_at s 1 ∷ reading_at s 2 ∷ []))
 unfolding parsed_readings
 readings_as_typed table scale s number a b e =
-    let of = passed (is_form form.Readings s) (λ f. false≢true (cc)) e in
-    let n : number ≡ held 32 (value_at s 0) = cc of.1 in
-    let x : a ≡ held_reading s 1 = cc of.1 in
-    let y : b ≡ held_reading s 2 = cc of.1 in (
+    let of = passed (is_form form.Readings s) (λ f. cc) e in
+    let asked : ◌≡◌ {A = ReadingsAsked} (record { chain = held 32 (value_at s 0); a = held_reading s 1; b = held_reading s 2 }) (record { chain = number; a = a; b = b }) = cc of.1 in
+    let n : number ≡ held 32 (value_at s 0) = sym (ap (λ (q : ReadingsAsked). q.chain) asked) in
+    let x : a ≡ held_reading s 1 = sym (ap (λ (q : ReadingsAsked). q.a) asked) in
+    let y : b ≡ held_reading s 2 = sym (ap (λ (q : ReadingsAsked). q.b) asked) in (
       ap (chain_of table scale) n ∙ named_held table scale (value_at s 0),
       λ j c.
           ap₂ (λ (u v : ℤ). many_by j c (u ∷ v ∷ [])) (x ∙ sym (held-signed (is_below (word_at 1 s)) (size_at s 1))) (y ∙ sym (held-signed (is_below (word_at 2 s)) (size_at s 2)))

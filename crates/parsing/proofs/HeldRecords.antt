@@ -9,6 +9,8 @@ use borrow.Author.Tests.{leb-true, lt-leb, ltb-true, ltb-false}
 use lib.Dec.{leb, ltb, eqb}
 use lib.ListN.{length}
 use lib.IntN.{ℤ, pos, nat_abs}
+use Rattle.std.specs.Prelude.{Result, Ok, Err}
+use Rattle.refusals.specs.declared.Refusal.{Refusal}
 use Rattle.metres.specs.Metres.{most_centimetres}
 use Rattle.chart.specs.declared.Place.{Place}
 use Rattle.chart.specs.declared.Chain.{Chain}
@@ -19,13 +21,12 @@ use Rattle.chart.proofs.PlaceLaws.{both}
 use Rattle.chart.proofs.ReadingLaws.{expected_out}
 use Rattle.search.specs.Windows.{is_window}
 use Rattle.search.specs.declared.HowMany.{HowMany}
+use Rattle.search.specs.declared.Stopped.{Stopped}
 use Rattle.search.specs.Questions.{Question, rule_of, most_reading, most_tolerance, none_too_large}
 use Rattle.search.specs.Answers.{Outcome}
 use Rattle.search.specs.Counts.{for_one, first_of, said_for, how_many_of}
 use Rattle.search.proofs.AnswerLaws.{search_3}
 use Rattle.records.specs.declared.Job.{Job}
-use Rattle.records.specs.declared.JobAnswer.{JobAnswer}
-use Rattle.records.specs.declared.JobAnswer.TheVariants as job
 use Rattle.records.specs.LogRecords.{log_bytes}
 use Rattle.records.specs.ChainTables.{chain_bytes, most_chains, one_to, chain_of, is_table, chains_in}
 use Rattle.records.specs.Jobs.{job_bytes, many_by}
@@ -47,11 +48,11 @@ pub job_refused : (bytes : ℕ) (j : Job) → job_refusal_of bytes (held_job j) 
 unfolding job_refusal_of
 job_refused bytes j = rw (held_is_window j.window, held_most 32 j.tolerance most_tolerance (omega arith))
 
-pub job_kept : (bytes : ℕ) (j : Job) → j.allowance < 2 ^ 64 → job_refusal_of bytes j ≡ 0 → held_job j ≡ j
+pub job_kept : (bytes : ℕ) (j : Job) → j.allowance < 2 ^ 64 → job_refusal_of bytes j ≡ Ok tt → held_job j ≡ j
 unfolding job_refusal_of
 job_kept bytes j small e =
-    let window = passed (is_window j.window) (λ f. omega arith) (passed (eqb bytes job_bytes) (λ f. omega arith) e).1 in
-    let few = leb-true j.tolerance most_tolerance (passed (leb j.tolerance most_tolerance) (λ f. omega arith) window.1).0 in
+    let window = passed (is_window j.window) (λ f. cc) (passed (eqb bytes job_bytes) (λ f. cc) e).1 in
+    let few = leb-true j.tolerance most_tolerance (passed (leb j.tolerance most_tolerance) (λ f. cc) window.1).0 in
     rw (window_held j.window window.0, number_held 32 j.tolerance (omega arith), number_held 64 j.allowance small)
 
 -- A chain.
@@ -59,10 +60,10 @@ pub chain_refused : (bytes : ℕ) (c : Chain) → chain_refusal_of bytes (held_c
 unfolding chain_refusal_of
 chain_refused bytes c = rw (held_sound c)
 
-pub chain_kept : (bytes : ℕ) (c : Chain) → chain_refusal_of bytes c ≡ 0 → held_chain c ≡ c
+pub chain_kept : (bytes : ℕ) (c : Chain) → chain_refusal_of bytes c ≡ Ok tt → held_chain c ≡ c
 unfolding chain_refusal_of
 chain_kept bytes c e =
-    let sound = (passed (is_sound c) (λ f. omega arith) (passed (eqb bytes chain_bytes) (λ f. omega arith) e).1).0 in
+    let sound = (passed (is_sound c) (λ f. cc) (passed (eqb bytes chain_bytes) (λ f. cc) e).1).0 in
     chain_held c sound
 
 -- A draft.
@@ -110,12 +111,12 @@ held_used d =
     whole_held_if true z = refl
     whole_held_if false z = refl
 
-pub used_fits : (bytes : ℕ) (d : Draft) → refusal_of bytes d ≡ 0 →
+pub used_fits : (bytes : ℕ) (d : Draft) → refusal_of bytes d ≡ Ok tt →
     (nat_abs (used_of d).x ≤ most_centimetres) × (nat_abs (used_of d).y ≤ most_centimetres)
 unfolding refusal_of used_of
 used_fits bytes d e =
-    let kind = passed (is_kind d.kind) (λ f. omega arith) (passed (eqb bytes log_bytes) (λ f. omega arith) e).1 in
-    fit (eqb d.kind 3) d.x d.y (passed (numbers_fit d) (λ f. omega arith) kind.1).0
+    let kind = passed (is_kind d.kind) (λ f. cc) (passed (eqb bytes log_bytes) (λ f. cc) e).1 in
+    fit (eqb d.kind 3) d.x d.y (passed (numbers_fit d) (λ f. cc) kind.1).0
   where
     fit : (t : Bool) (x y : ℤ) → (t || (leb (nat_abs x) most_centimetres && leb (nat_abs y) most_centimetres)) ≡ true →
         (nat_abs (cond t (pos 0) x) ≤ most_centimetres) × (nat_abs (cond t (pos 0) y) ≤ most_centimetres)
@@ -124,7 +125,7 @@ used_fits bytes d e =
         let two = both (leb (nat_abs x) most_centimetres) (leb (nat_abs y) most_centimetres) h in
         (leb-true _ _ two.0, leb-true _ _ two.1)
 
-pub used_kept : (bytes : ℕ) (d : Draft) → d.line < 2 ^ 32 → refusal_of bytes d ≡ 0 → held_draft (used_of d) ≡ used_of d
+pub used_kept : (bytes : ℕ) (d : Draft) → d.line < 2 ^ 32 → refusal_of bytes d ≡ Ok tt → held_draft (used_of d) ≡ used_of d
 used_kept bytes d small e =
     let few = used_small bytes d e in
     let fit = used_fits bytes d e in
@@ -137,7 +138,7 @@ used_kept bytes d small e =
       whole_held (used_of d).y fit.1,
     )
 
-pub draft_kept : (bytes : ℕ) (d : Draft) → d.line < 2 ^ 32 → refusal_of bytes d ≡ 0 → used_of (held_draft d) ≡ used_of d
+pub draft_kept : (bytes : ℕ) (d : Draft) → d.line < 2 ^ 32 → refusal_of bytes d ≡ Ok tt → used_of (held_draft d) ≡ used_of d
 draft_kept bytes d small e = held_used d ∙ used_kept bytes d small e
 
 -- A question: the chain of a table that the number names, and the readings expected at the place.
@@ -182,23 +183,23 @@ module _ (c : Chain) (x y : ℤ) where
       let second = both (leb (nat_abs y) most_reading) true first.1 in
       ap₂ (λ (u v : ℤ). u ∷ v ∷ []) (whole_held x (leb-true _ _ first.0)) (whole_held y (leb-true _ _ second.0))
 
-  asked_held : (j : Job) → many_by (job.Job j) c (held_whole x ∷ held_whole y ∷ []) ≡ many_by (job.Job j) c (x ∷ y ∷ [])
+  asked_held : (j : Job) → many_by (Ok j) c (held_whole x ∷ held_whole y ∷ []) ≡ many_by (Ok j) c (x ∷ y ∷ [])
   unfolding many_by how_many_of
   asked_held j = go (none_too_large (wanted_of c (x ∷ y ∷ []))) refl
     where
       said : List ℤ → Question
       said readings = for_one (rule_of c readings j.tolerance) j.allowance
 
-      three : Outcome → HowMany
+      three : Outcome → Result HowMany Stopped
       three o = said_for o.answer (first_of o.places)
 
-      go : (b : Bool) → none_too_large (wanted_of c (x ∷ y ∷ [])) ≡ b → many_by (job.Job j) c (held_whole x ∷ held_whole y ∷ []) ≡ many_by (job.Job j) c (x ∷ y ∷ [])
-      go true e = ap (λ (l : List ℤ). many_by (job.Job j) c l) (both_held e)
+      go : (b : Bool) → none_too_large (wanted_of c (x ∷ y ∷ [])) ≡ b → many_by (Ok j) c (held_whole x ∷ held_whole y ∷ []) ≡ many_by (Ok j) c (x ∷ y ∷ [])
+      go true e = ap (λ (l : List ℤ). many_by (Ok j) c l) (both_held e)
       go false e =
           ap three (search_3 (said (held_whole x ∷ held_whole y ∷ [])) j.window (none_held ∙ e))
           ∙ sym (ap three (search_3 (said (x ∷ y ∷ [])) j.window e))
 
-  pub many_held : (a : JobAnswer) → many_by a c (held_whole x ∷ held_whole y ∷ []) ≡ many_by a c (x ∷ y ∷ [])
+  pub many_held : (a : Result Job Refusal) → many_by a c (held_whole x ∷ held_whole y ∷ []) ≡ many_by a c (x ∷ y ∷ [])
   unfolding many_by
-  many_held (job.Job j) = asked_held j
-  many_held (job.Refused number) = refl
+  many_held (Ok j) = asked_held j
+  many_held (Err why) = refl

@@ -8,10 +8,10 @@ use borrow.Author.Tests.{leb-true, eqb-true, ne_eqb}
 use lib.Dec.{leb, eqb}
 use lib.ListN.{length, get_or, take, drop, length-append, length-drop}
 use lib.Seq.{take_at, drop_at, get_or_at, length-take-le}
+use Rattle.std.specs.Prelude.{Some, None}
 use Rattle.chart.proofs.PlaceLaws.{both, and_both}
 use Rattle.text.specs.Texts.{digits_of, numeral_from, numeral}
 use Rattle.text.proofs.Digits.{reads_back}
-use Rattle.parsing.specs.declared.Sized.TheVariants.{Value, Large}
 use Rattle.parsing.specs.Words.{run, is_in_word}
 use Rattle.parsing.specs.Numbers.{is_digit, is_number, before_point, after_point, is_metres, is_length, centimetres_in}
 use Rattle.parsing.specs.Scanning.{sized_of}
@@ -74,14 +74,14 @@ two_more n (a ∷ b ∷ []) h = omega arith
 two_more n (a ∷ b ∷ x ∷ xs) h = absurd (omega (arith, h))
 
 -- So the code's two steps give the centimetres: the number before the point, and with the digits after it.
-pub metres_value : (w : List ℕ) (m : ℕ) → is_metres w ≡ true → sized_of (numeral (before_point w)) ≡ Value m →
+pub metres_value : (w : List ℕ) (m : ℕ) → is_metres w ≡ true → sized_of (numeral (before_point w)) ≡ Some m →
     numeral_from m (after_point w) ≡ centimetres_in w
 unfolding centimetres_in
 metres_value w m h e =
     rw (h, sym (sized_value (numeral (before_point w)) m e))
     (two_more (numeral (before_point w)) (after_point w) (two_after w (omega (arith, metres_long w h))))
 
-pub metres_large : (w : List ℕ) → is_metres w ≡ true → sized_of (numeral (before_point w)) ≡ Large → sized_of (centimetres_in w) ≡ Large
+pub metres_large : (w : List ℕ) → is_metres w ≡ true → sized_of (numeral (before_point w)) ≡ None → sized_of (centimetres_in w) ≡ None
 unfolding centimetres_in
 metres_large w h e = rw h (sized_large (100 * numeral (before_point w) + numeral (after_point w)) (omega (arith, sized_over (numeral (before_point w)) e)))
 

@@ -7,15 +7,9 @@ use native.Mathlib.Omega.{arith}
 use native.Mathlib.Numerals.{add-one}
 use borrow.Author.Tests.{eqb-true, eqb-false, eq-eqb, ne_eqb, ltb-true, ltb-false}
 use lib.Dec.{eqb, ltb}
-use lib.IntN.{ℤ}
 use lib.ListN.{length, get_or, take, drop, length-drop}
 use lib.Seq.{drop-cons, length-take-le, take_all}
-use Rattle.chart.specs.declared.Place.{Place}
-use Rattle.search.specs.declared.Window.{Window}
 use Rattle.parsing.specs.declared.Span.{Span}
-use Rattle.parsing.specs.declared.ParsedJob.TheVariants.{Job}
-use Rattle.parsing.specs.declared.ParsedChain.TheVariants.{Chain}
-use Rattle.parsing.specs.declared.ParsedDraft.TheVariants.{Draft}
 use Rattle.parsing.specs.Words.{Spans}
 use Rattle.parsing.specs.Numbers.{is_below, size_in}
 
@@ -70,16 +64,3 @@ span_behind_sign {s} {w} {p} h e =
 
 pub size_plain : (w : List ℕ) → is_below w ≡ false → size_in w ≡ w
 size_plain w e = rw (e)
-
--- A job, a chain and a draft field by field.
-pub asked : {w w' : Window} {t t' n n' : ℕ} → w ≡ w' → t ≡ t' → n ≡ n' →
-    Job (record { window = w; tolerance = t; allowance = n }) ≡ Job (record { window = w'; tolerance = t'; allowance = n' })
-asked w t n = rw (w, t, n)
-
-pub linked : {m m' a a' b b' : Place} {f f' : ℕ} → m ≡ m' → a ≡ a' → b ≡ b' → f ≡ f' →
-    Chain (record { master = m; a = a; b = b; factor = f }) ≡ Chain (record { master = m'; a = a'; b = b'; factor = f' })
-linked m a b f = rw (m, a, b, f)
-
-pub drafted : {k k' n n' l l' : ℕ} {x x' y y' : ℤ} → k ≡ k' → n ≡ n' → l ≡ l' → x ≡ x' → y ≡ y' →
-    Draft (record { kind = k; chain = n; line = l; x = x; y = y }) ≡ Draft (record { kind = k'; chain = n'; line = l'; x = x'; y = y' })
-drafted k n l x y = rw (k, n, l, x, y)

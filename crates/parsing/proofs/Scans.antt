@@ -7,11 +7,7 @@ use native.Mathlib.Omega.{arith}
 use native.Mathlib.Numerals.{add-one}
 use lib.ListN.{length, get_or, take, drop, drop_of_length-le, length-drop}
 use lib.Seq.{drop-cons, drop-drop}
-use Rattle.parsing.specs.declared.Class.TheVariants as class
-use Rattle.parsing.specs.Words.{run, are_all, is_in_line, is_blank, is_in_word, from_word, first_word, behind_word, word_at, start_at, Spans}
-use Rattle.parsing.specs.Numbers.{is_digit}
-use Rattle.parsing.specs.Forms.{is_no_point}
-use Rattle.parsing.specs.Scanning.{is_of}
+use Rattle.parsing.specs.Words.{run, is_blank, is_in_word, from_word, first_word, behind_word, word_at, start_at, Spans}
 
 -- The run from i on is one longer than the run from i + 1 on if the byte at i passes the test. It is empty if the byte does
 -- not, or if the text has ended.
@@ -40,61 +36,34 @@ run-within such (b ∷ bs) = go (such b) refl (run-within such bs)
 pub scan_within : (such : ℕ → Bool) (s : List ℕ) (from : ℕ) → from ≤ length s → from + run such (drop from s) ≤ length s
 scan_within such s from h = omega (arith, run-within such (drop from s), length-drop from s, h)
 
--- The classes that the code scans for are the tests of the definitions.
-pub line_class : (s : List ℕ) → run (is_of class.InLine) s ≡ run is_in_line s
-unfolding is_of
-line_class s = refl
-
-pub blank_class : (s : List ℕ) → run (is_of class.Blank) s ≡ run is_blank s
-unfolding is_of
-blank_class s = refl
-
-pub word_class : (s : List ℕ) → run (is_of class.InWord) s ≡ run is_in_word s
-unfolding is_of
-word_class s = refl
-
-pub point_class : (s : List ℕ) → run (is_of class.NoPoint) s ≡ run is_no_point s
-unfolding is_of
-point_class s = refl
-
-pub all_digits : (s : List ℕ) → are_all (is_of class.Digit) s ≡ are_all is_digit s
-unfolding is_of
-all_digits s = refl
-
-pub all_in_word : (s : List ℕ) → are_all (is_of class.InWord) s ≡ are_all is_in_word s
-unfolding is_of
-all_in_word s = refl
-
 -- Two scans: past the blanks from `at` on, then past the word after them.
 pub record Scanned (s : List ℕ) (at start end : ℕ) : Type 0 where
   pub inside : at ≤ length s
-  pub to_start : start ≡ at + run (is_of class.Blank) (drop at s)
-  pub to_end : end ≡ start + run (is_of class.InWord) (drop start s)
+  pub to_start : start ≡ at + run is_blank (drop at s)
+  pub to_end : end ≡ start + run is_in_word (drop start s)
 
 from_word_lem : {s : List ℕ} {at start end : ℕ} → Scanned s at start end → from_word (drop at s) ≡ drop start s
 from_word_lem {s} {at} {start} {end} h =
-    ap (λ (n : ℕ). drop n (drop at s)) (sym (blank_class (drop at s)))
-    ∙ drop-drop (run (is_of class.Blank) (drop at s)) at s
+    drop-drop (run is_blank (drop at s)) at s
     ∙ ap (λ (n : ℕ). drop n s) (sym h.to_start)
 
 -- What is left of the line after both scans is what follows the word,
 pub scanned_behind : {s : List ℕ} {at start end : ℕ} → Scanned s at start end → behind_word (drop at s) ≡ drop end s
 scanned_behind {s} {at} {start} {end} h =
     ap (λ (t : List ℕ). drop (run is_in_word t) t) (from_word_lem h)
-    ∙ ap (λ (n : ℕ). drop n (drop start s)) (sym (word_class (drop start s)))
-    ∙ drop-drop (run (is_of class.InWord) (drop start s)) start s
+    ∙ drop-drop (run is_in_word (drop start s)) start s
     ∙ ap (λ (n : ℕ). drop n s) (sym h.to_end)
 
 pub scanned_start : {s : List ℕ} {at start end : ℕ} → Scanned s at start end → start ≤ length s
-scanned_start {s} {at} {start} {end} h = omega (arith, h.to_start, scan_within (is_of class.Blank) s at h.inside)
+scanned_start {s} {at} {start} {end} h = omega (arith, h.to_start, scan_within is_blank s at h.inside)
 
 pub scanned_end : {s : List ℕ} {at start end : ℕ} → Scanned s at start end → end ≤ length s
-scanned_end {s} {at} {start} {end} h = omega (arith, h.to_end, scan_within (is_of class.InWord) s start (scanned_start h))
+scanned_end {s} {at} {start} {end} h = omega (arith, h.to_end, scan_within is_in_word s start (scanned_start h))
 
 -- and the bytes between their ends are the word.
 pub scanned_word : {s : List ℕ} {at start end : ℕ} → Scanned s at start end → Spans s (first_word (drop at s)) (record { start = start; end = end })
 scanned_word {s} {at} {start} {end} h =
-    let size : end - start ≡ run is_in_word (drop start s) = omega (arith, h.to_end, word_class (drop start s)) in
+    let size : end - start ≡ run is_in_word (drop start s) = omega (arith, h.to_end) in
     record {
       rises = omega (arith, h.to_end);
       inside = scanned_end h;

@@ -1,19 +1,18 @@
 -- The value of digits as the code works it out, and numbers in fields of a given number of bits.
 use Prim.Native.Nat.{ℕ, ◌+◌, ◌-◌, ◌*◌, ◌^◌, ◌≤◌, ◌<◌}
-use mathlib.Core.Path.{◌≡◌, refl, sym, ap, ◌∙◌}
+use mathlib.Core.Path.{◌≡◌, refl, ap, ◌∙◌}
 use mathlib.Core.Bool.{Bool, true, false}
 use mathlib.Core.List.{List, [], ◌∷◌}
 use native.Mathlib.Omega.{arith}
 use native.Mathlib.Numerals.{add-one}
-use borrow.Author.Tests.{ltb-false, lt-ltb, le-ltb, leb-true, leb-false}
-use lib.Dec.{leb, ltb}
+use borrow.Author.Tests.{ltb-false, lt-ltb, le-ltb}
+use lib.Dec.{ltb}
 use lib.ListN.{length, get_or, drop, drop_of_length-le}
 use lib.Seq.{drop-cons}
+use Rattle.std.specs.Prelude.{cond, Option, Some, None, is_some}
 use Rattle.text.specs.Texts.{numeral_from}
-use Rattle.parsing.specs.declared.Sized.{Sized}
-use Rattle.parsing.specs.declared.Sized.TheVariants.{Value, Large}
 use Rattle.parsing.specs.Numbers.{fits, held}
-use Rattle.parsing.specs.Scanning.{sized_of, is_value, held_to, held_in, fits_in}
+use Rattle.parsing.specs.Scanning.{sized_of, held_to, held_in}
 
 -- The value after one more digit, and after the last.
 pub numeral_more : (n : ℕ) (w : List ℕ) (i : ℕ) → i < length w → numeral_from n (drop i w) ≡ numeral_from (10 * n + (get_or w i 0 - 48)) (drop (i + 1) w)
@@ -30,25 +29,25 @@ unfolding numeral_from
 numeral_grows n [] = omega arith
 numeral_grows n (b ∷ bs) = omega (arith, numeral_grows (10 * n + (b - 48)) bs)
 
--- A number of at most 64 bits is given as `Value`, and a larger one as `Large`.
-pub sized_small : (n : ℕ) → n < 2 ^ 64 → sized_of n ≡ Value n
+-- A number of at most 64 bits is given, and a larger one is not.
+pub sized_small : (n : ℕ) → n < 2 ^ 64 → sized_of n ≡ Some n
 sized_small n h = rw (lt-ltb n (2 ^ 64) h)
 
-pub sized_large : (n : ℕ) → 2 ^ 64 ≤ n → sized_of n ≡ Large
+pub sized_large : (n : ℕ) → 2 ^ 64 ≤ n → sized_of n ≡ None
 sized_large n h = rw (le-ltb n (2 ^ 64) h)
 
-pub sized_value : (n m : ℕ) → sized_of n ≡ Value m → n ≡ m
+pub sized_value : (n m : ℕ) → sized_of n ≡ Some m → n ≡ m
 sized_value n m e = go (ltb n (2 ^ 64)) refl e
   where
-    go : (t : Bool) → ltb n (2 ^ 64) ≡ t → sized_of n ≡ Value m → n ≡ m
-    go true f e = let same : Value n ≡ Value m = rw f at e in cc same
-    go false f e = let never : Large ≡ Value m = rw f at e in absurd (let z : ◌≡◌ {A = ℕ} 0 1 = cc never in omega arith)
+    go : (t : Bool) → ltb n (2 ^ 64) ≡ t → sized_of n ≡ Some m → n ≡ m
+    go true f e = let same : Some n ≡ Some m = rw f at e in cc same
+    go false f e = let never : None ≡ Some m = rw f at e in absurd (cc never)
 
-pub sized_over : (n : ℕ) → sized_of n ≡ Large → 2 ^ 64 ≤ n
+pub sized_over : (n : ℕ) → sized_of n ≡ None → 2 ^ 64 ≤ n
 sized_over n e = go (ltb n (2 ^ 64)) refl e
   where
-    go : (t : Bool) → ltb n (2 ^ 64) ≡ t → sized_of n ≡ Large → 2 ^ 64 ≤ n
-    go true f e = let never : Value n ≡ Large = rw f at e in absurd (let z : ◌≡◌ {A = ℕ} 0 1 = cc never in omega arith)
+    go : (t : Bool) → ltb n (2 ^ 64) ≡ t → sized_of n ≡ None → 2 ^ 64 ≤ n
+    go true f e = let never : Some n ≡ None = rw f at e in absurd (cc never)
     go false f e = ltb-false n (2 ^ 64) f
 
 -- So a field of at most 64 bits holds the same of it as of the number itself.
@@ -60,35 +59,22 @@ held_sized bits n h = go (ltb n (2 ^ 64)) refl
     go true e = rw (e)
     go false e = rw (e) (omega (arith, ltb-false n (2 ^ 64) e))
 
-pub fits_sized : (bits n : ℕ) → 2 ^ bits ≤ 2 ^ 64 → fits_in bits (sized_of n) ≡ fits bits n
-unfolding fits_in
-fits_sized bits n h = go (ltb n (2 ^ 64)) refl
-  where
-    go : (t : Bool) → ltb n (2 ^ 64) ≡ t → fits_in bits (sized_of n) ≡ fits bits n
-    go true e = rw (e)
-    go false e = rw (e, le-ltb n (2 ^ bits) (omega (arith, ltb-false n (2 ^ 64) e)))
-
 -- What a field holds of a number that is given in this way.
-pub held_told : (bits m : ℕ) {n : Sized} {r : ℕ} → 2 ^ bits ≤ 2 ^ 64 → r ≡ held_in bits n → n ≡ sized_of m → r ≡ held bits m
+pub held_told : (bits m : ℕ) {n : Option ℕ} {r : ℕ} → 2 ^ bits ≤ 2 ^ 64 → r ≡ held_in bits n → n ≡ sized_of m → r ≡ held bits m
 held_told bits m h r-is n-is = r-is ∙ ap (held_in bits) n-is ∙ held_sized bits m h
 
-pub held-within : (most : ℕ) (n : Sized) → held_to most n ≤ most
+pub held_32 : (n : ℕ) → held_in 32 (sized_of n) ≡ held 32 n
+held_32 n = held_sized 32 n (omega arith)
+
+pub held_within : (most : ℕ) (n : Option ℕ) → held_to most n ≤ most
 unfolding held_to
-held-within most (Value n) = omega arith
-held-within most Large = omega arith
+held_within most (Some n) = omega arith
+held_within most None = omega arith
 
-pub value_sized : (n : ℕ) → is_value (sized_of n) ≡ fits 64 n
-unfolding is_value
-value_sized n = go (ltb n (2 ^ 64)) refl
+-- Whether it is given, and whether it is given and fits in 32 bits.
+pub some_sized : (n : ℕ) → is_some (sized_of n) ≡ fits 64 n
+some_sized n = go (ltb n (2 ^ 64))
   where
-    go : (t : Bool) → ltb n (2 ^ 64) ≡ t → is_value (sized_of n) ≡ fits 64 n
-    go true e = rw (e)
-    go false e = rw (e)
-
--- The test by the greatest number of 32 bits.
-pub fits_32 : (n : ℕ) → leb n 4_294_967_295 ≡ fits 32 n
-fits_32 n = go (leb n 4_294_967_295) refl
-  where
-    go : (t : Bool) → leb n 4_294_967_295 ≡ t → t ≡ fits 32 n
-    go true e = sym (lt-ltb n (2 ^ 32) (omega (arith, leb-true n 4_294_967_295 e)))
-    go false e = sym (le-ltb n (2 ^ 32) (omega (arith, leb-false n 4_294_967_295 e)))
+    go : (t : Bool) → is_some (cond t (Some n) None) ≡ t
+    go true = refl
+    go false = refl

@@ -1,58 +1,41 @@
 // Text that a person types: lines, their words, and the job, chain, log record or question that a line stands for.
 #![tactic(auto)]
 
-ghost use Rattle.std.specs.Prelude.{cond, ◌≡◌, ◌+◌, ◌-◌, ◌≤◌, min, leb, pos, nat_abs, length, drop};
+ghost use Rattle.std.specs.Prelude.{◌≡◌, ◌+◌, ◌-◌, ◌≤◌, ℕ, Bool, cond, leb, pos, nat_abs, length, drop};
 ghost use Rattle.metres.specs.Metres.{most_centimetres};
 ghost use Rattle.chart.specs.Places.{same_place};
 ghost use Rattle.chart.specs.Chains.{is_sound};
 ghost use Rattle.records.specs.LogRecords.{is_place};
 ghost use Rattle.text.specs.Texts.{numeral, numeral_from};
-ghost use Rattle.parsing.specs.Words.{run, are_all, is_in_line, is_blank, is_one_word, word_at, start_at, span_at, Spans, no_word, is_passed};
+ghost use Rattle.parsing.specs.Words.{run, are_all, is_in_line, is_blank, is_in_word, is_one_word, word_at, start_at, span_at, Spans, no_word, is_passed};
 ghost use Rattle.parsing.specs.Numbers.{is_digit, is_number, is_metres, is_length, centimetres_in, is_below, size_in, is_reading, value_at, length_at, held, held_reading};
 ghost use Rattle.parsing.specs.Forms.{words_of, taken_for, is_taken, good_words, is_form, has_point, wrong_in, wrong_at};
 ghost use Rattle.parsing.specs.Parsed.{place_in, window_in, allowance_in, factor_in, parsed_job, parsed_chain, parsed_draft, parsed_question, parsed_readings};
 ghost use Rattle.parsing.specs.Faults.{place_fault, job_fault, draft_fault, unscaled, chain_fault};
-ghost use Rattle.parsing.specs.Scanning.{is_of, sized_of, is_value, held_to, held_in, fits_in};
+ghost use Rattle.parsing.specs.Scanning.{Tests, sized_of, held_to, held_in};
 ghost use Rattle.parsing.specs.declared.ChainFault.TheVariants as fault;
 ghost use Rattle.parsing.specs.declared.Form.TheVariants as forms;
 ghost use Rattle.parsing.specs.declared.Taken.TheVariants as kinds;
 
 use chart::{Chain, Place};
 use records::Job;
+use refusals::Refusal;
 use search::Window;
 use writing::Draft;
 
-// What a line stands for, or refusal 12 for a line of another form. A line that is passed over stands for nothing.
+// A question for the readings of a chain, by its number, at a place.
 #[derive(Clone, Copy)]
-pub enum ParsedJob {
-    Job(Job),
-    Refused(u32),
+pub struct PlaceAsked {
+    pub chain: u32,
+    pub place: Place,
 }
 
+// A question for the places at which a chain, by its number, has these readings.
 #[derive(Clone, Copy)]
-pub enum ParsedChain {
-    Chain(Chain),
-    Passed,
-    Refused(u32),
-}
-
-#[derive(Clone, Copy)]
-pub enum ParsedDraft {
-    Draft(Draft),
-    Passed,
-    Refused(u32),
-}
-
-#[derive(Clone, Copy)]
-pub enum ParsedQuestion {
-    Question { chain: u32, place: Place },
-    Refused(u32),
-}
-
-#[derive(Clone, Copy)]
-pub enum ParsedReadings {
-    Readings { chain: u32, a: i64, b: i64 },
-    Refused(u32),
+pub struct ReadingsAsked {
+    pub chain: u32,
+    pub a: i64,
+    pub b: i64,
 }
 
 // What a line is taken for.
@@ -105,113 +88,101 @@ pub struct Span {
     pub end: usize,
 }
 
-// The classes of bytes that a scan looks for.
-#[derive(Clone, Copy)]
-enum Class {
-    InLine,
-    Blank,
-    InWord,
-    Digit,
-    NoPoint,
-}
-
-// A number of at most 64 bits, or that it is larger.
-#[derive(Clone, Copy)]
-enum Sized {
-    Value(u64),
-    Large,
-}
-
 // How many bytes are before the first newline of a text; all of them if there is none.
 pub fn line_end(text: &[u8]) -> usize
     ensures { result ≡ run is_in_line text.now }
 {
-    scan(text, 0, Class::InLine)
+    scan(text, 0, in_line)
 }
 
 // Whether a text is one word and nothing else.
 pub fn is_word(s: &[u8]) -> bool
     ensures { result ≡ is_one_word s.now }
 {
-    all_of(s, Class::InWord)
+    all_of(s, in_word)
 }
 
-// The job in a line.
-pub fn job(line: &[u8]) -> ParsedJob
+// The job in a line. A line of another form is refused here and below.
+#[tactic(auto, using(crate::proofs::Values::held_32), unfolding(crate::specs::Parsed::parsed_job))]
+pub fn job(line: &[u8]) -> Result<Job, Refusal>
     ensures { result ≡ parsed_job line.now }
 {
     if !is_form(line, Form::Job) {
-        return ParsedJob::Refused(12);
+        return Err(Refusal::Line);
     }
-    ParsedJob::Job(Job {
+    Ok(Job {
         window: window(line),
         tolerance: as_32(length(line, 3)),
         allowance: allowance(line),
     })
 }
 
-// The chain in a line.
-pub fn chain(line: &[u8]) -> ParsedChain
+// The chain in a line, or none if the line is passed over.
+#[tactic(auto, unfolding(crate::specs::Parsed::parsed_chain))]
+pub fn chain(line: &[u8]) -> Result<Option<Chain>, Refusal>
     ensures { result ≡ parsed_chain line.now }
 {
     if is_passed(line) {
-        return ParsedChain::Passed;
+        return Ok(None);
     }
     if !is_form(line, Form::Chain) {
-        return ParsedChain::Refused(12);
+        return Err(Refusal::Line);
     }
-    ParsedChain::Chain(Chain {
+    Ok(Some(Chain {
         master: place(line, 0),
         a: place(line, 2),
         b: place(line, 4),
         factor: factor(line),
-    })
+    }))
 }
 
-// The draft of a log record in a line.
-pub fn draft(line: &[u8]) -> ParsedDraft
+// The draft of a log record in a line, or none if the line is passed over.
+#[tactic(auto, using(crate::proofs::Values::held_32), unfolding(crate::specs::Parsed::parsed_draft))]
+pub fn draft(line: &[u8]) -> Result<Option<Draft>, Refusal>
     ensures { result ≡ parsed_draft line.now }
 {
     if is_passed(line) {
-        return ParsedDraft::Passed;
+        return Ok(None);
     }
     if !is_form(line, Form::Draft) {
-        return ParsedDraft::Refused(12);
+        return Err(Refusal::Line);
     }
     let x = reading(line, 3);
     let y = reading(line, 4);
-    ParsedDraft::Draft(Draft {
+    Ok(Some(Draft {
         kind: as_32(number(line, 0)),
         chain: as_32(number(line, 1)),
         line: as_32(number(line, 2)),
         x,
         y,
-    })
+    }))
 }
 
 // The chain number and the place that a line asks about.
-pub fn question(line: &[u8]) -> ParsedQuestion
+#[tactic(auto, using(crate::proofs::Values::held_32), unfolding(crate::specs::Parsed::parsed_question))]
+pub fn question(line: &[u8]) -> Result<PlaceAsked, Refusal>
     ensures { result ≡ parsed_question line.now }
 {
     if !is_form(line, Form::Question) {
-        return ParsedQuestion::Refused(12);
+        return Err(Refusal::Line);
     }
     let chain = as_32(number(line, 0));
     let place = place(line, 1);
-    ParsedQuestion::Question { chain, place }
+    Ok(PlaceAsked { chain, place })
 }
 
 // The chain number and the two readings that a line asks about.
-pub fn readings(line: &[u8]) -> ParsedReadings
+#[tactic(auto, using(crate::proofs::Values::held_32), unfolding(crate::specs::Parsed::parsed_readings))]
+pub fn readings(line: &[u8]) -> Result<ReadingsAsked, Refusal>
     ensures { result ≡ parsed_readings line.now }
 {
     if !is_form(line, Form::Readings) {
-        return ParsedReadings::Refused(12);
+        return Err(Refusal::Line);
     }
     let chain = as_32(number(line, 0));
     let a = reading(line, 1);
     let b = reading(line, 2);
-    ParsedReadings::Readings { chain, a, b }
+    Ok(ReadingsAsked { chain, a, b })
 }
 
 // How many words of a line are what they are taken for, up to the first that is not; so it is the word to name in a refusal.
@@ -219,17 +190,16 @@ pub fn good_words(line: &[u8], form: Form) -> usize
     ensures { result ≡ good_words form line.now }
 {
     let n = words_of(form);
-    let mut i = 0;
-    while i < n {
-        if !is_taken_at(line, i, taken_for(form, i)) {
+    for i in 0..n {
+        if !is_taken(word_of(line, i), taken_for(form, i)) {
             return i;
         }
-        i += 1;
     }
-    i
+    n
 }
 
 // What is wrong with the word i of a line, counted from 0, if it is not what it is taken for.
+#[tactic(auto, unfolding(crate::specs::Forms::wrong_at))]
 pub fn wrong_at(line: &[u8], form: Form, i: usize) -> Wrong
     ensures { result ≡ wrong_at form line.now i }
 {
@@ -239,8 +209,7 @@ pub fn wrong_at(line: &[u8], form: Form, i: usize) -> Wrong
     if i >= words_of(form) {
         return Wrong::Spare;
     }
-    let Span { start, end } = word(line, i);
-    wrong_in(&line[start..end], taken_for(form, i))
+    wrong_in(word_of(line, i), taken_for(form, i))
 }
 
 // What the word i of a line, counted from 0, is taken for.
@@ -257,6 +226,7 @@ pub fn taken_for(form: Form, i: usize) -> Taken
 }
 
 // How many words a line of the form has.
+#[tactic(auto, unfolding(crate::specs::Forms::words_of))]
 pub fn words_of(form: Form) -> usize
     ensures { result ≡ words_of form }
 {
@@ -282,67 +252,72 @@ fn word(s: &[u8], i: usize) -> Span
     ensures start { result.start ≡ start_at i s.now }
 {
     let mut at = 0;
-    let mut left = i;
-    while left > 0 {
-        at = scan(s, scan(s, at, Class::Blank), Class::InWord);
-        left -= 1;
+    for _passed in 0..i {
+        at = scan(s, scan(s, at, is_blank), in_word);
     }
-    let start = scan(s, at, Class::Blank);
-    let end = scan(s, start, Class::InWord);
+    let start = scan(s, at, is_blank);
+    let end = scan(s, start, in_word);
     Span { start, end }
 }
 
+// The word after i others: empty if there is none.
+fn word_of(s: &[u8], i: usize) -> &[u8]
+    ensures { result.now ≡ word_at i s.now }
+{
+    let Span { start, end } = word(s, i);
+    &s[start..end]
+}
+
 // The word at fault, counted from 0, in a place out of range: 0 or 1.
+#[tactic(auto, unfolding(crate::specs::Faults::place_fault))]
 pub fn place_fault(p: Place) -> usize
     ensures { result ≡ place_fault p }
 {
-    if chart::in_range(Place {
-        easting: p.easting,
-        northing: 0,
-    }) {
-        return 1;
+    if chart::in_range(Place { northing: 0, ..p }) {
+        1
+    } else {
+        0
     }
-    0
 }
 
-// The same in a job that is refused with 6 or 7.
+// The same in a job that is refused with 6 or 7. A number of any other refusal may be given too, so it stays a number.
+#[tactic(auto, unfolding(crate::specs::Faults::job_fault))]
 pub fn job_fault(number: u32, j: Job) -> usize
     ensures { result ≡ job_fault number j }
 {
     if number == 7 {
         return 3;
     }
-    let k = j.window.k;
+    let Window { corner, k } = j.window;
     if k > search::MOST_EXPONENT {
         return 2;
     }
     let corner = Place {
-        easting: j.window.corner.easting,
         northing: 0,
+        ..corner
     };
     if search::is_window(Window { corner, k }) {
-        return 1;
+        1
+    } else {
+        0
     }
-    0
 }
 
 // The same in a draft that is refused with 2 to 5.
+#[tactic(auto, unfolding(crate::specs::Faults::draft_fault))]
 pub fn draft_fault(number: u32, d: Draft) -> usize
     ensures { result ≡ draft_fault number d }
 {
-    if number == 2 {
-        return 0;
+    match number {
+        2 => 0,
+        3 => sized_fault(d.x),
+        4 => ranged_fault(d.x),
+        _ => 1,
     }
-    if number == 3 {
-        return sized_fault(d.x);
-    }
-    if number == 4 {
-        return ranged_fault(d.x);
-    }
-    1
 }
 
 // The same in a chain that is not sound.
+#[tactic(auto, using(crate::proofs::FaultLaws::place_few), unfolding(crate::specs::Faults::chain_fault))]
 pub fn chain_fault(c: Chain) -> ChainFault
     ensures { result ≡ chain_fault c }
 {
@@ -362,14 +337,9 @@ pub fn chain_fault(c: Chain) -> ChainFault
 fn on_grid_fault(c: Chain) -> ChainFault
     ensures { result ≡ cond (is_sound (unscaled c)) fault.Factor (fault.Spot (cond (same_place c.master c.a) 2 4)) }
 {
-    let master = c.master;
-    let a = c.a;
-    let b = c.b;
     if chart::sound(Chain {
-        master,
-        a,
-        b,
         factor: chart::UNIT_FACTOR,
+        ..c
     }) {
         return ChainFault::Factor;
     }
@@ -377,78 +347,69 @@ fn on_grid_fault(c: Chain) -> ChainFault
 }
 
 // The first word of A if it stands where the master does, else that of B.
+#[tactic(auto, unfolding(chart::specs::Places::same_place))]
 fn spot_fault(c: Chain) -> usize
     ensures { result ≡ cond (same_place c.master c.a) 2 4 }
 {
-    if c.master.easting != c.a.easting {
-        return 4;
-    }
-    if c.master.northing != c.a.northing {
-        return 4;
-    }
-    2
+    if c.master == c.a { 2 } else { 4 }
 }
 
 fn sized_fault(x: i64) -> usize
     ensures { result ≡ cond (leb (nat_abs x) most_centimetres) 4 3 }
 {
-    if metres::size(x) > metres::MOST_CENTIMETRES {
-        return 3;
+    if metres::size(x) <= metres::MOST_CENTIMETRES {
+        4
+    } else {
+        3
     }
-    4
 }
 
 fn ranged_fault(x: i64) -> usize
     ensures { result ≡ cond (is_place x (pos 0)) 4 3 }
 {
-    if records::is_place(x, 0) {
-        return 4;
-    }
-    3
+    if records::is_place(x, 0) { 4 } else { 3 }
 }
 
+#[tactic(auto, unfolding(crate::specs::Forms::taken_for))]
 fn in_job(i: usize) -> Taken
     ensures { result ≡ taken_for forms.Job i }
 {
-    if i == 2 {
-        return Taken::Number;
+    match i {
+        2 => Taken::Number,
+        4 => Taken::Allowance,
+        _ => Taken::Length,
     }
-    if i == 4 {
-        return Taken::Allowance;
-    }
-    Taken::Length
 }
 
+#[tactic(auto, unfolding(crate::specs::Forms::taken_for))]
 fn in_chain(i: usize) -> Taken
     ensures { result ≡ taken_for forms.Chain i }
 {
-    if i == 6 {
-        return Taken::Factor;
+    match i {
+        6 => Taken::Factor,
+        _ => Taken::Length,
     }
-    Taken::Length
 }
 
+#[tactic(auto, unfolding(crate::specs::Forms::taken_for))]
 fn in_draft(i: usize) -> Taken
     ensures { result ≡ taken_for forms.Draft i }
 {
-    if i < 2 {
-        return Taken::Number;
+    match i {
+        0 | 1 => Taken::Number,
+        2 => Taken::Line,
+        _ => Taken::Reading,
     }
-    if i == 2 {
-        return Taken::Line;
-    }
-    Taken::Reading
 }
 
+#[tactic(auto, unfolding(crate::specs::Forms::taken_for))]
 fn in_question(i: usize) -> Taken
     ensures { result ≡ taken_for forms.Question i }
 {
-    if i == 0 {
-        return Taken::Number;
-    }
-    Taken::Length
+    if i == 0 { Taken::Number } else { Taken::Length }
 }
 
+#[tactic(auto, unfolding(crate::specs::Forms::taken_for))]
 fn in_readings(i: usize) -> Taken
     ensures { result ≡ taken_for forms.Readings i }
 {
@@ -462,19 +423,10 @@ fn is_form(s: &[u8], form: Form) -> bool
     ensures { result ≡ is_form form s.now }
 {
     let n = words_of(form);
-    if good_words(s, form) != n {
-        return false;
-    }
-    no_word(s, n)
+    good_words(s, form) == n && no_word(s, n)
 }
 
-fn is_taken_at(s: &[u8], i: usize, taken: Taken) -> bool
-    ensures { result ≡ is_taken taken (word_at i s.now) }
-{
-    let Span { start, end } = word(s, i);
-    is_taken(&s[start..end], taken)
-}
-
+#[tactic(auto, unfolding(crate::specs::Forms::is_taken))]
 fn is_taken(w: &[u8], taken: Taken) -> bool
     ensures { result ≡ is_taken taken w.now }
 {
@@ -488,6 +440,7 @@ fn is_taken(w: &[u8], taken: Taken) -> bool
     }
 }
 
+#[tactic(auto, unfolding(crate::specs::Forms::wrong_in))]
 fn wrong_in(w: &[u8], taken: Taken) -> Wrong
     ensures { result ≡ wrong_in taken w.now }
 {
@@ -501,6 +454,7 @@ fn wrong_in(w: &[u8], taken: Taken) -> Wrong
     }
 }
 
+#[tactic(auto, unfolding(crate::specs::Forms::wrong_in))]
 fn wrong_number(w: &[u8]) -> Wrong
     ensures { result ≡ wrong_in kinds.Line w.now }
 {
@@ -510,6 +464,7 @@ fn wrong_number(w: &[u8]) -> Wrong
     Wrong::Digits
 }
 
+#[tactic(auto, unfolding(crate::specs::Forms::wrong_in))]
 fn wrong_length(w: &[u8]) -> Wrong
     ensures { result ≡ wrong_in kinds.Length w.now }
 {
@@ -519,6 +474,7 @@ fn wrong_length(w: &[u8]) -> Wrong
     wrong_reading(w)
 }
 
+#[tactic(auto, unfolding(crate::specs::Forms::wrong_in))]
 fn wrong_reading(w: &[u8]) -> Wrong
     ensures { result ≡ wrong_in kinds.Reading w.now }
 {
@@ -531,91 +487,64 @@ fn wrong_reading(w: &[u8]) -> Wrong
 fn has_point(w: &[u8]) -> bool
     ensures { result ≡ has_point w.now }
 {
-    scan(w, 0, Class::NoPoint) < w.len()
+    w.contains(&b'.')
 }
 
+#[tactic(auto, unfolding(crate::specs::Forms::is_taken))]
 fn is_line_number(w: &[u8]) -> bool
     ensures { result ≡ is_taken kinds.Line w.now }
 {
-    if !is_number(w) {
-        return false;
-    }
-    fits_32(value(w))
+    is_number(w) && value(w).is_some_and(|n| n <= u32::MAX as u64)
 }
 
+#[tactic(auto, unfolding(crate::specs::Forms::is_taken))]
 fn is_allowance(w: &[u8]) -> bool
     ensures { result ≡ is_taken kinds.Allowance w.now }
 {
-    if w.len() == 0 {
-        return true;
-    }
-    if !is_number(w) {
-        return false;
-    }
-    fits_64(value(w))
+    w.is_empty() || is_number(w) && value(w).is_some()
 }
 
+#[tactic(auto, unfolding(crate::specs::Forms::is_taken))]
 fn is_factor(w: &[u8]) -> bool
     ensures { result ≡ is_taken kinds.Factor w.now }
 {
-    if w.len() == 0 {
-        return true;
-    }
-    is_number(w)
+    is_number(w) || w.is_empty()
 }
 
 fn is_reading(w: &[u8]) -> bool
     ensures { result ≡ is_reading w.now }
 {
-    if is_below(w) {
-        return is_length(&w[1..]);
-    }
-    is_length(w)
+    is_length(size(w))
 }
 
 fn is_length(w: &[u8]) -> bool
     ensures { result ≡ is_length w.now }
 {
-    if is_number(w) {
-        return true;
-    }
-    is_metres(w)
+    is_number(w) || is_metres(w)
 }
 
 fn is_metres(w: &[u8]) -> bool
     ensures { result ≡ is_metres w.now }
 {
     let n = w.len();
-    if n < 4 {
-        return false;
-    }
-    if !is_number(&w[0..n - 3]) {
-        return false;
-    }
-    if w[n - 3] != b'.' {
-        return false;
-    }
-    is_number(&w[n - 2..])
+    n >= 4 && is_number(&w[..n - 3]) && w[n - 3] == b'.' && is_number(&w[n - 2..])
 }
 
 // Whether a line is passed over.
 fn is_passed(s: &[u8]) -> bool
     ensures { result ≡ is_passed s.now }
 {
-    let Span { start, end } = word(s, 0);
-    if end == start {
-        return true;
-    }
-    s[start] == b'#'
+    let w = word_of(s, 0);
+    w.is_empty() || w[0] == b'#'
 }
 
 fn no_word(s: &[u8], n: usize) -> bool
     ensures { result ≡ no_word n s.now }
 {
-    let w = word(s, n);
-    w.end == w.start
+    word_of(s, n).is_empty()
 }
 
+#[tactic(auto, using(crate::proofs::Values::held_32))]
 fn window(s: &[u8]) -> Window
     ensures { result ≡ window_in s.now }
 {
@@ -630,9 +559,10 @@ fn allowance(s: &[u8]) -> u64
     if no_word(s, 4) {
         return records::USUAL_ALLOWANCE;
     }
-    as_64(number(s, 4))
+    number(s, 4).unwrap_or(u64::MAX)
 }
 
+#[tactic(auto, using(crate::proofs::Values::held_32))]
 fn factor(s: &[u8]) -> u32
     ensures { result ≡ held 32 (factor_in s.now) }
 {
@@ -643,6 +573,7 @@ fn factor(s: &[u8]) -> u32
 }
 
 // The place in the words i and i + 1, counted from 0.
+#[tactic(auto, using(crate::proofs::Values::held_32))]
 fn place(s: &[u8], i: usize) -> Place
     requires { i ≤ 4 }
     ensures { result ≡ place_in s.now i }
@@ -655,220 +586,142 @@ fn place(s: &[u8], i: usize) -> Place
 fn reading(s: &[u8], i: usize) -> i64
     ensures { result ≡ held_reading s.now i }
 {
-    let Span {
-        start: first,
-        end: last,
-    } = word(s, i);
-    let below = is_below(&s[first..last]);
-    let Span { start, end } = size(s, i);
-    let n = as_63(centimetres(&s[start..end])) as i64;
+    let w = word_of(s, i);
+    let below = is_below(w);
+    let n = held_to(centimetres(size(w)), i64::MAX as u64) as i64;
     if below {
-        return 0 - n;
+        return -n;
     }
     n
 }
 
-// The number in the word i of a line, counted from 0.
-fn number(s: &[u8], i: usize) -> Sized
+// The number in the word i of a line, counted from 0; none if it has more than 64 bits. So it is with the numbers below.
+fn number(s: &[u8], i: usize) -> Option<u64>
     ensures { result ≡ sized_of (value_at s.now i) }
 {
-    let Span { start, end } = word(s, i);
-    value(&s[start..end])
+    value(word_of(s, i))
 }
 
 // The length in the word i of a line, counted from 0.
-fn length(s: &[u8], i: usize) -> Sized
+fn length(s: &[u8], i: usize) -> Option<u64>
     ensures { result ≡ sized_of (length_at s.now i) }
 {
-    let Span { start, end } = word(s, i);
-    centimetres(&s[start..end])
+    centimetres(word_of(s, i))
 }
 
 // The centimetres that a length says. Two digits follow the point, so with them the number is that of centimetres.
-fn centimetres(w: &[u8]) -> Sized
+fn centimetres(w: &[u8]) -> Option<u64>
     ensures { result ≡ sized_of (centimetres_in w.now) }
 {
     if !is_metres(w) {
         return value(w);
     }
     let n = w.len();
-    match value(&w[0..n - 3]) {
-        Sized::Value(metres) => value_from(metres, &w[n - 2..]),
-        Sized::Large => Sized::Large,
-    }
+    let metres = value(&w[..n - 3])?;
+    value_from(metres, &w[n - 2..])
 }
 
-fn as_32(n: Sized) -> u32
+#[tactic(auto, using(crate::proofs::Values::held_within))]
+fn as_32(n: Option<u64>) -> u32
     ensures { result ≡ held_in 32 n }
 {
     held_to(n, u32::MAX as u64) as u32
 }
 
-fn as_63(n: Sized) -> u64
-    ensures { result ≡ held_in 63 n }
-{
-    held_to(n, i64::MAX as u64)
-}
-
-fn as_64(n: Sized) -> u64
-    ensures { result ≡ held_in 64 n }
-{
-    held_to(n, u64::MAX)
-}
-
 // A number in a field that holds at most `most`: a larger number counts as `most`.
-fn held_to(n: Sized, most: u64) -> u64
+#[tactic(auto, unfolding(crate::specs::Scanning::held_to))]
+fn held_to(n: Option<u64>, most: u64) -> u64
     ensures { result ≡ held_to most n }
 {
-    match n {
-        Sized::Value(v) => least(v, most),
-        Sized::Large => most,
-    }
+    n.unwrap_or(most).min(most)
 }
 
-fn least(a: u64, b: u64) -> u64
-    ensures { result ≡ min a b }
+// A word without its minus sign, if it has one.
+fn size(w: &[u8]) -> &[u8]
+    ensures { result.now ≡ size_in w.now }
 {
-    if a < b {
-        return a;
-    }
-    b
-}
-
-fn fits_32(n: Sized) -> bool
-    ensures { result ≡ fits_in 32 n }
-{
-    match n {
-        Sized::Value(v) => v <= u32::MAX as u64,
-        Sized::Large => false,
-    }
-}
-
-fn fits_64(n: Sized) -> bool
-    ensures { result ≡ is_value n }
-{
-    match n {
-        Sized::Value(_) => true,
-        Sized::Large => false,
-    }
-}
-
-// The word i of a line, without its minus sign if it has one.
-fn size(s: &[u8], i: usize) -> Span
-    ensures { Spans s.now (size_in (word_at i s.now)) result }
-{
-    let Span { start, end } = word(s, i);
-    if !is_below(&s[start..end]) {
-        return Span { start, end };
-    }
-    Span {
-        start: start + 1,
-        end,
-    }
+    if is_below(w) { &w[1..] } else { w }
 }
 
 fn is_below(w: &[u8]) -> bool
     ensures { result ≡ is_below w.now }
 {
-    if w.len() == 0 {
-        return false;
-    }
-    w[0] == b'-'
+    w.first() == Some(&b'-')
 }
 
 fn is_number(w: &[u8]) -> bool
     ensures { result ≡ is_number w.now }
 {
-    all_of(w, Class::Digit)
+    all_of(w, is_digit)
 }
 
-// Whether s is not empty and all its bytes are of a class.
-fn all_of(s: &[u8], class: Class) -> bool
-    ensures { result ≡ are_all (is_of class) s.now }
+// Whether s is not empty and all its bytes pass a test.
+fn all_of<F: Fn(u8) -> bool>(s: &[u8], such: F) -> bool
+    requires { F.IsAlwaysCallable such }
+    ensures { (test : ℕ → Bool) → Tests (F.post such) test → result ≡ are_all test s.now }
 {
-    if s.len() == 0 {
-        return false;
-    }
-    scan(s, 0, class) == s.len()
+    !s.is_empty() && scan(s, 0, such) == s.len()
 }
 
 // The number that digits stand for.
-fn value(w: &[u8]) -> Sized
+#[tactic(auto, unfolding(text::specs::Texts::numeral))]
+fn value(w: &[u8]) -> Option<u64>
     ensures { result ≡ sized_of (numeral w.now) }
 {
     value_from(0, w)
 }
 
 // The same if other digits come before them, whose number is `before`.
-fn value_from(before: u64, w: &[u8]) -> Sized
+fn value_from(before: u64, w: &[u8]) -> Option<u64>
     ensures { result ≡ sized_of (numeral_from before w.now) }
 {
     let mut n = before;
-    let mut i = 0;
-    while i < w.len() {
-        let d = digit(w[i]);
-        if n > (u64::MAX - d) / 10 {
-            return Sized::Large;
-        }
-        n = 10 * n + d;
-        i += 1;
+    for b in w {
+        n = n.checked_mul(10)?.checked_add(digit(*b))?;
     }
-    Sized::Value(n)
+    Some(n)
 }
 
 fn digit(b: u8) -> u64
     ensures { result ≡ b - 48 }
 {
-    if b < 48 {
-        return 0;
-    }
-    (b - 48) as u64
+    u64::from(b.saturating_sub(b'0'))
 }
 
-// Where the run of bytes of a class that begins at `from` ends.
-fn scan(s: &[u8], from: usize, class: Class) -> usize
-    requires { from ≤ length s.now }
-    ensures { result ≡ from + run (is_of class) (drop from s.now) }
+// Where the run of bytes that pass a test and begins at `from` ends.
+fn scan<F: Fn(u8) -> bool>(s: &[u8], from: usize, such: F) -> usize
+    requires within { from ≤ length s.now }
+    requires callable { F.IsAlwaysCallable such }
+    ensures { (test : ℕ → Bool) → Tests (F.post such) test → result ≡ from + run test (drop from s.now) }
 {
-    let mut i = from;
-    while i < s.len() {
-        if !is_of(class, s[i]) {
+    for i in from..s.len() {
+        if !such(s[i]) {
             return i;
         }
-        i += 1;
     }
-    i
+    s.len()
 }
 
-fn is_of(class: Class, b: u8) -> bool
-    ensures { result ≡ is_of class b }
+fn in_line(b: u8) -> bool
+    ensures { result ≡ is_in_line b }
 {
-    match class {
-        Class::InLine => b != b'\n',
-        Class::Blank => is_blank(b),
-        Class::InWord => !is_blank(b),
-        Class::Digit => is_digit(b),
-        Class::NoPoint => b != b'.',
-    }
+    b != b'\n'
+}
+
+fn in_word(b: u8) -> bool
+    ensures { result ≡ is_in_word b }
+{
+    !is_blank(b)
 }
 
 fn is_blank(b: u8) -> bool
     ensures { result ≡ is_blank b }
 {
-    if b == b' ' {
-        return true;
-    }
-    if b == b'\t' {
-        return true;
-    }
-    b == b'\r'
+    matches!(b, b' ' | b'\t' | b'\r')
 }
 
 fn is_digit(b: u8) -> bool
     ensures { result ≡ is_digit b }
 {
-    if b < b'0' {
-        return false;
-    }
-    b <= b'9'
+    b.is_ascii_digit()
 }

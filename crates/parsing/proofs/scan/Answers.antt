@@ -1,25 +1,26 @@
--- `parsing::scan` meets its contract: each turn of the loop passes one byte of the class.
+-- `parsing::scan` meets its contract: each turn of the loop passes one byte.
 use mathlib.Core.Path.{sym, ◌∙◌}
 use native.Mathlib.Omega.{arith}
-use borrow.Author.Tests.{not-true, not-false}
-use Rattle.parsing.specs.Scanning.{is_of}
+use lib.ListN.{get_or}
 use Rattle.parsing.proofs.Scans.{run_more, run_stops, run-ended}
 use Rattle.parsing.proofs.scan.Goals as goal
 
-pub returns-then-not-is_of : goal.returns-then-not-is_of
-returns-then-not-is_of c =
-    let stops = run_stops (is_of c.args.class) c.args.s.now c.loop-i.i c.loop-i-test.true (sym c.is_of.ensures ∙ not-true _ c.if-not-is_of.true-raw) in
-    omega (arith, c.loop-i.invariant.1, stops)
-
-pub loop-i-smaller : goal.loop-i-smaller
-loop-i-smaller c = omega (arith, c.loop-i-test.true)
+pub returns-then-not-such : goal.returns-then-not-such
+returns-then-not-such g c test tests =
+    let s = c.args.s.now in
+    let i = c.loop-i.i in
+    let stops = run_stops test s i (omega arith) (sym (tests (get_or s i 0) (omega arith) c.such.result c.such.ensures) ∙ c.if-not-such.true) in
+    omega (arith, stops, c.loop-i.invariant test tests)
 
 pub loop-i-preserved : goal.loop-i-preserved
-loop-i-preserved c =
-    let more = run_more (is_of c.args.class) c.args.s.now c.loop-i.i c.loop-i-test.true (sym c.is_of.ensures ∙ not-false _ c.if-not-is_of.false-raw) in
-    (omega (arith, c.loop-i-test.true), omega (arith, c.loop-i.invariant.1, more))
+loop-i-preserved g c test tests =
+    let s = c.args.s.now in
+    let i = c.loop-i.i in
+    let more = run_more test s i (omega arith) (sym (tests (get_or s i 0) (omega arith) c.such.result c.such.ensures) ∙ c.if-not-such.false) in
+    omega (arith, more, c.loop-i.invariant test tests)
 
 pub returns : goal.returns
-returns c =
-    let ended = run-ended (is_of c.args.class) c.args.s.now c.loop-i.i c.loop-i-test.false in
-    omega (arith, c.loop-i.invariant.1, ended)
+returns g c test tests =
+    let s = c.args.s.now in
+    let i = c.loop-i.i in
+    omega (arith, run-ended test s i (omega arith), c.loop-i.invariant test tests)

@@ -1,6 +1,6 @@
 -- `parsing::value_from` meets its contract: each turn of the loop takes one more digit, until the number has more than 64 bits.
 use Prim.Native.Nat.{ℕ, ◌+◌, ◌-◌, ◌*◌}
-use mathlib.Core.Path.{sym, ap, ◌∙◌}
+use mathlib.Core.Path.{◌≡◌, sym, ap, ◌∙◌}
 use native.Mathlib.Omega.{arith}
 use lib.ListN.{get_or, drop}
 use Rattle.text.specs.Texts.{numeral_from}
@@ -8,37 +8,35 @@ use Rattle.parsing.specs.Scanning.{sized_of}
 use Rattle.parsing.proofs.Values.{numeral_more, numeral-ended, numeral_grows, sized_small, sized_large}
 use Rattle.parsing.proofs.value_from.Goals as goal
 
-pub overflow_sub-d : goal.overflow_sub-d
-overflow_sub-d c = omega (arith, c.digit-d.ensures, (c.shared_slice_known-in-loop-i-1.given c.loop-i.i).fits)
-
-pub returns-then-n-d : goal.returns-then-n-d
-returns-then-n-d c =
-    let loop = c.loop-i in
-    let a = c.args in
-    let w = a.w.now in
-    let more = numeral_more loop.n w loop.i c.loop-i-test.true in
-    let grows = numeral_grows (10 * loop.n + (get_or w loop.i 0 - 48)) (drop (loop.i + 1) w) in
-    sym (sized_large (numeral_from a.before w) (omega (arith, c.if-n-d.true, c.digit-d.ensures, loop.invariant.1, more, grows)))
-
-pub overflow_mul-n : goal.overflow_mul-n
-overflow_mul-n c = omega (arith, c.if-n-d.false)
-
-pub overflow_add-n : goal.overflow_add-n
-overflow_add-n c = omega (arith, c.if-n-d.false)
-
-pub loop-i-smaller : goal.loop-i-smaller
-loop-i-smaller c = omega (arith, c.loop-i-test.true)
-
-pub loop-i-preserved : goal.loop-i-preserved
-loop-i-preserved c =
-    let loop = c.loop-i in
+pub returns-in_err-checked_mul : goal.returns-in_err-checked_mul
+returns-in_err-checked_mul c =
+    let n = c.loop-b.n in
     let w = c.args.w.now in
-    let next = ap (λ (d : ℕ). numeral_from (10 * loop.n + d) (drop (loop.i + 1) w)) c.digit-d.ensures in
-    (omega (arith, c.if-n-d.false), next ∙ sym (numeral_more loop.n w loop.i c.loop-i-test.true) ∙ loop.invariant.1)
+    let i = c.loop-b.b-index in
+    let more = numeral_more n w i (omega arith) in
+    let grows = numeral_grows (10 * n + (get_or w i 0 - 48)) (drop (i + 1) w) in
+    c.from_residual.ensures ∙ sym (sized_large (numeral_from c.args.before w) (omega (arith, more, grows, c.loop-b.invariant.1, c.in_err-checked_mul.ensures)))
+
+pub returns-in_err-n : goal.returns-in_err-n
+returns-in_err-n c =
+    let n = c.loop-b.n in
+    let w = c.args.w.now in
+    let i = c.loop-b.b-index in
+    let more = numeral_more n w i (omega arith) in
+    let grows = numeral_grows (10 * n + (get_or w i 0 - 48)) (drop (i + 1) w) in
+    c.from_residual-in_err-n.ensures ∙ sym (sized_large (numeral_from c.args.before w) (omega (arith, more, grows, c.loop-b.invariant.1, c.digit.ensures, c.in_ok-checked_mul.ensures, c.in_err-n.ensures)))
+
+pub loop-b-preserved : goal.loop-b-preserved
+loop-b-preserved c =
+    let n = c.loop-b.n in
+    let w = c.args.w.now in
+    let i = c.loop-b.b-index in
+    let next : c.in_ok-n.n ≡ 10 * n + (get_or w i 0 - 48) = omega (arith, c.digit.ensures, c.in_ok-checked_mul.ensures, c.in_ok-n.ensures) in
+    (omega (arith, c.in_ok-n.ensures), ap (λ (m : ℕ). numeral_from m (drop (i + 1) w)) next ∙ sym (numeral_more n w i (omega arith)) ∙ c.loop-b.invariant.1)
 
 pub returns : goal.returns
 returns c =
-    let loop = c.loop-i in
+    let n = c.loop-b.n in
     let w = c.args.w.now in
-    sym (sized_small loop.n loop.invariant.0)
-    ∙ ap sized_of (sym (numeral-ended loop.n w loop.i c.loop-i-test.false) ∙ loop.invariant.1)
+    let i = c.loop-b.b-index in
+    sym (sized_small n c.loop-b.invariant.0) ∙ ap sized_of (sym (numeral-ended n w i (omega arith)) ∙ c.loop-b.invariant.1)

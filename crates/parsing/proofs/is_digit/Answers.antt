@@ -1,9 +1,0 @@
--- `parsing::is_digit` meets its contract.
-use borrow.Author.Tests.{le-leb, lt-leb}
-use Rattle.parsing.proofs.is_digit.Goals as goal
-
-pub returns-then-b-lt48 : goal.returns-then-b-lt48
-returns-then-b-lt48 c = rw (lt-leb _ _ c.if-b-lt48.true)
-
-pub returns : goal.returns
-returns c = rw (le-leb _ _ c.if-b-lt48.false)
