@@ -9,10 +9,6 @@ use Rattle.std.specs.Int.Signed.{non_neg}
 use Rattle.parsing.specs.Words.{is_one_word}
 use Rattle.files.specs.declared.Opened.{Opened}
 use Rattle.files.specs.declared.Opened.TheVariants as opened
-use Rattle.files.specs.declared.Begun.{Begun}
-use Rattle.files.specs.declared.Begun.TheVariants as begun
-use Rattle.files.specs.declared.Filled.{Filled}
-use Rattle.files.specs.declared.Filled.TheVariants as filled
 use Rattle.files.specs.declared.Words.{Words}
 use Rattle.files.specs.declared.Words.TheVariants as words
 
@@ -23,9 +19,9 @@ IsOpen opened.Missing = Unit {0}
 IsOpen opened.Failed = Unit {0}
 
 -- The same for a fresh file.
-abbrev pub IsBegun : Begun → Type 0
-IsBegun (begun.File file) = T (non_neg (file_raw_fd file))
-IsBegun begun.Failed = Unit {0}
+abbrev pub IsBegun : Option File → Type 0
+IsBegun (Some file) = T (non_neg (file_raw_fd file))
+IsBegun None = Unit {0}
 
 -- Whether a call failed with an error of the operating system that has this number.
 abbrev pub is_error : Option ℤ → ℤ → Bool
@@ -40,19 +36,20 @@ abbrev pub opened_by : Result File Error → Opened
 opened_by (Ok file) = cond (non_neg (file_raw_fd file)) (opened.File file) opened.Failed
 opened_by (Err error) = not_opened error
 
--- How many bytes were read.
-abbrev pub filled_bytes : Filled → ℕ
-filled_bytes (filled.Bytes n) = n
-filled_bytes filled.Failed = 0
+-- How many bytes were read: none if reading failed.
+abbrev pub filled_bytes : Option ℕ → ℕ
+filled_bytes (Some n) = n
+filled_bytes None = 0
 
-abbrev pub no_bytes : Filled
-no_bytes = filled.Bytes 0
+-- The answer if the file has no bytes.
+abbrev pub no_bytes : Option ℕ
+no_bytes = Some 0
 
 -- The answer when the start of a file is read into a buffer of `room` bytes, according to how opening the file went.
-abbrev pub IsStarted : Opened → ℕ → Filled → Type 0
+abbrev pub IsStarted : Opened → ℕ → Option ℕ → Type 0
 IsStarted (opened.File file) room r = filled_bytes r ≤ room
 IsStarted opened.Missing room r = r ≡ no_bytes
-IsStarted opened.Failed room r = r ≡ filled.Failed
+IsStarted opened.Failed room r = r ≡ None
 
 -- A text is a given number of words, with single spaces between them.
 pub data AreWords : ℕ → List ℕ → Type 0 where

@@ -1,143 +1,76 @@
 // What is wrong with a line that is not of its form, as a sentence about the first word at fault.
-ghost use Rattle.std.specs.Prelude.{◌≤◌, length};
-
-use crate::messages::put;
+use crate::messages::Message;
 use parsing::{Form, Taken, Wrong};
 
-// The sentence about the word i of a line, counted from 0: what it is, and what it may be.
-pub(crate) fn put_fault(out: &mut [u8], line: &[u8], form: Form, i: usize) -> usize
-    ensures { result ≤ length out.new }
-{
-    match parsing::wrong_at(line, form, i) {
-        Wrong::Missing => put_expected(out, form, i),
-        Wrong::Spare => put_words(out, form),
-        Wrong::Digits => put_about(out, form, i, b" is a number in digits alone"),
-        Wrong::Large => put_most(out, form, i),
-        Wrong::Decimals => put_about(
-            out,
-            form,
-            i,
-            b" in metres has digits before the point and two after it",
-        ),
-        Wrong::Sign => put_about(out, form, i, b" has no minus sign"),
-        Wrong::Figures => put_length(out, form, i),
+impl<const N: usize> Message<N> {
+    // The sentence about the word i of a line, counted from 0: what it is, and what it may be.
+    pub(crate) fn put_fault(&mut self, line: &[u8], form: Form, i: usize) {
+        match parsing::wrong_at(line, form, i) {
+            Wrong::Missing => self.put_about(form, i, expected(form, i)),
+            Wrong::Spare => self.put(words(form)),
+            Wrong::Digits => self.put_about(form, i, DIGITS),
+            Wrong::Large => self.put_about(form, i, most(form)),
+            Wrong::Decimals => self.put_about(form, i, DECIMALS),
+            Wrong::Sign => self.put_about(form, i, b" has no minus sign"),
+            Wrong::Figures => self.put_about(form, i, LENGTH),
+        }
+    }
+
+    fn put_about(&mut self, form: Form, i: usize, sentence: &[u8]) {
+        self.put(name(form, i));
+        self.put(sentence);
     }
 }
 
-fn put_expected(out: &mut [u8], form: Form, i: usize) -> usize
-    ensures { result ≤ length out.new }
-{
+const DIGITS: &[u8] = b" is a number in digits alone";
+
+const DECIMALS: &[u8] = b" in metres has digits before the point and two after it";
+
+const LENGTH: &[u8] = b" is centimetres in digits alone, or metres with two decimals";
+
+fn expected(form: Form, i: usize) -> &'static [u8] {
     match parsing::taken_for(form, i) {
-        Taken::Length => put_length(out, form, i),
-        Taken::Reading => put_length(out, form, i),
-        _ => put_about(out, form, i, b" is a number in digits alone"),
+        Taken::Length | Taken::Reading => LENGTH,
+        _ => DIGITS,
     }
 }
 
-fn put_length(out: &mut [u8], form: Form, i: usize) -> usize
-    ensures { result ≤ length out.new }
-{
-    put_about(
-        out,
-        form,
-        i,
-        b" is centimetres in digits alone, or metres with two decimals",
-    )
-}
-
-fn put_most(out: &mut [u8], form: Form, i: usize) -> usize
-    ensures { result ≤ length out.new }
-{
+fn most(form: Form) -> &'static [u8] {
     match form {
-        Form::Job => put_about(out, form, i, b" is at most 18446744073709551615"),
-        _ => put_about(out, form, i, b" is at most 4294967295"),
+        Form::Job => b" is at most 18446744073709551615",
+        _ => b" is at most 4294967295",
     }
 }
 
-fn put_words(out: &mut [u8], form: Form) -> usize
-    ensures { result ≤ length out.new }
-{
+fn words(form: Form) -> &'static [u8] {
     match form {
-        Form::Job => put(out, 0, b"a job has four words, or five with its allowance"),
-        Form::Chain => put(out, 0, b"a chain has six words, or seven with its factor"),
-        Form::Draft => put(out, 0, b"a record has five words"),
-        Form::Question => put(out, 0, b"a question has three words"),
-        Form::Readings => put(out, 0, b"a question has three words"),
+        Form::Job => b"a job has four words, or five with its allowance",
+        Form::Chain => b"a chain has six words, or seven with its factor",
+        Form::Draft => b"a record has five words",
+        Form::Question | Form::Readings => b"a question has three words",
     }
-}
-
-fn put_about(out: &mut [u8], form: Form, i: usize, sentence: &[u8]) -> usize
-    ensures { result ≤ length out.new }
-{
-    let end = put_name(out, form, i);
-    put(out, end, sentence)
 }
 
 // What the word i is called.
-fn put_name(out: &mut [u8], form: Form, i: usize) -> usize
-    ensures { result ≤ length out.new }
-{
-    match form {
-        Form::Job => put_job_name(out, i),
-        Form::Chain => put_chain_name(out, i),
-        Form::Draft => put_draft_name(out, i),
-        Form::Question => put_question_name(out, i),
-        Form::Readings => put_readings_name(out, i),
-    }
-}
-
-fn put_job_name(out: &mut [u8], i: usize) -> usize
-    ensures { result ≤ length out.new }
-{
-    match i {
-        0 => put(out, 0, b"the easting"),
-        1 => put(out, 0, b"the northing"),
-        2 => put(out, 0, b"the exponent"),
-        3 => put(out, 0, b"the tolerance"),
-        _ => put(out, 0, b"the allowance"),
-    }
-}
-
-fn put_chain_name(out: &mut [u8], i: usize) -> usize
-    ensures { result ≤ length out.new }
-{
-    if i == 6 {
-        return put(out, 0, b"the factor");
-    }
-    if i % 2 == 0 {
-        return put(out, 0, b"an easting");
-    }
-    put(out, 0, b"a northing")
-}
-
-fn put_draft_name(out: &mut [u8], i: usize) -> usize
-    ensures { result ≤ length out.new }
-{
-    match i {
-        0 => put(out, 0, b"the kind"),
-        1 => put(out, 0, b"the chain"),
-        2 => put(out, 0, b"the line number"),
-        3 => put(out, 0, b"X"),
-        _ => put(out, 0, b"Y"),
-    }
-}
-
-fn put_question_name(out: &mut [u8], i: usize) -> usize
-    ensures { result ≤ length out.new }
-{
-    match i {
-        0 => put(out, 0, b"the chain"),
-        1 => put(out, 0, b"the easting"),
-        _ => put(out, 0, b"the northing"),
-    }
-}
-
-fn put_readings_name(out: &mut [u8], i: usize) -> usize
-    ensures { result ≤ length out.new }
-{
-    match i {
-        0 => put(out, 0, b"the chain"),
-        1 => put(out, 0, b"reading A"),
-        _ => put(out, 0, b"reading B"),
+fn name(form: Form, i: usize) -> &'static [u8] {
+    match (form, i) {
+        (Form::Job, 0) => b"the easting",
+        (Form::Job, 1) => b"the northing",
+        (Form::Job, 2) => b"the exponent",
+        (Form::Job, 3) => b"the tolerance",
+        (Form::Job, _) => b"the allowance",
+        (Form::Chain, 6) => b"the factor",
+        (Form::Chain, _) if i % 2 == 0 => b"an easting",
+        (Form::Chain, _) => b"a northing",
+        (Form::Draft, 0) => b"the kind",
+        (Form::Draft, 1) => b"the chain",
+        (Form::Draft, 2) => b"the line number",
+        (Form::Draft, 3) => b"X",
+        (Form::Draft, _) => b"Y",
+        (Form::Question | Form::Readings, 0) => b"the chain",
+        (Form::Question, 1) => b"the easting",
+        (Form::Question, _) => b"the northing",
+        (Form::Readings, 1) => b"reading A",
+        (Form::Readings, _) => b"reading B",
     }
 }

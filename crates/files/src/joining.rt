@@ -2,7 +2,7 @@
 ghost use Rattle.std.specs.Prelude.{◌≡◌, ℕ, ◌+◌, ◌-◌, ◌≤◌, length, take};
 ghost use Rattle.files.specs.Answers.{AreWords, IsLineOf, IsGiven, PutsWord};
 
-use crate::{EprintBytes, Words, print};
+use crate::{EprintBytes, Tool, Words};
 use std::env::FillError;
 use std::fs;
 use std::fs::File;
@@ -10,21 +10,17 @@ use std::io::Print;
 use std::os::fd::{AsRawFd, IntoRawFd};
 use std::rt::{Env, Files};
 
-// If help is asked for, it is printed, and there is no line.
-pub(crate) fn words_of(
-    rt: &(impl Env + Print + EprintBytes),
-    tool: &[u8],
-    asked: bool,
-    line: &mut [u8],
-    help: &[u8],
-) -> Words
-    ensures { IsGiven asked line.new result }
-{
-    if asked {
-        print(rt, tool, help);
-        return Words::Helped;
+impl<R: Env + Print + EprintBytes> Tool<'_, R> {
+    // If help is asked for, it is printed, and there is no line.
+    pub(crate) fn words_of(&self, asked: bool, line: &mut [u8], help: &[u8]) -> Words
+        ensures { IsGiven asked line.new result }
+    {
+        if asked {
+            self.print(help);
+            return Words::Helped;
+        }
+        joined(self.rt, line, argument_count(self.rt))
     }
-    joined(rt, line, argument_count(rt))
 }
 
 // A program may be started with standard input, output or error closed. A file that it opens would then get that descriptor, and
@@ -58,10 +54,7 @@ pub(crate) fn asks_help(env: &impl Env) -> bool {
 fn argument(env: &impl Env, i: usize, buffer: &mut [u8]) -> usize
     ensures { result ≤ length buffer.new }
 {
-    match env.arg(i, buffer) {
-        Ok(n) => n,
-        Err(_) => 0,
-    }
+    env.arg(i, buffer).unwrap_or(0)
 }
 
 // How many arguments there are, the program's own name among them.
@@ -79,13 +72,11 @@ fn joined(env: &impl Env, line: &mut [u8], count: usize) -> Words
     ensures { IsLineOf (count - 1) line.new result }
 {
     let mut end = 0;
-    let mut i = 1;
-    while i < count {
+    for i in 1..count {
         let Words::Line(e) = one_more(env, line, end, i) else {
             return Words::Unfit(i - 1);
         };
         end = e;
-        i += 1;
     }
     Words::Line(end)
 }

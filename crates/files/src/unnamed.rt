@@ -1,6 +1,7 @@
 // A file without a name.
-use crate::messages;
+use crate::messages::Message;
 use crate::replacing::{EEXIST, is_error};
+use crate::system;
 use std::fs::{File, OpenOptions};
 use std::os::unix::fs::OpenOptionsExt;
 use std::rt::Files;
@@ -12,9 +13,9 @@ const NAMES: u32 = 100;
 // Makes it beside the file `name`.
 pub(crate) fn made(files: &impl Files<File = File>, name: &[u8]) -> io::Result<File> {
     for i in 0..NAMES {
-        let mut text = [0u8; 256];
-        let n = messages::put_scratch(&mut text, name, i);
-        match made_as(files, &text[0..n]) {
+        let mut text = Message::<256>::new();
+        text.put_scratch(name, i);
+        match made_as(files, text.bytes()) {
             Err(error) if is_error(error, EEXIST) => {}
             other => return other,
         }
@@ -23,7 +24,7 @@ pub(crate) fn made(files: &impl Files<File = File>, name: &[u8]) -> io::Result<F
 }
 
 fn made_as(files: &impl Files<File = File>, name: &[u8]) -> io::Result<File> {
-    let path = crate::system::path(name)?;
+    let path = system::path(name)?;
     let file = OpenOptions::new()
         .read(true)
         .write(true)

@@ -2,19 +2,27 @@
 // reported on standard error; then the file stays as it was.
 #![tactic(auto)]
 
-use files::{EprintBytes, Words};
-use parsing::{Form, ParsedJob};
+use files::{EprintBytes, Target, Tool, Words};
+use parsing::Form;
 use records::Job;
+use refusals::Refusal;
 use std::fs::File;
 use std::io::Print;
-use std::rt::{Clock, Env, Files};
+use std::rt::{Clock, Files};
+
+const JOB: Target<'static> = Target {
+    name: b"job.dat",
+    fresh: b"job.dat.new",
+};
 
 fn main(rt: HostRuntime) {
+    let tool = Tool {
+        rt: &rt,
+        name: b"layjob",
+    };
     // Without the newline, which the arguments do not have.
     let mut line = [0u8; files::LINE_BYTES - 1];
-    let words = files::arguments(
-        &rt,
-        b"layjob",
+    let words = tool.arguments(
         &mut line,
         b"layjob E N K T [ALLOWANCE] writes job.dat, the job of a search, in place of the one in this folder.
 
@@ -37,80 +45,51 @@ The window of 2 by 2 cells at (30000, 40000), tolerance 0, 100 visits:
 ",
     );
     match words {
-        Words::Line(n) => take(&rt, &line[0..n]),
-        Words::Unfit(which) => unfit(&rt, which),
+        Words::Line(n) => take(&tool, &line[..n]),
+        Words::Unfit(which) => {
+            let sentence = b"an argument is one word, and all of them have at most 65534 bytes";
+            tool.refused_argument(Refusal::Line.number(), which, sentence);
+        }
         Words::Helped => {}
     }
 }
 
-fn unfit(rt: &(impl Env + EprintBytes), which: usize) {
-    files::refused_argument(
-        rt,
-        b"layjob",
-        12,
-        which,
-        b"an argument is one word, and all of them have at most 65534 bytes",
-    );
-}
-
-fn take(rt: &(impl Files<File = File> + Clock + Print + EprintBytes), line: &[u8]) {
+fn take(tool: &Tool<'_, impl Files<File = File> + Clock + Print + EprintBytes>, line: &[u8]) {
     match parsing::job(line) {
-        ParsedJob::Job(j) => write(rt, line, j),
-        ParsedJob::Refused(_) => other_form(rt, line),
+        Ok(job) => write(tool, line, job),
+        Err(_) => {
+            tool.refused_form(0, line, Form::Job);
+        }
     }
 }
 
-fn other_form(rt: &impl EprintBytes, line: &[u8]) {
-    files::refused_form(rt, b"layjob", 0, line, Form::Job);
-}
-
-fn write(rt: &(impl Files<File = File> + Clock + Print + EprintBytes), line: &[u8], j: Job) {
+fn write(
+    tool: &Tool<'_, impl Files<File = File> + Clock + Print + EprintBytes>,
+    line: &[u8],
+    job: Job,
+) {
     let mut bytes = [0u8; records::JOB_BYTES];
-    let refusal = writing::write_job(&mut bytes, j);
-    if refusal != 0 {
-        refuse(rt, line, refusal, parsing::job_fault(refusal, j));
+    if let Err(refusal) = writing::write_job(&mut bytes, job) {
+        let word = parsing::job_fault(refusal.number(), job);
+        refuse(tool, line, refusal, word);
         return;
     }
-    if files::replace(
-        rt,
-        b"layjob",
-        b"job.dat",
-        b"job.dat.new",
-        &bytes,
-        files::START_TRIES,
-    ) {
-        files::job_written(rt, b"layjob", j.allowance);
+    if tool.replace(JOB, &bytes, files::START_TRIES) {
+        tool.job_written(job.allowance);
     }
 }
 
 // Prints the refusal of a job whose words are of the form, with the word at fault.
-fn refuse(rt: &impl EprintBytes, line: &[u8], number: u32, word: usize) {
-    match word {
-        0 => refused(
-            rt,
-            line,
-            number,
-            0,
-            b"the cells of the window have eastings of 0 to 100000000, from E up to E + 2^K - 1",
-        ),
-        1 => refused(
-            rt,
-            line,
-            number,
-            1,
-            b"the cells of the window have northings of 0 to 1000000000, from N up to N + 2^K - 1",
-        ),
-        2 => refused(rt, line, number, 2, b"the exponent is 0 to 24"),
-        _ => refused(
-            rt,
-            line,
-            number,
-            3,
-            b"the tolerance is 0 to 100000 centimetres",
-        ),
-    }
-}
-
-fn refused(rt: &impl EprintBytes, line: &[u8], number: u32, word: usize, sentence: &[u8]) {
-    files::refused_word(rt, b"layjob", 0, number, line, word, sentence);
+fn refuse(tool: &Tool<'_, impl EprintBytes>, line: &[u8], refusal: Refusal, word: usize) {
+    let sentence: &[u8] = match word {
+        0 => {
+            b"the cells of the window have eastings of 0 to 100000000, from E up to E + 2^K - 1"
+        }
+        1 => {
+            b"the cells of the window have northings of 0 to 1000000000, from N up to N + 2^K - 1"
+        }
+        2 => b"the exponent is 0 to 24",
+        _ => b"the tolerance is 0 to 100000 centimetres",
+    };
+    tool.refused_word(0, refusal.number(), line, word, sentence);
 }

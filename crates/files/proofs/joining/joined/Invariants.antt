@@ -5,7 +5,4 @@ use Rattle.files.proofs.joining.joined.Given as goal
 
 abbrev pub invariant-loop-i : goal.invariant-loop-i
 invariant-loop-i g l =
-    (1 ≤ l.i) × ((l.i - 1 ≤ l.count - 1) × ((l.end ≤ length l.line) × AreWords (l.i - 1) (take l.end l.line)))
-
-abbrev pub decreases-loop-i : goal.decreases-loop-i
-decreases-loop-i g l = l.count - l.i
+    (l.i - 1 ≤ l.count - 1) × ((l.end ≤ length l.line) × AreWords (l.i - 1) (take l.end l.line))

@@ -1,7 +1,7 @@
--- `files::joining::words_of` gives the line of the arguments if help is not asked for.
+-- `files::Tool::words_of` gives the line of the arguments if help is not asked for.
 use Rattle.std.proofs.Common.{Bool, ◌-◌, sym, subst}
 use Rattle.files.specs.Answers.{IsGiven}
-use Rattle.files.proofs.joining.words_of.Goals as goal
+use Rattle.files.proofs.Tool.words_of.Goals as goal
 
 pub returns : goal.returns
 returns g c =

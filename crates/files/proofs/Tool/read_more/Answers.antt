@@ -1,7 +1,7 @@
--- `files::lines::read_more` keeps the text at the front, and what comes next depends on the buffer after it has been read.
+-- `files::Tool::read_more` keeps the text at the front, and what comes next depends on the buffer after it has been read.
 use Rattle.std.proofs.Common.{arith}
 use Rattle.files.proofs.LineLaws.{is_read}
-use Rattle.files.proofs.lines.read_more.Goals as goal
+use Rattle.files.proofs.Tool.read_more.Goals as goal
 
 pub returns : goal.returns
 returns g c =

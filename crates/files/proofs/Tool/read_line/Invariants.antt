@@ -1,6 +1,6 @@
 -- What is before `kept` stays. A read of no bytes ends the loop, and any other leaves fewer to read.
 use Rattle.std.proofs.Common.{◌-◌, ◌≡◌, ◌≤◌, length, take}
-use Rattle.files.proofs.lines.read_line.Given as goal
+use Rattle.files.proofs.Tool.read_line.Given as goal
 
 abbrev pub invariant-loop-end : goal.invariant-loop-end
 invariant-loop-end g l =

@@ -1,7 +1,7 @@
--- `files::lines::read_line` answers with what comes next up to where the text now ends.
+-- `files::Tool::read_line` answers with what comes next up to where the text now ends.
 use Rattle.std.proofs.Common.{◌+◌, arith, rules}
 use Rattle.files.specs.Input.{read}
-use Rattle.files.proofs.lines.read_line.Goals as goal
+use Rattle.files.proofs.Tool.read_line.Goals as goal
 
 pub returns-then-more-eq0-clause-next : goal.returns-then-more-eq0-clause-next
 returns-then-more-eq0-clause-next g c = read c.loop-end.end c.loop-end.invariant.0 (search rules) c.next_in.ensures

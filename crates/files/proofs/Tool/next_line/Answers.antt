@@ -1,6 +1,6 @@
--- `files::next_line` answers from the text that is there, or from what is read after it. A `to` beyond the buffer is its end.
+-- `files::Tool::next_line` answers from the text that is there, or from what is read after it. A `to` beyond the buffer is its end.
 use Rattle.files.proofs.LineLaws.{line_there, not_there, next_there, next_read}
-use Rattle.files.proofs.next_line.Goals as goal
+use Rattle.files.proofs.Tool.next_line.Goals as goal
 
 pub returns-in-Line : goal.returns-in-Line
 returns-in-Line g c =
