@@ -2,6 +2,7 @@
 #![tactic(auto)]
 
 ghost use Rattle.std.specs.Prelude.{◌≡◌, length};
+ghost use Rattle.refusals.specs.Numbers.{number_told};
 ghost use Rattle.metres.specs.Metres.{centimetres_of, metres_of, whole_figures, length_figures};
 ghost use Rattle.metres.specs.Marks.{mark_of};
 ghost use Rattle.writing.specs.Writing.{refusal_of, buffer_of};
@@ -121,7 +122,7 @@ pub extern "C" fn lay_write_record(
     first: i64,
     second: i64,
 ) -> u32
-    ensures answer { result ≡ refusal_of (length buffer.old) (draft_by kind chain line first second) }
+    ensures answer { result ≡ number_told (refusal_of (length buffer.old) (draft_by kind chain line first second)) }
     ensures buffer { buffer.new ≡ buffer_of (length buffer.old) (draft_by kind chain line first second) }
 {
     lay::lay_write_record(buffer, kind, chain, line, first, second)
@@ -157,7 +158,7 @@ pub extern "C" fn lay_write_job(
     t: u32,
     allowance: u64,
 ) -> u32
-    ensures answer { result ≡ job_refusal_of (length buffer.old) (job_by ce cn k t allowance) }
+    ensures answer { result ≡ number_told (job_refusal_of (length buffer.old) (job_by ce cn k t allowance)) }
     ensures buffer { buffer.new ≡ job_buffer_of (length buffer.old) (job_by ce cn k t allowance) }
 {
     lay::lay_write_job(buffer, ce, cn, k, t, allowance)
@@ -209,7 +210,7 @@ pub extern "C" fn lay_write_chain(buffer: &mut [u8], stations: &[u32], factor: u
 // Writes a factor into a buffer.
 #[unsafe(no_mangle)]
 pub extern "C" fn lay_write_factor(buffer: &mut [u8], factor: u32) -> u32
-    ensures answer { result ≡ factor_refusal_of (length buffer.old) factor }
+    ensures answer { result ≡ number_told (factor_refusal_of (length buffer.old) factor) }
     ensures buffer { buffer.new ≡ factor_buffer_of (length buffer.old) factor }
 {
     lay::lay_write_factor(buffer, factor)
