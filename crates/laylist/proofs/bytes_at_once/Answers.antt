@@ -10,8 +10,8 @@ returns-in_default c = ap bytes_at_once (sym c.in_default.is ∙ c.job_of.ensure
 
 pub returns-then-j-gt-USUAL_ALLOWANCE : goal.returns-then-j-gt-USUAL_ALLOWANCE
 returns-then-j-gt-USUAL_ALLOWANCE c =
-    under_large _ c.if-j-gt-USUAL_ALLOWANCE.true ∙ ap bytes_at_once (sym c.in-Job.is ∙ c.job_of.ensures)
+    under_large _ c.if-j-gt-USUAL_ALLOWANCE.true ∙ ap bytes_at_once (sym c.in-Ok.is ∙ c.job_of.ensures)
 
 pub returns : goal.returns
 returns c =
-    under_usual _ c.if-j-gt-USUAL_ALLOWANCE.false ∙ ap bytes_at_once (sym c.in-Job.is ∙ c.job_of.ensures)
+    under_usual _ c.if-j-gt-USUAL_ALLOWANCE.false ∙ ap bytes_at_once (sym c.in-Ok.is ∙ c.job_of.ensures)
