@@ -385,6 +385,7 @@ fn place(both: Option<(i64, i64)>) -> Result<LogEntry, Refusal>
     if !is_place(x, y) {
         return Err(Refusal::Place);
     }
+    // Both are proved to fit: `try_from` would test again what `is_place` has.
     Ok(LogEntry::Place(Place {
         easting: x as u32,
         northing: y as u32,
