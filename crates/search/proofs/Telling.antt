@@ -18,7 +18,7 @@ use Rattle.search.specs.declared.Unfound.TheVariants.{ReadingTooLarge, Unsound, 
 use Rattle.search.specs.Windows.{is_window, IsCellIn}
 use Rattle.search.specs.Questions.{Question, most_tolerance, none_too_large, matches}
 use Rattle.search.specs.Walk.{Halt, Full, Spent, Standing, start, visit}
-use Rattle.search.specs.Answers.{Outcome, refused, gone, ended_by, ended, search_of, search_figures}
+use Rattle.search.specs.Answers.{Outcome, refused, gone, outcome_by, ended, search_of, search_figures}
 use Rattle.search.specs.Cells.{chart_number, Rises, matching_in, visits_in, IsListed}
 use Rattle.search.proofs.CellLaws.{matching_all}
 use Rattle.search.proofs.Order.{matching_rises}
@@ -62,7 +62,7 @@ end_counts : (s : Standing) → Counts (ended s)
 unfolding ended search_figures
 end_counts s = go s.stop s.places
   where
-    go : (stop : Option Halt) (ps : List Place) → Counts (ended_by stop ps s.visits)
+    go : (stop : Option Halt) (ps : List Place) → Counts (outcome_by stop ps s.visits)
     go (Some Full) ps = refl
     go (Some Spent) ps = refl
     go None [] = refl

@@ -41,13 +41,13 @@ unfound_by Full visits = NoRoom visits
 unfound_by Spent visits = AllowanceUsed visits
 
 -- The outcome of a walk that was stopped, or that was not.
-abbrev pub ended_by : Option Halt → List Place → ℕ → Outcome
-ended_by (Some why) places visits = refused (unfound_by why visits)
-ended_by None places visits = gone places visits
+abbrev pub outcome_by : Option Halt → List Place → ℕ → Outcome
+outcome_by (Some why) places visits = refused (unfound_by why visits)
+outcome_by None places visits = gone places visits
 
 -- How a walk ended: stopped for lack of room, stopped by the allowance, or gone to its end.
 unfoldable pub ended : Standing → Outcome
-ended s = ended_by s.stop s.places s.visits
+ended s = outcome_by s.stop s.places s.visits
 
 -- All tests before the walk pass.
 pub record Accepted (rule : Rule) (w : Window) : Type 0 where
