@@ -1,38 +1,43 @@
 -- A search for given readings: when it passes the tests, what matching means, and that the readings of a place find the
 -- place.
 use Prim.Native.Nat.{ℕ, ◌≤◌}
-use mathlib.Core.Path.{◌≡◌, refl, sym, subst}
+use mathlib.Core.Path.{◌≡◌, refl, sym, subst, subst⁻¹}
 use mathlib.Core.Logic.{◌↔◌}
 use mathlib.Core.Bool.{Bool, true, false, cond}
 use mathlib.Core.List.{List, [], ◌∷◌}
-use borrow.Author.Tests.{leb-true, le-leb, eqb-false}
-use lib.Dec.{leb, eqb}
+use borrow.Author.Tests.{leb-true, le-leb}
+use lib.Dec.{leb}
 use lib.IntN.{ℤ, nat_abs}
+use Rattle.std.specs.Prelude.{Result, Ok, Err}
+use Rattle.refusals.specs.declared.Refusal.TheVariants as refusal
 use Rattle.chart.specs.declared.Place.{Place}
 use Rattle.chart.specs.declared.Chain.{Chain}
 use Rattle.chart.specs.Places.{in_range}
 use Rattle.chart.specs.Chains.{slaves_of, is_sound}
-use Rattle.chart.specs.Readings.{reading_of, readings_of, differ, Wanted, wanted_for, within, Expects, NoneFor, expected_at}
+use Rattle.chart.specs.Readings.{reading_of, readings_of, differ, Wanted, wanted_for, within, expected_at}
 use Rattle.chart.proofs.PlaceLaws.{both, and_both}
 use Rattle.search.specs.declared.Window.{Window}
+use Rattle.search.specs.declared.Found.{Found}
+use Rattle.search.specs.declared.Unfound.{Unfound}
 use Rattle.search.specs.Windows.{is_window, IsCellIn}
 use Rattle.search.specs.Questions.{Question, rule_of, question_of, none_too_large}
 use Rattle.search.specs.Answers.{Accepted, search_of, search_figures}
 use Rattle.search.specs.Cells.{IsListed, AmpleRoom, AmpleAllowance}
 use Rattle.search.proofs.Outcomes.{ending}
 use Rattle.search.proofs.Theorems.{own_readings_found}
-use Rattle.listing.specs.Answers.{searched, places_of}
+use Rattle.listing.specs.Answers.{fix_with, searched, places_of}
 use Rattle.demands.specs.Finding.{EachSmall, EachWithin}
-use Rattle.demands.proofs.NumberLaws.{refused_lists}
+use Rattle.demands.specs.Numbers.{Refuses}
+use Rattle.demands.proofs.NumberLaws.{unfound_number, refused_lists}
 
 -- If readings are expected at a place, they are the place's own, and the chain is sound.
-pub own_readings : (c : Chain) (p : Place) (readings : List ℤ) → expected_at c p ≡ Expects readings →
+pub own_readings : (c : Chain) (p : Place) (readings : List ℤ) → expected_at c p ≡ Ok readings →
     (readings_of c p ≡ readings) × (is_sound c ≡ true)
 unfolding expected_at
 own_readings c p readings e = go (in_range p) (is_sound c) refl e
   where
     go : (s t : Bool) → is_sound c ≡ t →
-        cond s (cond t (Expects (readings_of c p)) (NoneFor 5)) (NoneFor 4) ≡ Expects readings →
+        cond s (cond t (Ok (readings_of c p)) (Err refusal.Chain)) (Err refusal.Place) ≡ Ok readings →
         (readings_of c p ≡ readings) × (is_sound c ≡ true)
     go true true sound e = (cc, sound)
     go true false sound e = (cc, cc)
@@ -41,7 +46,7 @@ own_readings c p readings e = go (in_range p) (is_sound c) refl e
 -- A search for these readings finds the place.
 pub found_by : (c : Chain) (p : Place) (readings : List ℤ) (w : Window) (tolerance allowance entries : ℕ) →
     let q = question_of c readings tolerance allowance entries in
-    expected_at c p ≡ Expects readings → IsCellIn w p → Accepted q.rule w → AmpleRoom q w → AmpleAllowance q w → IsListed p (search_of q w).places
+    expected_at c p ≡ Ok readings → IsCellIn w p → Accepted q.rule w → AmpleRoom q w → AmpleAllowance q w → IsListed p (search_of q w).places
 found_by c p readings w tolerance allowance entries e inside =
     let asked : List ℤ → Question = λ rs. question_of c rs tolerance allowance entries in
     subst (λ (rs : List ℤ). Accepted (asked rs).rule w → AmpleRoom (asked rs) w → AmpleAllowance (asked rs) w → IsListed p (search_of (asked rs) w).places)
@@ -76,9 +81,10 @@ each_differs t c (w ∷ ws) o =
 
 -- The answer to a record lists the places that its search lists.
 pub fix_places : (rounded : Bool) (q : Question) (w : Window) → places_of (searched rounded (search_of q w)) ≡ (search_of q w).places
-unfolding searched places_of
-fix_places rounded q w = go (eqb (search_figures (search_of q w).answer).refusal 0) refl
+unfolding fix_with places_of
+fix_places rounded q w = go (search_of q w).answer refl
   where
-    go : (t : Bool) → eqb (search_figures (search_of q w).answer).refusal 0 ≡ t → places_of (searched rounded (search_of q w)) ≡ (search_of q w).places
-    go true e = rw e
-    go false e = rw e (sym (refused_lists q w (search_of q w) (ending q w) (eqb-false _ 0 e)))
+    go : (a : Result Found Unfound) → (search_of q w).answer ≡ a → places_of (fix_with rounded (search_of q w).places a) ≡ (search_of q w).places
+    go (Ok found) e = refl
+    go (Err why) e =
+        sym (refused_lists q w (search_of q w) (ending q w) (subst⁻¹ (λ (a : Result Found Unfound). Refuses (search_figures a).refusal) e (unfound_number why)))

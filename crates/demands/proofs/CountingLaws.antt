@@ -10,16 +10,20 @@ use native.Mathlib.Nat.{le_trans}
 use borrow.Author.Tests.{eqb-false, leb-true, leb-false, le-leb}
 use lib.Dec.{leb}
 use lib.ListN.{length}
+use Rattle.std.specs.Prelude.{Result, Ok, Err}
+use Rattle.refusals.specs.Numbers.{refusal_number}
+use Rattle.refusals.specs.declared.Refusal.TheVariants as refusal
 use Rattle.chart.specs.declared.Place.{Place}
 use Rattle.search.specs.declared.Window.{Window}
-use Rattle.search.specs.declared.Answer.{Answer}
-use Rattle.search.specs.declared.Answer.TheVariants.{Places, ReadingTooLarge, Unsound, BadWindow, BadTolerance, NoMatch, NoRoom, AllowanceUsed}
+use Rattle.search.specs.declared.Unfound.{Unfound}
+use Rattle.search.specs.declared.Unfound.TheVariants.{ReadingTooLarge, Unsound, BadWindow, BadTolerance, NoMatch, NoRoom, AllowanceUsed}
 use Rattle.search.specs.declared.HowMany.{HowMany}
-use Rattle.search.specs.declared.HowMany.TheVariants.{None, One, Several, Refused}
+use Rattle.search.specs.declared.HowMany.TheVariants.{None, One, Several}
+use Rattle.search.specs.declared.Stopped.{Stopped}
 use Rattle.search.specs.Questions.{Rule, Question, matches}
-use Rattle.search.specs.Answers.{Outcome, gone, Accepted, search_of, search_figures}
+use Rattle.search.specs.Answers.{Answer, Outcome, gone, Accepted, refusal_for, search_of, search_figures}
 use Rattle.search.specs.Cells.{chart_number, Rises, matching_in, visits_in, IsMatch, IsListed}
-use Rattle.search.specs.Counts.{for_one, how_many_of, count_of, deciding_visits}
+use Rattle.search.specs.Counts.{for_one, how_many_of, stopped_with, count_of, deciding_visits}
 use Rattle.search.proofs.CellLaws.{matching_all, matching_only}
 use Rattle.search.proofs.Order.{matching_rises}
 use Rattle.search.proofs.Outcomes.{Ending}
@@ -32,18 +36,18 @@ use Rattle.demands.specs.Numbers.{NoneOr, many_refusal, many_visits}
 use Rattle.demands.specs.Counting.{AreFirstTwo, Means, IsAnswered, Agrees}
 use Rattle.demands.proofs.NumberLaws.{wider}
 use Rattle.demands.proofs.StoppingLaws.{above}
+use Rattle.demands.proofs.TestLaws.{neither}
 
 -- A search that fails before its walk has one of these numbers.
-pub early_number : (a : Answer) → 3 ≤ (search_figures a).refusal → (search_figures a).refusal < 8 → is_among (search_figures a).refusal (3 ∷ 5 ∷ 6 ∷ 7 ∷ []) ≡ true
+pub early_number : (a : Unfound) → (search_figures (Err a)).refusal < 8 → is_among (refusal_number (refusal_for a)) (3 ∷ 5 ∷ 6 ∷ 7 ∷ []) ≡ true
 unfolding search_figures is_among
-early_number (Places count visits) l h = absurd (omega (arith, l))
-early_number ReadingTooLarge l h = refl
-early_number Unsound l h = refl
-early_number BadWindow l h = refl
-early_number BadTolerance l h = refl
-early_number (NoMatch visits) l h = absurd (omega (arith, h))
-early_number (NoRoom visits) l h = absurd (omega (arith, h))
-early_number (AllowanceUsed visits) l h = absurd (omega (arith, h))
+early_number ReadingTooLarge h = refl
+early_number Unsound h = refl
+early_number BadWindow h = refl
+early_number BadTolerance h = refl
+early_number (NoMatch visits) h = absurd (omega (arith, h))
+early_number (NoRoom visits) h = absurd (omega (arith, h))
+early_number (AllowanceUsed visits) h = absurd (omega (arith, h))
 
 module _ (rule : Rule) (w : Window) where
   -- A cell that matches is one of the matching cells, and the other way round.
@@ -77,10 +81,10 @@ module _ (rule : Rule) (w : Window) where
       ⊎_elim (λ same. same) (λ m. absurd (Memᴰ.not-nil m)) (Memᴰ.cases_cons (listed _ e o m))
 
   -- What each answer means.
-  pub means : (n : ℕ) (m : HowMany) → Counting rule w n m → Means rule w n m
-  unfolding Means is_among
+  pub means : (n : ℕ) (m : Result HowMany Stopped) → Counting rule w n m → Means rule w n m
+  unfolding Means is_among search_figures
   means n _ (early a f) = (
-    wider (search_figures a).refusal (3 ∷ 5 ∷ 6 ∷ 7 ∷ []) (3 ∷ 5 ∷ 6 ∷ 7 ∷ 10 ∷ []) refl (early_number a f.low f.high),
+    wider (refusal_number (refusal_for a)) (3 ∷ 5 ∷ 6 ∷ 7 ∷ []) (3 ∷ 5 ∷ 6 ∷ 7 ∷ 10 ∷ []) refl (early_number a f.high),
     (λ x. refl),
     (λ ten. absurd (omega (arith, ten, f.high))),
   )
@@ -90,7 +94,7 @@ module _ (rule : Rule) (w : Window) where
   means n _ (out a less) = (refl, (λ f. absurd (f refl)), (λ ten. (a, less, refl)))
 
   -- No answer has more visits than are allowed.
-  pub visits_few : (n : ℕ) (m : HowMany) → Counting rule w n m → many_visits m ≤ n
+  pub visits_few : (n : ℕ) (m : Result HowMany Stopped) → Counting rule w n m → many_visits m ≤ n
   unfolding many_visits
   visits_few n _ (early a f) = omega arith
   visits_few n _ (none a e h) = h
@@ -99,22 +103,16 @@ module _ (rule : Rule) (w : Window) where
   visits_few n _ (out a less) = omega arith
 
   -- Which refusals there are.
-  pub numbers : (n : ℕ) (m : HowMany) → Counting rule w n m → NoneOr (3 ∷ 5 ∷ 6 ∷ 7 ∷ 10 ∷ []) (many_refusal m)
+  pub numbers : (n : ℕ) (m : Result HowMany Stopped) → Counting rule w n m → NoneOr (3 ∷ 5 ∷ 6 ∷ 7 ∷ 10 ∷ []) (many_refusal m)
   unfolding many_refusal is_among
   numbers n _ (early a f) =
-      wider (search_figures a).refusal (3 ∷ 5 ∷ 6 ∷ 7 ∷ []) (0 ∷ 3 ∷ 5 ∷ 6 ∷ 7 ∷ 10 ∷ []) refl (early_number a f.low f.high)
+      wider (refusal_number (refusal_for a)) (3 ∷ 5 ∷ 6 ∷ 7 ∷ []) (0 ∷ 3 ∷ 5 ∷ 6 ∷ 7 ∷ 10 ∷ []) refl (early_number a f.high)
   numbers n _ (none a e h) = refl
   numbers n _ (one p a e h) = refl
   numbers n _ (several p o ps a e h) = refl
   numbers n _ (out a less) = refl
 
   -- If the tests pass, it is 10 exactly if the allowance is smaller than the visits that decide.
-  not_ten : (ms : List Place) (v : ℕ) → many_refusal (count_of ms v) ≡ 0
-  unfolding many_refusal
-  not_ten [] v = refl
-  not_ten (p ∷ []) v = refl
-  not_ten (p ∷ o ∷ ps) v = refl
-
   pub ten_exactly : (n : ℕ) → Accepted rule w → (many_refusal (how_many_of rule w n) ≡ 10) ↔ (n < deciding_visits rule w (matching_in rule w))
   unfolding many_refusal
   ten_exactly n a = go (leb d n) refl
@@ -122,38 +120,34 @@ module _ (rule : Rule) (w : Window) where
       d : ℕ
       d = deciding_visits rule w (matching_in rule w)
 
-      by : Bool → HowMany
-      by b = cond b (count_of (matching_in rule w) d) (Refused 10 n)
+      by : Bool → Result HowMany Stopped
+      by b = cond b (Ok (count_of (matching_in rule w) d)) (stopped_with refusal.Allowance n)
 
       go : (b : Bool) → leb d n ≡ b → (many_refusal (how_many_of rule w n) ≡ 10) ↔ (n < d)
       go true e =
-          let zero = ap many_refusal (decided rule w n a ∙ ap by e) ∙ not_ten (matching_in rule w) d in
+          let zero = ap many_refusal (decided rule w n a ∙ ap by e) in
           ((λ ten. absurd (omega (arith, ten, zero))), (λ less. absurd (omega (arith, less, leb-true d n e))))
       go false e = ((λ x. leb-false d n e), (λ less. ap many_refusal (decided rule w n a ∙ ap by e)))
 
 -- The kind and the place of an answer, by which two answers differ.
-word : HowMany → ℕ
-word (None visits) = 1
-word (One p visits) = 2
-word (Several visits) = 3
-word (Refused number visits) = 0
+word : Result HowMany Stopped → ℕ
+word (Ok (None visits)) = 1
+word (Ok (One p visits)) = 2
+word (Ok (Several visits)) = 3
+word (Err s) = 0
 
-place_or : Place → HowMany → Place
-place_or other (None visits) = other
-place_or other (One p visits) = p
-place_or other (Several visits) = other
-place_or other (Refused number visits) = other
-
--- Two statements that both fail are equivalent.
-neither : {P Q : Type 0} → (P → ⊥) → (Q → ⊥) → P ↔ Q
-neither f g = ((λ p. absurd (f p)), (λ q. absurd (g q)))
+place_or : Place → Result HowMany Stopped → Place
+place_or other (Ok (None visits)) = other
+place_or other (Ok (One p visits)) = p
+place_or other (Ok (Several visits)) = other
+place_or other (Err s) = other
 
 -- For the same matching cells the two answers agree, if none and one take the same visits.
-same_cells : (ms : List Place) (d v : ℕ) → (length ms ≤ 1 → d ≡ v) → Agrees (count_of ms d) (gone ms v)
+same_cells : (ms : List Place) (d v : ℕ) → (length ms ≤ 1 → d ≡ v) → Agrees (Ok (count_of ms d)) (gone ms v)
 unfolding word place_or many_visits search_figures
 same_cells [] d v same =
     let s = same (omega arith) in (
-      (λ u. ((λ e. ap NoMatch (sym s ∙ ap many_visits e)), (λ e. ap None (s ∙ ap (λ (a : Answer). (search_figures a).visits) e)))),
+      (λ u. ((λ e. ap (λ (n : ℕ). Err (NoMatch n)) (sym s ∙ ap many_visits e)), (λ e. ap (λ (n : ℕ). Ok (None n)) (s ∙ ap (λ (a : Answer). (search_figures a).visits) e)))),
       (λ p u. neither (λ e. eqb-false 1 2 refl (ap word e)) (λ e. eqb-false 0 1 refl (ap (λ (o : Outcome). length o.places) e))),
       neither (λ e. eqb-false 1 3 refl (ap word e.1)) (λ h. omega (arith, h)),
     )
@@ -161,9 +155,9 @@ same_cells (q ∷ []) d v same =
     let s = same (omega arith) in (
       (λ u. neither (λ e. eqb-false 2 1 refl (ap word e)) (λ e. eqb-false 0 8 refl (ap (λ (a : Answer). (search_figures a).refusal) e))),
       (λ p u. (
-        (λ e. ap₂ (λ (x : Place) (y : ℕ). record { answer = Places 1 y; places = x ∷ [] }) (ap (place_or q) e) (sym s ∙ ap many_visits e)),
+        (λ e. ap₂ (λ (x : Place) (y : ℕ). record { answer = Ok (record { count = 1; visits = y }); places = x ∷ [] }) (ap (place_or q) e) (sym s ∙ ap many_visits e)),
         (λ e.
-            ap₂ One (head-eq_of_cons-eq (ap (λ (o : Outcome). o.places) e)) (s ∙ ap (λ (o : Outcome). (search_figures o.answer).visits) e)),
+            ap₂ (λ (x : Place) (y : ℕ). Ok (One x y)) (head-eq_of_cons-eq (ap (λ (o : Outcome). o.places) e)) (s ∙ ap (λ (o : Outcome). (search_figures o.answer).visits) e)),
       )),
       neither (λ e. eqb-false 2 3 refl (ap word e.1)) (λ h. omega (arith, h)),
     )
@@ -174,19 +168,18 @@ same_cells (q ∷ o ∷ ps) d v same = (
 )
 
 -- A search that fails before its walk does not answer.
-not_answered : (a : Answer) → 3 ≤ (search_figures a).refusal → (search_figures a).refusal < 8 → NoneOr (8 ∷ []) (search_figures a).refusal → ⊥
+not_answered : (a : Unfound) → (search_figures (Err a)).refusal < 8 → NoneOr (8 ∷ []) (search_figures (Err a)).refusal → ⊥
 unfolding search_figures is_among
-not_answered (Places count visits) l h e = omega (arith, l)
-not_answered ReadingTooLarge l h e = false≢true e
-not_answered Unsound l h e = false≢true e
-not_answered BadWindow l h e = false≢true e
-not_answered BadTolerance l h e = false≢true e
-not_answered (NoMatch visits) l h e = omega (arith, h)
-not_answered (NoRoom visits) l h e = omega (arith, h)
-not_answered (AllowanceUsed visits) l h e = omega (arith, h)
+not_answered ReadingTooLarge h e = false≢true e
+not_answered Unsound h e = false≢true e
+not_answered BadWindow h e = false≢true e
+not_answered BadTolerance h e = false≢true e
+not_answered (NoMatch visits) h e = omega (arith, h)
+not_answered (NoRoom visits) h e = omega (arith, h)
+not_answered (AllowanceUsed visits) h e = omega (arith, h)
 
 module _ (q : Question) (w : Window) where
-  abbrev many : HowMany
+  abbrev many : Result HowMany Stopped
   many = how_many_of q.rule w q.limits.allowance
 
   -- With at most one matching cell all visits are needed.
@@ -197,12 +190,12 @@ module _ (q : Question) (w : Window) where
 
   by_end : (o : Outcome) → Ending q w o → NoneOr (8 ∷ []) (search_figures o.answer).refusal → Agrees many o
   unfolding search_figures is_among
-  by_end _ (end.early a f) e = absurd (not_answered a f.low f.high e)
+  by_end _ (end.early a f) e = absurd (not_answered a f.high e)
   by_end _ (end.done a most) e =
       let ms = matching_in q.rule w in
       let d = deciding_visits q.rule w ms in
       let few = le-leb d q.limits.allowance (le_trans (deciding_few q.rule w (factor_allowed _ a.chain)) most) in
-      subst⁻¹ (λ (m : HowMany). Agrees m (gone ms (visits_in q.rule w)))
+      subst⁻¹ (λ (m : Result HowMany Stopped). Agrees m (gone ms (visits_in q.rule w)))
       (decided q.rule w q.limits.allowance a ∙ rw few)
       (same_cells ms d (visits_in q.rule w) (all_needed ms))
   by_end _ (end.full v most) e = absurd (false≢true e)

@@ -11,6 +11,9 @@ use native.Mathlib.Omega.{arith}
 use lib.IntN.{ℤ, pos}
 use lib.Ieee.{Float}
 use lib.ListN.{length, drop, replicate}
+use Rattle.std.specs.Prelude.{Option, None, Result, Ok, Err}
+use Rattle.refusals.specs.declared.Refusal.{Refusal}
+use Rattle.refusals.specs.Numbers.{refusal_number, number_told}
 use Rattle.metres.specs.declared.Mark.TheVariants.{Equal}
 use Rattle.metres.specs.Metres.{centimetres_of, metres_of, whole_figures, length_figures, plus_zero}
 use Rattle.metres.specs.Marks.{mark_of}
@@ -22,21 +25,13 @@ use Rattle.search.specs.Questions.{Question, question_of}
 use Rattle.search.specs.Answers.{search_of, entries_of, list_of, figures_in}
 use Rattle.search.proofs.Outcomes.{ending}
 use Rattle.search.proofs.Theorems.{listed_are_counted, visits_in_allowance}
-use Rattle.records.specs.declared.RawAnswer.TheVariants as raw
-use Rattle.records.specs.declared.LogRecord.TheVariants as log
-use Rattle.records.specs.declared.LogEntry.TheVariants as entry
-use Rattle.records.specs.declared.ChainCount.{ChainCount}
-use Rattle.records.specs.declared.ChainCount.TheVariants as count
-use Rattle.records.specs.declared.NamedChain.TheVariants as named
 use Rattle.records.specs.declared.Job.{Job}
-use Rattle.records.specs.declared.JobAnswer.{JobAnswer}
-use Rattle.records.specs.declared.JobAnswer.TheVariants as answer
 use Rattle.records.specs.Bytes.{byte_at}
 use Rattle.records.specs.LogRecords.{raw_record_of, log_record_of, log_entry_of}
 use Rattle.records.specs.Marks.{is_rounded_in, marked_entry_of}
 use Rattle.records.specs.ChainTables.{chain_count_of, raw_chain_of, chain_of, scaled_count_of}
 use Rattle.records.specs.Jobs.{formed_job_of, job_of}
-use Rattle.records.specs.Refusals.{raw_refusal, log_refusal, entry_refusal, count_refusal, chain_refusal, job_refusal, is_among}
+use Rattle.records.specs.Refusals.{is_among}
 use Rattle.records.proofs.Theorems.{raw_refusals, log_refusals, entry_refusals, count_refusals, chain_refusals, job_refusals, scaled_refusals}
 use Rattle.writing.specs.declared.Draft.{Draft}
 use Rattle.writing.specs.Writing.{refusal_of, buffer_of}
@@ -45,17 +40,15 @@ use Rattle.writing.specs.JobWriting.{job_refusal_of, job_buffer_of}
 use Rattle.writing.proofs.Theorems.{write_refusals, refused_write_zeros, chain_write_refusals, refused_chain_zeros, job_write_refusals, refused_job_zeros, factor_write_refusals, refused_factor_zeros}
 use Rattle.writing.specs.FactorWriting.{factor_refusal_of, factor_buffer_of}
 use Rattle.listing.specs.declared.Carried.{Carried}
-use Rattle.listing.specs.declared.Carried.TheVariants as carried
 use Rattle.listing.specs.Answers.{Refused, answer_of}
 use Rattle.text.specs.Texts.{spaced, bytes_in}
 use Rattle.listing.specs.Listings.{Part, listing_of, has_listing_room, listed_in, buffer_with}
 use Rattle.listing.proofs.Theorems.{job_first, then_chain, then_scale}
 use Rattle.chart.specs.Places.{place_of}
 use Rattle.lay.specs.Figures.{job_by, chain_by, chain_told, chain_written, stations_told, expected_told, search_told, asked_in, record_figures, count_figures, job_answered, held_figures, listed_figures, factor_told}
-use Rattle.demands.specs.Numbers.{record_refusal, listed_refusal, NoneOr, Refuses, Leaves, SearchIsTold, ManyIsTold}
-use Rattle.demands.proofs.NumberLaws.{some_number, whole_number, whole_marked, length_number, readings_number, listed_number, search_number, refused_lists, refused_early, answered_lists, room_kept, list_length, job_good, answer_number}
+use Rattle.demands.specs.Numbers.{record_refusal, NoneOr, Refuses, Leaves, SearchIsTold, ManyIsTold}
+use Rattle.demands.proofs.NumberLaws.{numbered, not_done, some_number, whole_number, whole_marked, length_number, readings_number, listed_number, search_number, refused_lists, refused_early, answered_lists, room_kept, list_length, job_good, answer_number}
 use Rattle.demands.proofs.LibraryLaws.{record_told, marks_told, count_told_lem, chain_told_lem, stations_counted, bytes_counted, stations_told_lem, expected_told_lem, job_told_lem, listing_told, search_told_lem, many_told_lem, no_factor}
-use Rattle.demands.proofs.NeverLaws.{raw_never, log_never, entry_never, count_never, chain_never, job_never, answer_never, scaled_never}
 use Rattle.fields.specs.Fields.{field_at}
 use borrow.Author.Tests.{ne_eqb}
 
@@ -80,17 +73,17 @@ readings_told c p = readings_number c p
 -- Any bytes, read as a log record, give its fields, or refusal 1; its kind and its numbers in metres, or refusal 1 or 2; its
 -- numbers in centimetres, or refusal 1 to 4.
 pub log_record_read : (s : List ℕ) →
-    NoneOr (1 ∷ []) (raw_refusal (raw_record_of s))
-    × NoneOr (1 ∷ 2 ∷ []) (log_refusal (log_record_of s))
-    × NoneOr (1 ∷ 2 ∷ 3 ∷ 4 ∷ []) (entry_refusal (log_entry_of s))
+    NoneOr (1 ∷ []) (number_told (raw_record_of s))
+    × NoneOr (1 ∷ 2 ∷ []) (number_told (log_record_of s))
+    × NoneOr (1 ∷ 2 ∷ 3 ∷ 4 ∷ []) (number_told (log_entry_of s))
 log_record_read s = (raw_refusals s, log_refusals s, entry_refusals s)
 
 -- Any bytes, read as a station table, give the count of its chains, or refusal 1; so do any two, read as a table and its side file. Any
 -- chain number gives a sound chain of the two, or refusal 1 or 5.
 pub table_read : (s scale : List ℕ) (number : ℕ) →
-    NoneOr (1 ∷ []) (count_refusal (chain_count_of s))
-    × NoneOr (1 ∷ []) (count_refusal (scaled_count_of s scale))
-    × NoneOr (1 ∷ 5 ∷ []) (chain_refusal (chain_of s scale number))
+    NoneOr (1 ∷ []) (number_told (chain_count_of s))
+    × NoneOr (1 ∷ []) (number_told (scaled_count_of s scale))
+    × NoneOr (1 ∷ 5 ∷ []) (number_told (chain_of s scale number))
 table_read s scale number = (count_refusals s, scaled_refusals s scale, chain_refusals s scale number)
 
 -- A factor matters only where its chain is named: if two side files fit the table and have the same factor for a chain, this chain is
@@ -101,31 +94,31 @@ unfolding chain_of
 factor_alone s scale other number long same = rw (long, same)
 
 -- Any bytes, read as a job, are accepted, or refused with 1, 2, 6 or 7.
-pub job_read : (s : List ℕ) → NoneOr (1 ∷ 2 ∷ 6 ∷ 7 ∷ []) (job_refusal (job_of s))
+pub job_read : (s : List ℕ) → NoneOr (1 ∷ 2 ∷ 6 ∷ 7 ∷ []) (number_told (job_of s))
 job_read s = job_refusals s
 
 -- A draft of a log record is written, or refused with 1 to 5. A refusal leaves the whole buffer zero, whatever its length.
 pub record_written : (bytes : ℕ) (d : Draft) →
-    NoneOr (1 ∷ 2 ∷ 3 ∷ 4 ∷ 5 ∷ []) (refusal_of bytes d)
-    × (Refuses (refusal_of bytes d) → buffer_of bytes d ≡ replicate bytes 0)
-record_written bytes d = (write_refusals bytes d, refused_write_zeros bytes d)
+    NoneOr (1 ∷ 2 ∷ 3 ∷ 4 ∷ 5 ∷ []) (number_told (refusal_of bytes d))
+    × (Refuses (number_told (refusal_of bytes d)) → buffer_of bytes d ≡ replicate bytes 0)
+record_written bytes d = (write_refusals bytes d, λ some. refused_write_zeros bytes d (not_done (refusal_of bytes d) tt some))
 
 -- A chain and a factor are each written, or refused with 1 or 5; a job is written, or refused with 1, 6 or 7. A refusal leaves
 -- the whole buffer zero, whatever its length.
 pub chain_written_lem : (bytes : ℕ) (c : Chain) →
-    NoneOr (1 ∷ 5 ∷ []) (chain_refusal_of bytes c)
-    × (Refuses (chain_refusal_of bytes c) → chain_buffer_of bytes c ≡ replicate bytes 0)
-chain_written_lem bytes c = (chain_write_refusals bytes c, refused_chain_zeros bytes c)
+    NoneOr (1 ∷ 5 ∷ []) (number_told (chain_refusal_of bytes c))
+    × (Refuses (number_told (chain_refusal_of bytes c)) → chain_buffer_of bytes c ≡ replicate bytes 0)
+chain_written_lem bytes c = (chain_write_refusals bytes c, λ some. refused_chain_zeros bytes c (not_done (chain_refusal_of bytes c) tt some))
 
 pub factor_written : (bytes f : ℕ) →
-    NoneOr (1 ∷ 5 ∷ []) (factor_refusal_of bytes f)
-    × (Refuses (factor_refusal_of bytes f) → factor_buffer_of bytes f ≡ replicate bytes 0)
-factor_written bytes f = (factor_write_refusals bytes f, refused_factor_zeros bytes f)
+    NoneOr (1 ∷ 5 ∷ []) (number_told (factor_refusal_of bytes f))
+    × (Refuses (number_told (factor_refusal_of bytes f)) → factor_buffer_of bytes f ≡ replicate bytes 0)
+factor_written bytes f = (factor_write_refusals bytes f, λ some. refused_factor_zeros bytes f (not_done (factor_refusal_of bytes f) tt some))
 
 pub job_written : (bytes : ℕ) (j : Job) →
-    NoneOr (1 ∷ 6 ∷ 7 ∷ []) (job_refusal_of bytes j)
-    × (Refuses (job_refusal_of bytes j) → job_buffer_of bytes j ≡ replicate bytes 0)
-job_written bytes j = (job_write_refusals bytes j, refused_job_zeros bytes j)
+    NoneOr (1 ∷ 6 ∷ 7 ∷ []) (number_told (job_refusal_of bytes j))
+    × (Refuses (number_told (job_refusal_of bytes j)) → job_buffer_of bytes j ≡ replicate bytes 0)
+job_written bytes j = (job_write_refusals bytes j, λ some. refused_job_zeros bytes j (not_done (job_refusal_of bytes j) tt some))
 
 -- Any search, whatever the question, answers with places, or with refusal 3, 5, 6, 7, 8, 9 or 10. After a refusal the list is
 -- all zeros, whatever its length, even an odd one, and the count is 0. Refusals 3, 5, 6 and 7 report no visits, 10 reports
@@ -164,66 +157,54 @@ places_listed c readings w tolerance allowance entries e =
 
 -- Any bytes as a record of a log, with an accepted job, any table and side file, and any place or none carried from the record before, give
 -- places, or refusal 1, 2, 3, 4, 5, 8, 9, 10 or 11. Refusals 6 and 7 never come, since the job was accepted.
-pub record_answered : (job table scale s : List ℕ) (j : Job) (before : Carried) → job_of job ≡ answer.Job j →
+pub record_answered : (job table scale s : List ℕ) (j : Job) (before : Option Carried) → job_of job ≡ Ok j →
     NoneOr (1 ∷ 2 ∷ 3 ∷ 4 ∷ 5 ∷ 8 ∷ 9 ∷ 10 ∷ 11 ∷ []) (record_refusal (answer_of j table scale before s))
 unfolding answer_of
 record_answered job table scale s j before accepted =
     let good = job_good job j accepted in
     answer_number j good.0 good.1 (chain_of table scale (byte_at s 1)) before (is_rounded_in s) (log_entry_of s) (chain_refusals table scale (byte_at s 1)) (entry_refusals s)
 
--- No refusal has the number 0, since 0 means that nothing is refused. So every refusal has one of the numbers above.
-pub no_refusal_is_0 : (s table scale : List ℕ) (number visits : ℕ) (j : Job) (before : Carried) →
-    (raw_record_of s ≡ raw.Refused 0 → ⊥)
-    × (log_record_of s ≡ log.Refused 0 → ⊥)
-    × (log_entry_of s ≡ entry.Refused 0 → ⊥)
-    × (chain_count_of s ≡ count.Refused 0 → ⊥)
-    × (scaled_count_of s scale ≡ count.Refused 0 → ⊥)
-    × (chain_of s scale number ≡ named.Refused 0 → ⊥)
-    × (job_of s ≡ answer.Refused 0 → ⊥)
-    × (answer_of j table scale before s ≡ Refused 0 visits → ⊥)
-unfolding answer_of
-no_refusal_is_0 s table scale number visits j before = (
-  raw_never s,
-  log_never s,
-  entry_never s,
-  count_never s,
-  scaled_never s scale,
-  chain_never s scale number,
-  job_never s,
-  answer_never visits j (chain_of table scale (byte_at s 1)) before (is_rounded_in s) (log_entry_of s) (chain_never table scale (byte_at s 1)) (entry_never s),
-)
+-- No refusal has the number 0, since 0 means that nothing is refused. So every refusal r has one of the numbers above.
+pub no_refusal_is_0 : (s table scale : List ℕ) (number visits : ℕ) (j : Job) (before : Option Carried) (r : Refusal) →
+    (raw_record_of s ≡ Err r → Refuses (refusal_number r))
+    × (log_record_of s ≡ Err r → Refuses (refusal_number r))
+    × (log_entry_of s ≡ Err r → Refuses (refusal_number r))
+    × (chain_count_of s ≡ Err r → Refuses (refusal_number r))
+    × (scaled_count_of s scale ≡ Err r → Refuses (refusal_number r))
+    × (chain_of s scale number ≡ Err r → Refuses (refusal_number r))
+    × (job_of s ≡ Err r → Refuses (refusal_number r))
+    × (answer_of j table scale before s ≡ Refused r visits → Refuses (refusal_number r))
+no_refusal_is_0 s table scale number visits j before r =
+    let some = numbered r in
+    ((λ e. some), (λ e. some), (λ e. some), (λ e. some), (λ e. some), (λ e. some), (λ e. some), (λ e. some))
 
 -- For a refused job the program prints only `JOB REFUSED` and the number, which is 1, 2, 6 or 7. For an accepted job and a
 -- refused table it prints only `CHAIN REFUSED` and the number, which is 1. If both are accepted and the side file does not fit the
 -- table, it prints only `SCALE REFUSED 1`.
-pub job_refused : (job table scale log : List ℕ) (number : ℕ) → job_of job ≡ answer.Refused number →
-    (is_among number (1 ∷ 2 ∷ 6 ∷ 7 ∷ []) ≡ true)
-    × (listing_of job table scale log ≡ bytes_in "JOB REFUSED" ++ (spaced number ++ bytes_in "\n"))
-unfolding job_refusal
-job_refused job table scale log number e = (
-  some_number number (1 ∷ 2 ∷ 6 ∷ 7 ∷ []) (subst (λ (a : JobAnswer). NoneOr (1 ∷ 2 ∷ 6 ∷ 7 ∷ []) (job_refusal a)) e (job_refusals job))
-      (λ z. job_never job (e ∙ ap answer.Refused z)),
-  job_first job table scale log number e,
+pub job_refused : (job table scale log : List ℕ) (r : Refusal) → job_of job ≡ Err r →
+    (is_among (refusal_number r) (1 ∷ 2 ∷ 6 ∷ 7 ∷ []) ≡ true)
+    × (listing_of job table scale log ≡ bytes_in "JOB REFUSED" ++ (spaced (refusal_number r) ++ bytes_in "\n"))
+job_refused job table scale log r e = (
+  some_number (refusal_number r) (1 ∷ 2 ∷ 6 ∷ 7 ∷ []) (subst (λ (a : Result Job Refusal). NoneOr (1 ∷ 2 ∷ 6 ∷ 7 ∷ []) (number_told a)) e (job_refusals job)) (numbered r),
+  job_first job table scale log r e,
 )
 
-pub table_refused : (job table scale log : List ℕ) (j : Job) (number : ℕ) → job_of job ≡ answer.Job j → chain_count_of table ≡ count.Refused number →
-    (is_among number (1 ∷ []) ≡ true)
-    × (listing_of job table scale log ≡ bytes_in "CHAIN REFUSED" ++ (spaced number ++ bytes_in "\n"))
-unfolding count_refusal
-table_refused job table scale log j number good e = (
-  some_number number (1 ∷ []) (subst (λ (a : ChainCount). NoneOr (1 ∷ []) (count_refusal a)) e (count_refusals table))
-      (λ z. count_never table (e ∙ ap count.Refused z)),
-  then_chain job table scale log j number good e,
+pub table_refused : (job table scale log : List ℕ) (j : Job) (r : Refusal) → job_of job ≡ Ok j → chain_count_of table ≡ Err r →
+    (is_among (refusal_number r) (1 ∷ []) ≡ true)
+    × (listing_of job table scale log ≡ bytes_in "CHAIN REFUSED" ++ (spaced (refusal_number r) ++ bytes_in "\n"))
+table_refused job table scale log j r good e = (
+  some_number (refusal_number r) (1 ∷ []) (subst (λ (a : Result ℕ Refusal). NoneOr (1 ∷ []) (number_told a)) e (count_refusals table)) (numbered r),
+  then_chain job table scale log j r good e,
 )
 
-pub scale_refused : (job table scale log : List ℕ) (j : Job) (n : ℕ) → job_of job ≡ answer.Job j → chain_count_of table ≡ count.Chains n →
+pub scale_refused : (job table scale log : List ℕ) (j : Job) (n : ℕ) → job_of job ≡ Ok j → chain_count_of table ≡ Ok n →
     (length scale ≡ 4 * n → ⊥) → listing_of job table scale log ≡ bytes_in "SCALE REFUSED 1\n"
 scale_refused job table scale log j n good known unfit = then_scale job table scale log j n good known (ne_eqb _ _ unfit)
 
 -- A listing is put into a buffer; or it is refused with 9, if the buffer has too little room, and the buffer stays as it was.
 pub listing_answered : (out log : List ℕ) (p : Part) →
     let answer = listed_in (length out) log p in
-    NoneOr (9 ∷ []) (listed_refusal answer) × (Refuses (listed_refusal answer) → buffer_with out log p ≡ out)
+    NoneOr (9 ∷ []) (number_told answer) × (Refuses (number_told answer) → buffer_with out log p ≡ out)
 unfolding listed_in buffer_with
 listing_answered out log p = listed_number (has_listing_room (length out) log) p out (p.text ++ drop (length p.text) out)
 
@@ -291,5 +272,5 @@ job_figures_told s = job_told_lem (job_of s) (1 ∷ 2 ∷ 6 ∷ 7 ∷ []) (job_r
 pub listing_figures_told : (out log : List ℕ) (p : Part) →
     let f = listed_figures (listed_in (length out) log p) in
     NoneOr (9 ∷ []) f.refusal
-    × (Refuses f.refusal → (f.length ≡ 0) × (f.carried ≡ held_figures carried.Nothing))
+    × (Refuses f.refusal → (f.length ≡ 0) × (f.carried ≡ held_figures None))
 listing_figures_told out log p = listing_told (listed_in (length out) log p) (9 ∷ []) (listing_answered out log p).0

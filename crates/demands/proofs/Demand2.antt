@@ -13,10 +13,9 @@ use lib.IntN.{ℤ, pos, nat_abs, sub_ℕ, ◌*ℤ◌}
 use lib.Signed.{◌<ℤ◌}
 use lib.Ieee.{Float, fin, up, down, binary64, fits, of_int, div}
 use lib.ListN.{length, get_or}
+use Rattle.std.specs.Prelude.{Option, Some, None, Ok, Err}
+use Rattle.refusals.specs.declared.Refusal.TheVariants as refusal
 use Rattle.squares.proofs.RootLaws.{root_law, root_unique}
-use Rattle.metres.specs.declared.Whole.{Whole}
-use Rattle.metres.specs.declared.Whole.TheVariants as whole
-use Rattle.metres.specs.declared.Length.TheVariants as metres
 use Rattle.metres.specs.Metres.{signed, centimetres_of, hundredth_of, metres_of}
 use Rattle.metres.specs.declared.Mark.{Mark}
 use Rattle.metres.specs.declared.Mark.TheVariants as mark
@@ -32,7 +31,7 @@ use Rattle.chart.specs.declared.Place.{Place}
 use Rattle.chart.specs.declared.Chain.{Chain}
 use Rattle.chart.specs.Places.{in_range, squared_distance, distance_of}
 use Rattle.chart.specs.Chains.{slaves_of, is_sound, all_in_range, no_two_equal, stations_of}
-use Rattle.chart.specs.Readings.{Expects, NoneFor, expected_at, range_of, readings_of}
+use Rattle.chart.specs.Readings.{expected_at, range_of, readings_of}
 use Rattle.chart.proofs.RangeLaws.{readings_are, range_is_distance, range_is_on_ground, readings_unscaled}
 use Rattle.chart.proofs.ReadingLaws.{expected_out, expected_unsound, expected_readings}
 use Rattle.chart.specs.Factors.{is_factor}
@@ -45,12 +44,8 @@ use Rattle.search.specs.Questions.{rule_of, question_of}
 use Rattle.search.specs.Answers.{search_of}
 use Rattle.search.specs.Cells.{matching_in, IsListed, AmpleRoom, AmpleAllowance}
 use Rattle.search.proofs.Theorems.{always_enough}
-use Rattle.records.specs.declared.RawAnswer.TheVariants as raw
 use Rattle.records.specs.declared.LogEntry.TheVariants as entry
-use Rattle.records.specs.declared.ChainCount.TheVariants as count
-use Rattle.records.specs.declared.NamedChain.TheVariants as named
 use Rattle.records.specs.declared.Job.{Job}
-use Rattle.records.specs.declared.JobAnswer.TheVariants as answer
 use Rattle.records.specs.LogRecords.{raw_record_of, log_record_of, log_entry_of}
 use Rattle.records.specs.Marks.{numbers_used, is_rounded_in}
 use Rattle.records.specs.ChainTables.{chain_count_of, chain_of}
@@ -62,11 +57,6 @@ use Rattle.writing.specs.JobWriting.{job_refusal_of, job_buffer_of}
 use Rattle.writing.proofs.Theorems.{reads_back, chains_written, chains_counted, chains_read_back, window_written, job_reads_back, factors_read_back, factors_written}
 use Rattle.writing.specs.FactorWriting.{factor_refusal_of, scale_of}
 use Rattle.text.specs.Texts.{digits_of, spaced, figures_text, bytes_in}
-use Rattle.parsing.specs.declared.ParsedJob.TheVariants as parsed-job
-use Rattle.parsing.specs.declared.ParsedChain.TheVariants as parsed-chain
-use Rattle.parsing.specs.declared.ParsedDraft.TheVariants as parsed-draft
-use Rattle.parsing.specs.declared.ParsedQuestion.TheVariants as parsed-question
-use Rattle.parsing.specs.declared.ParsedReadings.TheVariants as parsed-readings
 use Rattle.parsing.specs.Numbers.{is_length, centimetres_in, is_below, size_in, is_reading, value_at, length_at, reading_at}
 use Rattle.parsing.specs.Parsed.{parsed_job, parsed_chain, parsed_draft, parsed_question, parsed_readings}
 use Rattle.shown.specs.Lines.{job_text, job_line, station_figures, chain_line, record_text, record_line}
@@ -131,11 +121,11 @@ factor_of_one c p one = ((λ station. range_is_distance c p station one), readin
 -- whose factor is not allowed, is refused with 5.
 pub readings_are_differences : (c : Chain) (p : Place) →
     (in_range p ≡ true → is_sound c ≡ true →
-    expected_at c p ≡ Expects (map (λ slave. sub_ℕ (range_of c p slave) (range_of c p c.master)) (slaves_of c)))
-    × (in_range p ≡ false → expected_at c p ≡ NoneFor 4)
-    × (in_range p ≡ true → is_sound c ≡ false → expected_at c p ≡ NoneFor 5)
+    expected_at c p ≡ Ok (map (λ slave. sub_ℕ (range_of c p slave) (range_of c p c.master)) (slaves_of c)))
+    × (in_range p ≡ false → expected_at c p ≡ Err refusal.Place)
+    × (in_range p ≡ true → is_sound c ≡ false → expected_at c p ≡ Err refusal.Chain)
 readings_are_differences c p = (
-  (λ in-range sound. expected_readings c p in-range sound ∙ ap Expects (readings_are c p)),
+  (λ in-range sound. expected_readings c p in-range sound ∙ ap Ok (readings_are c p)),
   expected_out c p,
   expected_unsound c p,
 )
@@ -155,7 +145,7 @@ sound_means c = (
 -- A number of metres gives the whole number of centimetres nearest to exactly 100 times the number, a tie going to the even
 -- one. It is refused if it is NaN, infinite or larger than 10,000,000 in size. No other answer is right. `MayAnswer` states
 -- this rule without a method for finding the number.
-pub metres_are_rounded : (x : Float) (answer : Whole) → (answer ≡ centimetres_of x) ↔ MayAnswer x answer
+pub metres_are_rounded : (x : Float) (answer : Option ℤ) → (answer ≡ centimetres_of x) ↔ MayAnswer x answer
 metres_are_rounded x answer = ((λ e. subst⁻¹ (MayAnswer x) e (answers x)), answers_only x answer)
 
 -- The mark of a number says where exactly 100 times the number lies, as seen from its z centimetres: it is `Equal` exactly if that is
@@ -165,7 +155,7 @@ pub mark_is_true : (s : Bool) (m : ℕ) (e z : ℤ) →
     let x = fin s m e in
     let exact = signed s (100 * (m * up e)) in
     let whole_number = z *ℤ pos (down e) in
-    centimetres_of x ≡ whole.Centimetres z →
+    centimetres_of x ≡ Some z →
     ((mark_of x ≡ mark.Equal) ↔ (exact ≡ whole_number))
     × ((mark_of x ≡ mark.Below) ↔ (exact <ℤ whole_number))
     × ((mark_of x ≡ mark.Above) ↔ (whole_number <ℤ exact))
@@ -173,7 +163,7 @@ mark_is_true s m e z h = (mark_says (fin s m e) _ h mark.Equal, mark_says (fin s
 
 -- A number that is refused has the mark `Equal`, and every number has exactly one mark: the one that `MayMark` allows beside its
 -- centimetres or its refusal.
-pub refused_is_equal : (x : Float) → centimetres_of x ≡ whole.Refused → mark_of x ≡ mark.Equal
+pub refused_is_equal : (x : Float) → centimetres_of x ≡ None → mark_of x ≡ mark.Equal
 refused_is_equal x h = (mark_says x _ h mark.Equal).1 refl
 
 pub metres_are_marked : (x : Float) (k : Mark) → (k ≡ mark_of x) ↔ MayMark x (centimetres_of x) k
@@ -182,11 +172,11 @@ metres_are_marked x k = ((λ e. (mark_says x _ refl k).0 (sym e)), (λ h. sym ((
 -- A number that is read is exact exactly if it is a whole number of quarters of a metre: 4 times the number is some k.
 pub exact_are_quarters : (s : Bool) (m : ℕ) (e z : ℤ) →
     let x = fin s m e in
-    centimetres_of x ≡ whole.Centimetres z → (mark_of x ≡ mark.Equal) ↔ ((k : ℕ) × (4 * (m * up e) ≡ k * down e))
+    centimetres_of x ≡ Some z → (mark_of x ≡ mark.Equal) ↔ ((k : ℕ) × (4 * (m * up e) ≡ k * down e))
 exact_are_quarters = quarters
 
 -- The last field of a line `FIX` or `GRID` is 0 exactly if every number that its record uses is exact, and 1 exactly if not.
-pub field_is_true : (j : Job) (table scale : List ℕ) (before : Carried) (s : List ℕ) →
+pub field_is_true : (j : Job) (table scale : List ℕ) (before : Option Carried) (s : List ℕ) →
     let line = line_of s (answer_of j table scale before s) in
     let exact = EachExact (numbers_used (log_record_of s)) in
     IsOwn (answer_of j table scale before s) →
@@ -194,7 +184,7 @@ pub field_is_true : (j : Job) (table scale : List ℕ) (before : Carried) (s : L
 field_is_true = own_field
 
 -- A hold after a record t with one place, which may be a hold itself, ends its line as the line of t ends.
-pub hold_repeats_field : (j : Job) (table scale s t : List ℕ) (a : RecordAnswer) (p : Place) → log_entry_of s ≡ entry.Hold → places_of a ≡ p ∷ [] →
+pub hold_repeats_field : (j : Job) (table scale s t : List ℕ) (a : RecordAnswer) (p : Place) → log_entry_of s ≡ Ok entry.Hold → places_of a ≡ p ∷ [] →
     last_bytes 3 (line_of s (answer_of j table scale (carried_by a) s)) ≡ last_bytes 3 (line_of t a)
 unfolding answer_of answer_by
 hold_repeats_field j table scale s t a p held one = rw held (hold_as_before s t a p one)
@@ -203,12 +193,12 @@ hold_repeats_field j table scale s t a p held one = rw held (hold_as_before s t 
 -- rounded once; and this quotient is read back as the same number.
 pub centimetres_there_and_back : (z : ℤ) → nat_abs z ≤ 1_000_000_000 →
     let x = div binary64 (of_int binary64 z) (of_int binary64 (pos 100)) in
-    (metres_of z ≡ metres.Metres x) × (centimetres_of x ≡ whole.Centimetres z)
+    (metres_of z ≡ Some x) × (centimetres_of x ≡ Some z)
 unfolding hundredth_of
 centimetres_there_and_back z h = (written z h, hundredth_back z h)
 
 -- Any other number of centimetres is refused.
-pub centimetres_beyond : (z : ℤ) → 1_000_000_000 < nat_abs z → metres_of z ≡ metres.Refused
+pub centimetres_beyond : (z : ℤ) → 1_000_000_000 < nat_abs z → metres_of z ≡ None
 centimetres_beyond z h = not_written z h
 
 -- A binary64 number, stored as the pattern of its eight bytes, is read back as the same number.
@@ -217,8 +207,8 @@ number_there_and_back x held = number_back x held
 
 -- Whatever the writer accepts is read back: the same kind, chain number, line number and centimetres. What the kind does not
 -- use is read as zero.
-pub record_there_and_back : (d : Draft) → d.line < 2 ^ 32 → refusal_of 32 d ≡ 0 →
-    (raw_record_of (buffer_of 32 d) ≡ raw.Record (raw_for (used_of d))) × (log_entry_of (buffer_of 32 d) ≡ entry_for (used_of d))
+pub record_there_and_back : (d : Draft) → d.line < 2 ^ 32 → refusal_of 32 d ≡ Ok tt →
+    (raw_record_of (buffer_of 32 d) ≡ Ok (raw_for (used_of d))) × (log_entry_of (buffer_of 32 d) ≡ Ok (entry_for (used_of d)))
 record_there_and_back d line accepted = ((reads_back d line accepted).raw, (reads_back d line accepted).entry)
 
 -- Every sound chain is written, and its factor. 1 to 16 of them, written one after the other, are a table of that many chains, their
@@ -227,10 +217,10 @@ record_there_and_back d line accepted = ((reads_back d line accepted).raw, (read
 pub chains_there_and_back : (cs : List Chain) (number : ℕ) (other : Chain) →
     let c = get_or cs (number - 1) other in
     all_sound cs ≡ true → length cs ≤ 16 → 1 ≤ number → number ≤ length cs →
-    (chain_refusal_of 24 c ≡ 0)
-    × (factor_refusal_of 4 c.factor ≡ 0)
-    × (chain_count_of (table_of cs) ≡ count.Chains (length cs))
-    × (chain_of (table_of cs) (scale_of cs) number ≡ named.Chain c)
+    (chain_refusal_of 24 c ≡ Ok tt)
+    × (factor_refusal_of 4 c.factor ≡ Ok tt)
+    × (chain_count_of (table_of cs) ≡ Ok (length cs))
+    × (chain_of (table_of cs) (scale_of cs) number ≡ Ok c)
 chains_there_and_back cs number other sound few first last = (
   chains_written cs number other sound first last,
   factors_written cs number other sound first last,
@@ -241,15 +231,15 @@ chains_there_and_back cs number other sound few first last = (
 -- A job with any allowed window, a tolerance up to 100,000 and any allowance of 64 bits is written; and every job that the
 -- writer accepts is read back as the same job.
 pub job_there_and_back : (j : Job) → j.allowance < 2 ^ 64 →
-    (is_window j.window ≡ true → j.tolerance ≤ 100_000 → job_refusal_of 32 j ≡ 0)
-    × (job_refusal_of 32 j ≡ 0 → job_of (job_buffer_of 32 j) ≡ answer.Job j)
+    (is_window j.window ≡ true → j.tolerance ≤ 100_000 → job_refusal_of 32 j ≡ Ok tt)
+    × (job_refusal_of 32 j ≡ Ok tt → job_of (job_buffer_of 32 j) ≡ Ok j)
 job_there_and_back j small = (window_written j, job_reads_back j small)
 
 -- Every record that the writer accepts is shown as one line: `LOG`, its fields and a newline, with no refusal. The fields,
 -- typed in, give the same draft again, with 0 for what its kind does not use.
-pub record_shown_and_typed : (d : Draft) → d.line < 2 ^ 32 → refusal_of 32 d ≡ 0 →
+pub record_shown_and_typed : (d : Draft) → d.line < 2 ^ 32 → refusal_of 32 d ≡ Ok tt →
     let fields = record_text (buffer_of 32 d) in
-    (record_line (buffer_of 32 d) ≡ bytes_in "LOG" ++ (fields ++ bytes_in "\n")) × (parsed_draft fields ≡ parsed-draft.Draft (used_of d))
+    (record_line (buffer_of 32 d) ≡ bytes_in "LOG" ++ (fields ++ bytes_in "\n")) × (parsed_draft fields ≡ Ok (Some (used_of d)))
 record_shown_and_typed d small accepted = (record_line_shown d small accepted, record_typed_again d small accepted)
 
 -- Every chain of a list of sound ones that are written is shown as one line: `CHAIN`, its number in the table, its fields, the factor
@@ -259,7 +249,7 @@ pub chain_shown_and_typed : (cs : List Chain) (number : ℕ) (other : Chain) →
     let c = get_or cs (number - 1) other in
     let fields = figures_text (station_figures c ++ (c.factor ∷ [])) in
     (chain_line (scale_of cs) number (chain_buffer_of 24 c) ≡ bytes_in "CHAIN" ++ (spaced number ++ (fields ++ bytes_in "\n")))
-    × (parsed_chain fields ≡ parsed-chain.Chain c)
+    × (parsed_chain fields ≡ Ok (Some c))
 chain_shown_and_typed cs number other sound first last =
     let c = get_or cs (number - 1) other in
     let back = factors_read_back cs number other sound first last in
@@ -267,25 +257,25 @@ chain_shown_and_typed cs number other sound first last =
     let there = and_both (le-leb 1 number first) (le-leb number (length (scale_of cs) / 4) (omega (arith, back.0, last))) in
     (chain_line_shown c good (scale_of cs) number there back.1, chain_typed_again c good)
 
-pub chain_typed_without_factor : (c : Chain) → is_sound c ≡ true → c.factor ≡ 1_000_000 → parsed_chain (figures_text (station_figures c)) ≡ parsed-chain.Chain c
+pub chain_typed_without_factor : (c : Chain) → is_sound c ≡ true → c.factor ≡ 1_000_000 → parsed_chain (figures_text (station_figures c)) ≡ Ok (Some c)
 chain_typed_without_factor c sound one = chain_typed_short c sound one
 
 -- Every job that the writer accepts is shown as one line: `JOB`, its fields and a newline, with no refusal. The fields, typed
 -- in, give the same job again.
-pub job_shown_and_typed : (j : Job) → j.allowance < 2 ^ 64 → job_refusal_of 32 j ≡ 0 →
+pub job_shown_and_typed : (j : Job) → j.allowance < 2 ^ 64 → job_refusal_of 32 j ≡ Ok tt →
     let fields = job_text (job_buffer_of 32 j) in
-    (job_line (job_buffer_of 32 j) ≡ bytes_in "JOB" ++ (fields ++ bytes_in "\n")) × (parsed_job fields ≡ parsed-job.Job j)
+    (job_line (job_buffer_of 32 j) ≡ bytes_in "JOB" ++ (fields ++ bytes_in "\n")) × (parsed_job fields ≡ Ok j)
 job_shown_and_typed j small accepted = (job_line_shown j small accepted, job_typed_again j small accepted)
 
 -- The readings shown for a typed question are those for the chain number and the place exactly as they were typed, however
 -- large these numbers are.
-pub question_as_typed : (table scale s : List ℕ) (number : ℕ) (p : Place) → parsed_question s ≡ parsed-question.Question number p →
+pub question_as_typed : (table scale s : List ℕ) (number : ℕ) (p : Place) → parsed_question s ≡ Ok (record { chain = number; place = p }) →
     expected_in table scale number p ≡ expected_in table scale (value_at s 0) (record { easting = length_at s 1; northing = length_at s 2 })
 question_as_typed table scale s number p e = expected_as_typed table scale s number p e
 
 -- How many places are shown for typed readings is the answer for the chain number and the readings exactly as they were typed,
 -- however large these numbers are.
-pub readings_as_typed : (table scale job s : List ℕ) (number : ℕ) (a b : ℤ) → parsed_readings s ≡ parsed-readings.Readings number a b →
+pub readings_as_typed : (table scale job s : List ℕ) (number : ℕ) (a b : ℤ) → parsed_readings s ≡ Ok (record { chain = number; a = a; b = b }) →
     counted_in table scale job number (a ∷ b ∷ []) ≡ counted_in table scale job (value_at s 0) (reading_at s 1 ∷ reading_at s 2 ∷ [])
 readings_as_typed table scale job s number a b e = counted_as_typed table scale job s number a b e
 
@@ -307,19 +297,19 @@ metres_as_typed m t h tenth hundredth =
 pub reading_in_metres : (z : ℤ) → (is_reading (metres_text z) ≡ true) × (signed (is_below (metres_text z)) (centimetres_in (size_in (metres_text z))) ≡ z)
 reading_in_metres z = ((metres_says z).reading, (metres_says z).back)
 
-pub record_in_metres : (d : Draft) → d.line < 2 ^ 32 → refusal_of 32 d ≡ 0 →
+pub record_in_metres : (d : Draft) → d.line < 2 ^ 32 → refusal_of 32 d ≡ Ok tt →
     let used = used_of d in
     parsed_draft (figures_text (used.kind ∷ used.chain ∷ used.line ∷ []) ++ ((32 ∷ metres_text used.x) ++ (32 ∷ metres_text used.y)))
-    ≡ parsed-draft.Draft used
+    ≡ Ok (Some used)
 record_in_metres d small accepted = metres_line_lem d small accepted
 
 -- So do every sound chain, and every job that the writer accepts, typed with their lengths in metres.
-pub chain_typed_in_metres : (c : Chain) → is_sound c ≡ true → parsed_chain (metres_line (station_figures c) ++ spaced c.factor) ≡ parsed-chain.Chain c
+pub chain_typed_in_metres : (c : Chain) → is_sound c ≡ true → parsed_chain (metres_line (station_figures c) ++ spaced c.factor) ≡ Ok (Some c)
 chain_typed_in_metres c sound = chain_in_metres c sound
 
-pub job_typed_in_metres : (j : Job) → j.allowance < 2 ^ 64 → job_refusal_of 32 j ≡ 0 →
+pub job_typed_in_metres : (j : Job) → j.allowance < 2 ^ 64 → job_refusal_of 32 j ≡ Ok tt →
     let corner = metres_line (j.window.corner.easting ∷ j.window.corner.northing ∷ []) in
-    parsed_job (corner ++ (spaced j.window.k ++ (metres_line (j.tolerance ∷ []) ++ spaced j.allowance))) ≡ parsed-job.Job j
+    parsed_job (corner ++ (spaced j.window.k ++ (metres_line (j.tolerance ∷ []) ++ spaced j.allowance))) ≡ Ok j
 job_typed_in_metres j small accepted = job_in_metres j small accepted
 
 -- The writer accepts any two readings up to 1,000,000,000 in size for a chain from 1 to 16, any place in range, and any hold;
@@ -327,7 +317,7 @@ job_typed_in_metres j small accepted = job_in_metres j small accepted
 pub readings_there_and_back : (chain line : ℕ) (x y : ℤ) →
     1 ≤ chain → chain ≤ 16 → line < 2 ^ 32 → nat_abs x ≤ 1_000_000_000 → nat_abs y ≤ 1_000_000_000 →
     let d : Draft = record { kind = 1; chain = chain; line = line; x = x; y = y } in
-    (refusal_of 32 d ≡ 0) × (log_entry_of (buffer_of 32 d) ≡ entry.Readings x y)
+    (refusal_of 32 d ≡ Ok tt) × (log_entry_of (buffer_of 32 d) ≡ Ok (entry.Readings x y))
 unfolding used_of entry_for
 readings_there_and_back chain line x y some few small hx hy =
     let accepted = hyperbolic_accepted chain line x y some few hx hy in
@@ -335,7 +325,7 @@ readings_there_and_back chain line x y some few small hx hy =
 
 pub place_there_and_back : (chain line : ℕ) (p : Place) → line < 2 ^ 32 → in_range p ≡ true →
     let d : Draft = record { kind = 2; chain = chain; line = line; x = pos p.easting; y = pos p.northing } in
-    (refusal_of 32 d ≡ 0) × (log_entry_of (buffer_of 32 d) ≡ entry.Place p)
+    (refusal_of 32 d ≡ Ok tt) × (log_entry_of (buffer_of 32 d) ≡ Ok (entry.Place p))
 unfolding used_of entry_for
 place_there_and_back chain line p small h =
     let accepted = grid_accepted chain line p h in
@@ -343,7 +333,7 @@ place_there_and_back chain line p small h =
 
 pub hold_there_and_back : (chain line : ℕ) (x y : ℤ) → line < 2 ^ 32 →
     let d : Draft = record { kind = 3; chain = chain; line = line; x = x; y = y } in
-    (refusal_of 32 d ≡ 0) × (log_entry_of (buffer_of 32 d) ≡ entry.Hold)
+    (refusal_of 32 d ≡ Ok tt) × (log_entry_of (buffer_of 32 d) ≡ Ok entry.Hold)
 unfolding used_of entry_for
 hold_there_and_back chain line x y small =
     let accepted = hold_accepted chain line x y in
@@ -353,7 +343,7 @@ hold_there_and_back chain line x y small =
 -- allowed window that contains the place, at any allowed tolerance, with ample room and allowance.
 pub readings_give_place : (c : Chain) (p : Place) (readings : List ℤ) (w : Window) (tolerance allowance entries : ℕ) →
     let q = question_of c readings tolerance allowance entries in
-    expected_at c p ≡ Expects readings → EachSmall readings →
+    expected_at c p ≡ Ok readings → EachSmall readings →
     is_window w ≡ true → IsCellIn w p → tolerance ≤ 100_000 → AmpleRoom q w → AmpleAllowance q w →
     IsListed p (search_of q w).places
 readings_give_place c p readings w tolerance allowance entries e small window inside few room enough =
@@ -365,13 +355,13 @@ readings_give_place c p readings w tolerance allowance entries e small window in
 -- are at most 1,000,000,000 in size, are written as a record that names a chain of the table, and the record is read back the
 -- same. The answer to this record lists the place, if the job is accepted, its window contains the place, its allowance is at
 -- least the greatest that may be needed, and at most 256 cells of the window match.
-pub place_to_place : (c : Chain) (p : Place) (x y : ℤ) (chain line : ℕ) (job table scale : List ℕ) (j : Job) (before : Carried) →
+pub place_to_place : (c : Chain) (p : Place) (x y : ℤ) (chain line : ℕ) (job table scale : List ℕ) (j : Job) (before : Option Carried) →
     let s = buffer_of 32 (record { kind = 1; chain = chain; line = line; x = x; y = y }) in
-    expected_at c p ≡ Expects (x ∷ y ∷ []) → nat_abs x ≤ 1_000_000_000 → nat_abs y ≤ 1_000_000_000 →
-    1 ≤ chain → chain ≤ 16 → line < 2 ^ 32 → chain_of table scale chain ≡ named.Chain c →
-    job_of job ≡ answer.Job j → IsCellIn j.window p → (4 ^ (j.window.k + 1) - 1) / 3 ≤ j.allowance →
+    expected_at c p ≡ Ok (x ∷ y ∷ []) → nat_abs x ≤ 1_000_000_000 → nat_abs y ≤ 1_000_000_000 →
+    1 ≤ chain → chain ≤ 16 → line < 2 ^ 32 → chain_of table scale chain ≡ Ok c →
+    job_of job ≡ Ok j → IsCellIn j.window p → (4 ^ (j.window.k + 1) - 1) / 3 ≤ j.allowance →
     length (matching_in (rule_of c (x ∷ y ∷ []) j.tolerance) j.window) ≤ 256 →
-    (log_entry_of s ≡ entry.Readings x y) × IsListed p (places_of (answer_of j table scale before s))
+    (log_entry_of s ≡ Ok (entry.Readings x y)) × IsListed p (places_of (answer_of j table scale before s))
 unfolding answer_of answer_by fix_by EachSmall
 place_to_place c p x y chain line job table scale j before e hx hy some few small known good inside enough room =
     let there = readings_there_and_back chain line x y some few small hx hy in

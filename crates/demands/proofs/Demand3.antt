@@ -11,13 +11,14 @@ use native.Mathlib.Nat.{le_trans}
 use borrow.Author.Tests.{leb-false, lt-leb}
 use lib.IntN.{ℤ}
 use lib.ListN.{length}
+use Rattle.std.specs.Prelude.{Result, Ok}
 use Rattle.chart.specs.declared.Place.{Place}
 use Rattle.chart.specs.declared.Chain.{Chain}
 use Rattle.chart.specs.Chains.{is_sound}
 use Rattle.chart.specs.Readings.{wanted_of}
 use Rattle.search.specs.declared.Window.{Window}
-use Rattle.search.specs.declared.Answer.{Answer}
-use Rattle.search.specs.declared.Answer.TheVariants.{Places}
+use Rattle.search.specs.declared.Found.{Found}
+use Rattle.search.specs.declared.Unfound.{Unfound}
 use Rattle.search.specs.Windows.{east, north, north_east, is_window, IsCellIn}
 use Rattle.search.specs.Questions.{Rule, Question, rule_of, question_of, none_too_large, matches, is_kept}
 use Rattle.search.specs.Answers.{Accepted, search_of, search_figures, figures_in}
@@ -50,11 +51,11 @@ matching_means c readings tolerance o = each_differs tolerance c (wanted_of c re
 -- If some cell of the window matches, nothing is refused: the answer is the count of all matching cells and the visits that
 -- the rule counts.
 pub answered_with_places : (q : Question) (w : Window) → Enough q w → (o : Place) → IsCellIn w o → matches q.rule o ≡ true →
-    ((figures_in q w).refusal ≡ 0) × ((search_of q w).answer ≡ Places (length (matching_in q.rule w)) (visits_in q.rule w))
+    ((figures_in q w).refusal ≡ 0) × ((search_of q w).answer ≡ Ok (record { count = length (matching_in q.rule w); visits = visits_in q.rule w }))
 unfolding search_figures
 answered_with_places q w e o inside m =
     let places = found_answered q w e o inside m in
-    (ap (λ (a : Answer). (search_figures a).refusal) places, places)
+    (ap (λ (a : Result Found Unfound). (search_figures a).refusal) places, places)
 
 -- Any list that holds every matching cell and no other, each once, in chart order, is the list of the search.
 pub no_other_list : (q : Question) (w : Window) → Enough q w → (l : List Place) → IsTheList q w l → l ≡ (search_of q w).places

@@ -1,12 +1,11 @@
 -- The three demands of the request, the question of A2, and the ten cases of 01, as theorems.
 mod NumberLaws
-mod NeverLaws
 mod LibraryLaws
 mod WritingLaws
 mod AskingLaws
 mod StoppingLaws
-mod CountingLaws
 mod TestLaws
+mod CountingLaws
 mod TextLaws
 mod MetresLaws
 mod QuestionLaws

@@ -7,6 +7,7 @@ use native.Mathlib.Omega.{arith}
 use borrow.Author.Tests.{ne_eqb}
 use lib.Dec.{eqb}
 use lib.ListN.{length, get_or, get_or-append}
+use Rattle.std.specs.Prelude.{Some, Ok}
 use Rattle.chart.specs.declared.Chain.{Chain}
 use Rattle.chart.specs.Chains.{is_sound}
 use Rattle.records.specs.declared.Job.{Job}
@@ -14,8 +15,6 @@ use Rattle.writing.specs.ChainWriting.{chain_refusal_of}
 use Rattle.writing.specs.JobWriting.{job_refusal_of}
 use Rattle.text.specs.Texts.{digits_of, spaced, numeral, bytes_in}
 use Rattle.text.proofs.Digits.{all_digits, digits_some, reads_back}
-use Rattle.parsing.specs.declared.ParsedJob.TheVariants as parsed-job
-use Rattle.parsing.specs.declared.ParsedChain.TheVariants as parsed-chain
 use Rattle.parsing.specs.declared.Form.TheVariants as form
 use Rattle.parsing.specs.declared.Taken.TheVariants as taken
 use Rattle.parsing.specs.Words.{word_at, no_word, is_passed}
@@ -53,7 +52,7 @@ decimal_said s n e =
 
 -- A chain.
 module _ (c : Chain) (sound : is_sound c ≡ true) where
-  accepted : chain_refusal_of 24 c ≡ 0
+  accepted : chain_refusal_of 24 c ≡ Ok tt
   unfolding chain_refusal_of
   accepted = rw sound
 
@@ -86,7 +85,7 @@ module _ (c : Chain) (sound : is_sound c ≡ true) where
   chain_taken_for (suc (suc (suc (suc (suc (suc zero)))))) l = digits_factor_taken c.factor
   chain_taken_for (suc (suc (suc (suc (suc (suc (suc i))))))) l = absurd (omega (arith, l))
 
-  pub chain_in_metres : parsed_chain (metres_line (station_figures c) ++ spaced c.factor) ≡ parsed-chain.Chain c
+  pub chain_in_metres : parsed_chain (metres_line (station_figures c) ++ spaced c.factor) ≡ Ok (Some c)
   unfolding words_of
   chain_in_metres =
       let s = spaced_words chain_words in
@@ -109,10 +108,10 @@ module _ (c : Chain) (sound : is_sound c ≡ true) where
       ∙ spaced_both (map decimal_text (station_figures c)) (digits_of c.factor ∷ []))
       ∙ chain_taken 24 s (decimal_said s c.master.easting (words 0)) (words_form form.Chain chain_words each_is_word (omega arith) chain_taken_for)
       (ap (chain_refusal_of 24) same ∙ accepted)
-      ∙ ap parsed-chain.Chain same
+      ∙ ap (λ (x : Chain). Ok (Some x)) same
 
 -- A job: its corner and its tolerance are lengths.
-module _ (j : Job) (small : j.allowance < 2 ^ 64) (accepted : job_refusal_of 32 j ≡ 0) where
+module _ (j : Job) (small : j.allowance < 2 ^ 64) (accepted : job_refusal_of 32 j ≡ Ok tt) where
   abbrev job_words : List (List ℕ)
   job_words =
       decimal_text j.window.corner.easting
@@ -157,7 +156,7 @@ module _ (j : Job) (small : j.allowance < 2 ^ 64) (accepted : job_refusal_of 32 
 
   pub job_in_metres : parsed_job (metres_line (j.window.corner.easting ∷ j.window.corner.northing ∷ [])
       ++ (spaced j.window.k ++ (metres_line (j.tolerance ∷ []) ++ spaced j.allowance)))
-      ≡ parsed-job.Job j
+      ≡ Ok j
   unfolding words_of
   job_in_metres =
       let s = spaced_words job_words in
@@ -180,4 +179,4 @@ module _ (j : Job) (small : j.allowance < 2 ^ 64) (accepted : job_refusal_of 32 
       (metres_spaced (corner.easting ∷ corner.northing ∷ []))
       ∙ job_as_words)
       ∙ job_taken 32 s (words_form form.Job job_words are_words (omega arith) job_taken_for) (ap (job_refusal_of 32) same ∙ accepted)
-      ∙ ap parsed-job.Job same
+      ∙ ap Ok same

@@ -6,10 +6,12 @@ use mathlib.Core.Path.{◌≡◌, ap}
 use mathlib.Core.Logic.{◌↔◌, ◌⊎◌, inl, inr, ⊎_elim}
 use mathlib.Core.Bool.{true}
 use mathlib.Core.List.{[], ◌∷◌}
+use Rattle.std.specs.Prelude.{Err}
+use Rattle.refusals.specs.declared.Refusal.{Refusal}
+use Rattle.refusals.specs.Numbers.{refusal_number}
 use Rattle.search.specs.declared.Window.{Window}
-use Rattle.search.specs.declared.HowMany.TheVariants.{Refused}
 use Rattle.search.specs.Questions.{Rule, Limits, Question}
-use Rattle.search.specs.Answers.{Outcome, Accepted, search_of, search_figures, figures_in}
+use Rattle.search.specs.Answers.{Outcome, Accepted, refusal_for, search_of, search_figures, figures_in}
 use Rattle.search.specs.Cells.{matching_in, visits_in}
 use Rattle.search.specs.Counts.{how_many_of, deciding_visits, decided_by}
 use Rattle.search.proofs.Outcomes.{tested}
@@ -47,21 +49,22 @@ module _ (rule : Rule) (w : Window) (allowance : ℕ) where
   )
 
 -- Either all tests before the walk pass, or every search by the rule in the window, whatever its room and allowance, is refused with
--- one and the same number, 3, 5, 6 or 7, and so is the question, without a visit. When it is which, Demand3.antt says.
+-- the number of one and the same refusal r, 3, 5, 6 or 7, and so is the question, without a visit. When it is which, Demand3.antt says.
 pub refused_as_the_search : (rule : Rule) (w : Window) →
     Accepted rule w
-    ⊎ ((number : ℕ)
-    × (is_among number (3 ∷ 5 ∷ 6 ∷ 7 ∷ []) ≡ true)
-    × ((l : Limits) → (figures_in (record { rule = rule; limits = l }) w).refusal ≡ number)
-    × ((allowance : ℕ) → how_many_of rule w allowance ≡ Refused number 0))
+    ⊎ ((r : Refusal)
+    × (is_among (refusal_number r) (3 ∷ 5 ∷ 6 ∷ 7 ∷ []) ≡ true)
+    × ((l : Limits) → (figures_in (record { rule = rule; limits = l }) w).refusal ≡ refusal_number r)
+    × ((allowance : ℕ) → how_many_of rule w allowance ≡ Err (record { refusal = r; visits = 0 })))
+unfolding search_figures
 refused_as_the_search rule w =
     ⊎_elim
     (λ a. inl a)
     (λ f.
     let fails = f.1 in
     inr (
-      (search_figures f.0).refusal,
-      early_number f.0 fails.low fails.high,
+      refusal_for f.0,
+      early_number f.0 fails.high,
       (λ l. ap (λ (o : Outcome). (search_figures o.answer).refusal) (fails.same l)),
       (λ n. early_refused rule w n f.0 fails),
     ))

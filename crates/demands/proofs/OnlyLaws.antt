@@ -1,6 +1,6 @@
 -- How two answers that a contract allows are compared, clause by clause.
 -- Every clause states a plain fact, so if it holds in one state, it holds in any.
-use mathlib.Core.Path.{◌≡◌, sym, ◌∙◌}
+use mathlib.Core.Path.{◌≡◌, refl, sym, ◌∙◌}
 use mathlib.Core.Logic.{∥∥₁_map, ∥∥₁_map₂}
 use seplogic.Ra.Ura.{Ura}
 use seplogic.Bi.Sat
@@ -62,3 +62,16 @@ pub ◌&◌ : {A B : Type 0} {a c : A} {b d : B} → a ≡ c → b ≡ d → ◌
 
 infixr 40 ◌&◌
 infixr 30 ◌beside◌
+module _ {M : Type 1} (𝓤 : Ura M) {P Q : SProp 𝓤} where
+  -- The clauses show the result of a function that lends nothing: then they show the whole answer.
+  pub one : {A B : Type 0} {r s : A} {b : B} → Shows 𝓤 P Q (r ≡ s) → Sat 𝓤.op P → Sat 𝓤.op Q → ∥ ◌≡◌ {A = A × B} (r, b) (s, b) ∥₁
+  one h = only 𝓤 h (λ result. result & refl)
+
+  -- They show the result and the final content of the first parameter, and the others lend nothing.
+  pub two :
+      {A B C : Type 0} {r s : A} {p q : B} {c : C} →
+      Shows 𝓤 P Q ((r ≡ s) × (p ≡ q)) →
+      Sat 𝓤.op P →
+      Sat 𝓤.op Q →
+      ∥ ◌≡◌ {A = A × (B × C)} (r, (p, c)) (s, (q, c)) ∥₁
+  two h = only 𝓤 h (λ (result, content). result & content & refl)

@@ -2,31 +2,33 @@
 use Prim.Native.Nat.{ℕ, ◌-◌}
 use mathlib.Core.Path.{◌≡◌, refl, sym, ap, ◌∙◌, subst}
 use mathlib.Core.Logic.{◌↔◌}
-use mathlib.Core.Bool.{Bool, true, false, cond, ◌||◌}
+use mathlib.Core.Bool.{Bool, true, false, ◌||◌}
 use mathlib.Core.List.{List, [], ◌∷◌, ◌++◌, map, append_assoc}
 use native.Mathlib.Omega.{arith}
-use lib.Dec.{T, eqb}
+use lib.Dec.{T}
 use lib.Ieee.{Float}
 use lib.ListN.{length, drop, get_or, length-append}
 use lib.Seq.{drop-append_seam}
+use Rattle.std.specs.Prelude.{Option, Some, None, Result, Ok, Err}
+use Rattle.refusals.specs.declared.Refusal.{Refusal}
 use Rattle.metres.specs.declared.Mark.{Mark}
 use Rattle.metres.specs.declared.Mark.TheVariants.{Equal, Below, Above}
 use Rattle.metres.specs.Marks.{mark_of, is_rounded}
 use Rattle.chart.specs.declared.Place.{Place}
-use Rattle.search.specs.Answers.{Outcome, search_figures}
+use Rattle.chart.specs.declared.Chain.{Chain}
+use Rattle.search.specs.declared.Found.{Found}
+use Rattle.search.specs.declared.Unfound.{Unfound}
+use Rattle.search.specs.Answers.{Outcome}
 use Rattle.records.specs.declared.Job.{Job}
 use Rattle.records.specs.declared.LogEntry.{LogEntry}
 use Rattle.records.specs.declared.LogEntry.TheVariants as entry
-use Rattle.records.specs.declared.NamedChain.{NamedChain}
-use Rattle.records.specs.declared.NamedChain.TheVariants as named
 use Rattle.records.specs.Bytes.{byte_at}
 use Rattle.records.specs.LogRecords.{log_record_of, log_entry_of}
 use Rattle.records.specs.Marks.{numbers_used, is_accepted, marks_of, any_rounded, is_rounded_in}
 use Rattle.records.specs.ChainTables.{chain_of}
 use Rattle.text.specs.Texts.{spaced, bytes_in, flag_text}
 use Rattle.listing.specs.declared.Carried.{Carried}
-use Rattle.listing.specs.declared.Carried.TheVariants as carried
-use Rattle.listing.specs.Answers.{RecordAnswer, Fix, Grid, Hold, Refused, searched, fix_by, hold_of, answer_by, answer_of, places_of, says_rounded, only, carried_by}
+use Rattle.listing.specs.Answers.{RecordAnswer, Fix, Grid, Hold, Refused, fix_with, searched, fix_by, hold_of, answer_by, answer_of, places_of, says_rounded, only, carried_by}
 use Rattle.listing.specs.Listings.{head_of, places_text, answer_text, line_of}
 use Rattle.demands.specs.Roundings.{EachExact, IsOwn, last_bytes}
 
@@ -80,14 +82,14 @@ unfolding says_rounded IsOwn
 own_ends s (Fix visits ps rounded) h = fix_ends s visits ps rounded
 own_ends s (Grid p rounded) h = grid_ends s p rounded
 own_ends s (Hold p rounded) h = absurd h
-own_ends s (Refused number visits) h = absurd h
+own_ends s (Refused r visits) h = absurd h
 
 place_ends : (s : List ℕ) (a : RecordAnswer) (p : Place) → places_of a ≡ p ∷ [] → last_bytes 3 (line_of s a) ≡ field_of (says_rounded a)
 unfolding says_rounded places_of
 place_ends s (Fix visits ps rounded) p h = fix_ends s visits ps rounded
 place_ends s (Grid q rounded) p h = grid_ends s q rounded
 place_ends s (Hold q rounded) p h = hold_ends s q rounded
-place_ends s (Refused number visits) p h = absurd (omega (arith, ap length h))
+place_ends s (Refused r visits) p h = absurd (omega (arith, ap length h))
 
 -- A hold after an answer with one place ends its line as that answer's line ends.
 pub hold_as_before : (s t : List ℕ) (a : RecordAnswer) (p : Place) → places_of a ≡ p ∷ [] → last_bytes 3 (line_of s (hold_of (carried_by a))) ≡ last_bytes 3 (line_of t a)
@@ -98,30 +100,28 @@ hold_as_before s t a p one =
     ∙ sym (place_ends t a p one)
 
 -- An answer printed as a fix or a grid record says what was given to it, and its record is accepted.
-module _ (j : Job) (before : Carried) (rounded : Bool) where
+module _ (j : Job) (before : Option Carried) (rounded : Bool) where
   searched_says : (o : Outcome) → IsOwn (searched rounded o) → says_rounded (searched rounded o) ≡ rounded
-  unfolding searched says_rounded IsOwn
-  searched_says o h = go (eqb (search_figures o.answer).refusal 0) h
+  unfolding fix_with says_rounded IsOwn
+  searched_says o h = go o.answer h
     where
-      go : (t : Bool) →
-          let a = cond t (Fix (search_figures o.answer).visits o.places rounded) (Refused (search_figures o.answer).refusal (search_figures o.answer).visits) in
-          IsOwn a → says_rounded a ≡ rounded
-      go true h = refl
-      go false h = absurd h
+      go : (a : Result Found Unfound) → IsOwn (fix_with rounded o.places a) → says_rounded (fix_with rounded o.places a) ≡ rounded
+      go (Ok found) h = refl
+      go (Err why) h = absurd h
 
-  hold_not_own : (c : Carried) → IsOwn (hold_of c) → ⊥
+  hold_not_own : (c : Option Carried) → IsOwn (hold_of c) → ⊥
   unfolding hold_of IsOwn
-  hold_not_own (carried.Place p r) h = h
-  hold_not_own carried.Nothing h = h
+  hold_not_own (Some held) h = h
+  hold_not_own None h = h
 
-  own_says : (chain : NamedChain) (e : LogEntry) → IsOwn (answer_by j chain before rounded e) →
+  own_says : (chain : Result Chain Refusal) (e : Result LogEntry Refusal) → IsOwn (answer_by j chain before rounded e) →
       (says_rounded (answer_by j chain before rounded e) ≡ rounded) × (is_accepted e ≡ true)
   unfolding answer_by fix_by IsOwn says_rounded is_accepted
-  own_says (named.Chain c) (entry.Readings a b) h = (searched_says _ h, refl)
-  own_says (named.Refused number) (entry.Readings a b) h = absurd h
-  own_says chain (entry.Place p) h = (refl, refl)
-  own_says chain entry.Hold h = absurd (hold_not_own before h)
-  own_says chain (entry.Refused number) h = absurd h
+  own_says (Ok c) (Ok (entry.Readings a b)) h = (searched_says _ h, refl)
+  own_says (Err r) (Ok (entry.Readings a b)) h = absurd h
+  own_says chain (Ok (entry.Place p)) h = (refl, refl)
+  own_says chain (Ok entry.Hold) h = absurd (hold_not_own before h)
+  own_says chain (Err r) h = absurd h
 
 -- Of some numbers none was rounded exactly if each is exact.
 first_and_rest : (m : Mark) (t : Bool) (P : Type 0) → (t ≡ false) ↔ P → ((is_rounded m || t) ≡ false) ↔ ((m ≡ Equal) × P)
@@ -136,7 +136,7 @@ none_rounded [] = ((λ e. tt), (λ e. refl))
 none_rounded (x ∷ xs) = first_and_rest (mark_of x) (any_rounded (map mark_of xs)) (EachExact xs) (none_rounded xs)
 
 -- So a fix or a grid record says that nothing was rounded exactly if each of its numbers is exact.
-own_exact : (j : Job) (table scale : List ℕ) (before : Carried) (s : List ℕ) → IsOwn (answer_of j table scale before s) →
+own_exact : (j : Job) (table scale : List ℕ) (before : Option Carried) (s : List ℕ) → IsOwn (answer_of j table scale before s) →
     (says_rounded (answer_of j table scale before s) ≡ false) ↔ EachExact (numbers_used (log_record_of s))
 unfolding answer_of log_entry_of marks_of
 own_exact j table scale before s own =
@@ -159,7 +159,7 @@ shows_1 true = ((λ e z. subst T z tt), (λ e. refl))
 shows_1 false =
     ((λ e. let z : ◌≡◌ {A = ℕ} 48 49 = ap (λ (l : List ℕ). get_or l 1 0) e in absurd (omega arith)), (λ e. absurd (e refl)))
 
-pub own_field : (j : Job) (table scale : List ℕ) (before : Carried) (s : List ℕ) →
+pub own_field : (j : Job) (table scale : List ℕ) (before : Option Carried) (s : List ℕ) →
     let a = answer_of j table scale before s in
     let exact = EachExact (numbers_used (log_record_of s)) in
     IsOwn a →

@@ -9,12 +9,13 @@ use native.Mathlib.Omega.{arith}
 use native.Mathlib.Nat.{lt_of_not-le, pow-succ'}
 use native.Mathlib.Decide.{dec_le}
 use lib.ListN.{length, length-append}
+use Rattle.std.specs.Prelude.{Some}
 use Rattle.chart.specs.declared.Place.{Place}
 use Rattle.chart.proofs.ChainLaws.{factor_allowed}
 use Rattle.search.specs.declared.Window.{Window}
 use Rattle.search.specs.Windows.{east, north, north_east}
 use Rattle.search.specs.Questions.{Rule, Question, matches}
-use Rattle.search.specs.Walk.{Standing, start}
+use Rattle.search.specs.Walk.{Spent, Standing, start}
 use Rattle.search.specs.Answers.{Outcome, Accepted, search_figures, figures_in}
 use Rattle.search.specs.Cells.{Rises, cells, if_so, those, matching, matching_in, visits_in, IsListed, AmpleRoom}
 use Rattle.search.proofs.WalkLaws.{visit_out}
@@ -50,7 +51,7 @@ rising_once number (p ∷ l) r = (
 
 -- What an accepted search answers, according to how its walk stopped.
 module _ (q : Question) (w : Window) (a : Accepted q.rule w) where
-  stop_10 : (walk q w).stop ≡ 10 → (figures_in q w).refusal ≡ 10
+  stop_10 : (walk q w).stop ≡ Some Spent → (figures_in q w).refusal ≡ 10
   unfolding search_figures
   stop_10 e = ap (λ (o : Outcome). (search_figures o.answer).refusal) (search_walks q w a ∙ ended_out (walk q w) e)
 

@@ -8,11 +8,12 @@ use mathlib.Core.List.{List, [], ◌∷◌}
 use borrow.Author.Tests.{eqb-false}
 use lib.Dec.{leb}
 use lib.ListN.{length}
+use Rattle.std.specs.Prelude.{Ok}
 use Rattle.fields.specs.Choices.{where_so}
 use Rattle.chart.specs.declared.Place.{Place}
 use Rattle.chart.specs.Chains.{is_sound}
 use Rattle.search.specs.declared.Window.{Window}
-use Rattle.search.specs.declared.Answer.TheVariants.{Places, ReadingTooLarge, Unsound, BadWindow, BadTolerance}
+use Rattle.search.specs.declared.Unfound.TheVariants.{ReadingTooLarge, Unsound, BadWindow, BadTolerance}
 use Rattle.search.specs.Windows.{is_window, IsCellIn}
 use Rattle.search.specs.Questions.{Question, most_tolerance, none_too_large, matches}
 use Rattle.search.specs.Answers.{Outcome, refused, gone, ended, search_of, search_figures, figures_in}
@@ -55,8 +56,8 @@ number_by q w = go (none_too_large q.rule.wanted) (is_sound q.rule.chain) (is_wi
 hold : {P Q : Type 0} → P → Q → P ↔ Q
 hold p q = ((λ _. q), (λ _. p))
 
-fail : {P Q : Type 0} → (P → ⊥) → (Q → ⊥) → P ↔ Q
-fail f g = ((λ p. absurd (f p)), (λ q. absurd (g q)))
+pub neither : {P Q : Type 0} → (P → ⊥) → (Q → ⊥) → P ↔ Q
+neither f g = ((λ p. absurd (f p)), (λ q. absurd (g q)))
 
 -- Each number comes exactly if its test fails and the tests before it pass.
 abbrev pub InOrder : Bool → Bool → Bool → Bool → ℕ → Type 0
@@ -70,35 +71,35 @@ first_failure : (a b c d : Bool) (n : ℕ) → NumberBy a b c d n → InOrder a 
 unfolding is_among
 first_failure false b c d n h = (
   hold h refl,
-  fail (λ e. eqb-false 3 5 refl (sym h ∙ e)) (λ t. false≢true t.0),
-  fail (λ e. eqb-false 3 6 refl (sym h ∙ e)) (λ t. false≢true t.0),
-  fail (λ e. eqb-false 3 7 refl (sym h ∙ e)) (λ t. false≢true t.0),
+  neither (λ e. eqb-false 3 5 refl (sym h ∙ e)) (λ t. false≢true t.0),
+  neither (λ e. eqb-false 3 6 refl (sym h ∙ e)) (λ t. false≢true t.0),
+  neither (λ e. eqb-false 3 7 refl (sym h ∙ e)) (λ t. false≢true t.0),
 )
 first_failure true false c d n h = (
-  fail (λ e. eqb-false 5 3 refl (sym h ∙ e)) true≢false,
+  neither (λ e. eqb-false 5 3 refl (sym h ∙ e)) true≢false,
   hold h (refl, refl),
-  fail (λ e. eqb-false 5 6 refl (sym h ∙ e)) (λ t. false≢true t.1),
-  fail (λ e. eqb-false 5 7 refl (sym h ∙ e)) (λ t. false≢true t.1),
+  neither (λ e. eqb-false 5 6 refl (sym h ∙ e)) (λ t. false≢true t.1),
+  neither (λ e. eqb-false 5 7 refl (sym h ∙ e)) (λ t. false≢true t.1),
 )
 first_failure true true false d n h = (
-  fail (λ e. eqb-false 6 3 refl (sym h ∙ e)) true≢false,
-  fail (λ e. eqb-false 6 5 refl (sym h ∙ e)) (λ t. true≢false t.1),
+  neither (λ e. eqb-false 6 3 refl (sym h ∙ e)) true≢false,
+  neither (λ e. eqb-false 6 5 refl (sym h ∙ e)) (λ t. true≢false t.1),
   hold h (refl, refl, refl),
-  fail (λ e. eqb-false 6 7 refl (sym h ∙ e)) (λ t. false≢true t.2),
+  neither (λ e. eqb-false 6 7 refl (sym h ∙ e)) (λ t. false≢true t.2),
 )
 first_failure true true true false n h = (
-  fail (λ e. eqb-false 7 3 refl (sym h ∙ e)) true≢false,
-  fail (λ e. eqb-false 7 5 refl (sym h ∙ e)) (λ t. true≢false t.1),
-  fail (λ e. eqb-false 7 6 refl (sym h ∙ e)) (λ t. true≢false t.2),
+  neither (λ e. eqb-false 7 3 refl (sym h ∙ e)) true≢false,
+  neither (λ e. eqb-false 7 5 refl (sym h ∙ e)) (λ t. true≢false t.1),
+  neither (λ e. eqb-false 7 6 refl (sym h ∙ e)) (λ t. true≢false t.2),
   hold h (refl, refl, refl, refl),
 )
 first_failure true true true true n h =
     let none : (m : ℕ) → is_among m (3 ∷ 5 ∷ 6 ∷ 7 ∷ []) ≡ true → n ≡ m → ⊥ =
     λ m is e. true≢false (sym is ∙ subst (λ (x : ℕ). is_among x (3 ∷ 5 ∷ 6 ∷ 7 ∷ []) ≡ false) e h) in (
-      fail (none 3 refl) true≢false,
-      fail (none 5 refl) (λ t. true≢false t.1),
-      fail (none 6 refl) (λ t. true≢false t.2),
-      fail (none 7 refl) (λ t. true≢false t.3),
+      neither (none 3 refl) true≢false,
+      neither (none 5 refl) (λ t. true≢false t.1),
+      neither (none 6 refl) (λ t. true≢false t.2),
+      neither (none 7 refl) (λ t. true≢false t.3),
     )
 
 module _ (q : Question) (w : Window) where
@@ -109,12 +110,12 @@ module _ (q : Question) (w : Window) where
       (figures_in q w).refusal (number_by q w)
 
   -- A walk that found a cell ended with places.
-  some_gone : (ps : List Place) (v : ℕ) (o : Place) → IsListed o ps → (gone ps v).answer ≡ Places (length ps) v
+  some_gone : (ps : List Place) (v : ℕ) (o : Place) → IsListed o ps → (gone ps v).answer ≡ Ok (record { count = length ps; visits = v })
   some_gone [] v o m = absurd (Memᴰ.not-nil m)
   some_gone (p ∷ ps) v o m = refl
 
   pub found_answered : Enough q w → (o : Place) → IsCellIn w o → matches q.rule o ≡ true →
-      (search_of q w).answer ≡ Places (length (matching_in q.rule w)) (visits_in q.rule w)
+      (search_of q w).answer ≡ Ok (record { count = length (matching_in q.rule w); visits = visits_in q.rule w })
   found_answered e o inside m =
       ap (λ (x : Outcome). x.answer) (ample_complete q w e.accepted e.allowance e.room)
       ∙ some_gone (matching_in q.rule w) (visits_in q.rule w) o (matching_all q.rule w.k w.corner o inside m)

@@ -8,9 +8,11 @@ use native.Mathlib.Omega.{arith}
 use lib.Dec.{leb, eqb}
 use lib.IntN.{ℤ, pos, negsuc, nat_abs}
 use lib.ListN.{length, get_or, get_or-append}
+use Rattle.std.specs.Prelude.{Option, Some, Result, Ok}
+use Rattle.refusals.specs.declared.Refusal.{Refusal}
+use Rattle.refusals.specs.Numbers.{number_told}
 use borrow.Author.Tests.{le-leb, ne_eqb}
 use Rattle.fields.specs.Fields.{bytes_of, field_at}
-use Rattle.metres.specs.declared.Whole.{Whole}
 use Rattle.metres.specs.Metres.{signed, most_centimetres}
 use Rattle.metres.proofs.Back.{way_back}
 use Rattle.chart.specs.declared.Chain.{Chain}
@@ -19,17 +21,12 @@ use Rattle.chart.proofs.PlaceLaws.{and_both}
 use Rattle.search.specs.Windows.{is_window}
 use Rattle.search.specs.Questions.{most_tolerance}
 use Rattle.records.specs.declared.Job.{Job}
-use Rattle.records.specs.declared.JobAnswer.TheVariants as answer
-use Rattle.records.specs.declared.NamedChain.TheVariants as named
-use Rattle.records.specs.declared.LogEntry.{LogEntry}
 use Rattle.records.specs.LogRecords.{log_entry_of}
 use Rattle.records.specs.ChainTables.{one_to, chains_in, is_table, chain_at, raw_chain_of, chain_of, chain_in, is_scale}
 use Rattle.records.specs.Jobs.{job_bytes, job_in, raw_job_of, job_of}
-use Rattle.records.specs.Refusals.{entry_refusal, job_refusal}
-use Rattle.records.proofs.RefusalLaws.{either_kind}
 use Rattle.writing.specs.declared.Draft.{Draft}
 use Rattle.writing.specs.Buffers.{left_in}
-use Rattle.writing.specs.Writing.{refusal_of, used_of, in_metres, buffer_of, raw_for, entry_for}
+use Rattle.writing.specs.Writing.{refusal_of, used_of, in_metres, buffer_of, raw_for}
 use Rattle.writing.specs.ChainWriting.{bytes_of_chain, chain_refusal_of, chain_buffer_of, all_sound, table_of}
 use Rattle.writing.specs.JobWriting.{job_refusal_of, job_buffer_of}
 use Rattle.writing.proofs.Theorems.{reads_back, chains_read_back, job_reads_back, factors_read_back}
@@ -37,9 +34,6 @@ use Rattle.writing.specs.FactorWriting.{scale_of}
 use Rattle.text.specs.Texts.{digits_of, figures_text, spaced, whole_text, numeral, bytes_in}
 use Rattle.text.proofs.Digits.{all_digits, digits_some}
 use Rattle.text.proofs.Digits.{reads_back as digits-back}
-use Rattle.parsing.specs.declared.ParsedJob.TheVariants as parsed-job
-use Rattle.parsing.specs.declared.ParsedChain.TheVariants as parsed-chain
-use Rattle.parsing.specs.declared.ParsedDraft.TheVariants as parsed-draft
 use Rattle.parsing.specs.declared.Form.TheVariants as form
 use Rattle.parsing.specs.declared.Taken.TheVariants as taken
 use Rattle.parsing.specs.Words.{run, word_at, is_passed, no_word}
@@ -63,7 +57,7 @@ unfolding refused_text
 plain_line word fields number s e = rw e
 
 -- A job.
-raw_job_back : (s : List ℕ) (j : Job) → job_of s ≡ answer.Job j → raw_job_of s ≡ answer.Job j
+raw_job_back : (s : List ℕ) (j : Job) → job_of s ≡ Ok j → raw_job_of s ≡ Ok j
 unfolding raw_job_of
 raw_job_back s j e =
     let size = passed (eqb (length s) job_bytes) (λ f. false≢true (cc)) (sym (job_by_tests s) ∙ e) in
@@ -72,18 +66,18 @@ raw_job_back s j e =
     let tolerance = passed (leb (job_in s).tolerance most_tolerance) (λ f. false≢true (cc)) window.1 in
     rw size.0 tolerance.1
 
-module _ (j : Job) (small : j.allowance < 2 ^ 64) (accepted : job_refusal_of 32 j ≡ 0) where
+module _ (j : Job) (small : j.allowance < 2 ^ 64) (accepted : job_refusal_of 32 j ≡ Ok tt) where
   pub job_shown : job_text (job_buffer_of 32 j) ≡ figures_text (job_figures j)
   unfolding job_fields
   job_shown = ap job_fields (raw_job_back (job_buffer_of 32 j) j (job_reads_back j small accepted))
 
   pub job_line_shown : job_line (job_buffer_of 32 j) ≡ bytes_in "JOB" ++ (job_text (job_buffer_of 32 j) ++ bytes_in "\n")
-  unfolding job_line job_refusal
+  unfolding job_line
   job_line_shown =
-      plain_line (bytes_in "JOB") (job_text (job_buffer_of 32 j)) (job_refusal (job_of (job_buffer_of 32 j))) (job_buffer_of 32 j)
-      (ap job_refusal (job_reads_back j small accepted))
+      plain_line (bytes_in "JOB") (job_text (job_buffer_of 32 j)) (number_told (job_of (job_buffer_of 32 j))) (job_buffer_of 32 j)
+      (ap number_told (job_reads_back j small accepted))
 
-  pub job_typed_again : parsed_job (job_text (job_buffer_of 32 j)) ≡ parsed-job.Job j
+  pub job_typed_again : parsed_job (job_text (job_buffer_of 32 j)) ≡ Ok j
   unfolding taken_for words_of
   job_typed_again =
       let ns = job_figures j in
@@ -93,7 +87,7 @@ module _ (j : Job) (small : j.allowance < 2 ^ 64) (accepted : job_refusal_of 32 
       rw (length_at 0, length_at 1, at 2, length_at 3, figures_some ns 4 (omega arith), at 4) in
       ap parsed_job job_shown
       ∙ job_taken 32 (figures_text ns) (figures_form form.Job ns refl each) (ap (job_refusal_of 32) same ∙ accepted)
-      ∙ ap parsed-job.Job same
+      ∙ ap Ok same
     where
       each : (i : ℕ) → i < 5 → is_taken (taken_for form.Job i) (digits_of (get_or (job_figures j) i 0)) ≡ true
       each zero l = digits_length_taken _
@@ -117,7 +111,7 @@ module _ (c : Chain) (sound : is_sound c ≡ true) where
   unfolding table_of
   alone = append-nil (chain_buffer_of 24 c)
 
-  chain_there : chain_of (chain_buffer_of 24 c) (scale_of (c ∷ [])) 1 ≡ named.Chain c
+  chain_there : chain_of (chain_buffer_of 24 c) (scale_of (c ∷ [])) 1 ≡ Ok c
   unfolding all_sound
   chain_there =
       ap (λ (s : List ℕ). chain_of s (scale_of (c ∷ [])) 1) (sym alone)
@@ -127,7 +121,7 @@ module _ (c : Chain) (sound : is_sound c ≡ true) where
   unfolding all_sound
   factor_there = (factors_read_back (c ∷ []) 1 c (and_both sound refl) (omega arith) (omega arith)).1
 
-  raw_chain_back : raw_chain_of (chain_buffer_of 24 c) c.factor ≡ named.Chain c
+  raw_chain_back : raw_chain_of (chain_buffer_of 24 c) c.factor ≡ Ok c
   unfolding chain_of raw_chain_of
   raw_chain_back =
       let s = chain_buffer_of 24 c in
@@ -136,7 +130,7 @@ module _ (c : Chain) (sound : is_sound c ≡ true) where
       let side = passed (is_scale (chains_in s) scale) (λ f. false≢true (cc)) table.1 in
       let one = passed (one_to (chains_in s) 1) (λ f. false≢true (cc)) side.1 in
       let good = passed (is_sound (chain_in s scale 0)) (λ f. false≢true (cc)) one.1 in
-      rw chain_length (ap (λ (f : ℕ). named.Chain (chain_at s 0 f)) (sym factor_there) ∙ good.1)
+      rw chain_length (ap (λ (f : ℕ). Ok (chain_at s 0 f)) (sym factor_there) ∙ good.1)
 
   -- The fields of a chain with its factor.
   abbrev fields : List ℕ
@@ -156,24 +150,24 @@ module _ (c : Chain) (sound : is_sound c ≡ true) where
     unfolding chain_line chain_fields soundness
     chain_line_shown =
         let s = chain_buffer_of 24 c in
-        let read : raw_chain_of s (factor_or scale number) ≡ named.Chain c = ap (raw_chain_of s) factor_is ∙ raw_chain_back in
-        let none : refusal_in scale number s ≡ 0 = ap soundness read ∙ rw sound in
+        let read : raw_chain_of s (factor_or scale number) ≡ Ok c = ap (raw_chain_of s) factor_is ∙ raw_chain_back in
+        let none : refusal_in scale number s ≡ 0 = ap (λ (a : Result Chain Refusal). number_told (soundness a)) read ∙ rw sound in
         plain_line (bytes_in "CHAIN") (chain_text scale number s) (refusal_in scale number s) s none
         ∙ ap (λ (t : List ℕ). bytes_in "CHAIN" ++ (t ++ bytes_in "\n")) (ap (chain_fields scale number) read ∙ factor_last)
         ∙ ap (λ (rest : List ℕ). bytes_in "CHAIN" ++ rest) (append_assoc (spaced number) (figures_text fields) (bytes_in "\n"))
 
-  accepted : chain_refusal_of 24 c ≡ 0
+  accepted : chain_refusal_of 24 c ≡ Ok tt
   unfolding chain_refusal_of
   accepted = rw sound
 
-  pub chain_typed_again : parsed_chain (figures_text fields) ≡ parsed-chain.Chain c
+  pub chain_typed_again : parsed_chain (figures_text fields) ≡ Ok (Some c)
   unfolding taken_for words_of
   chain_typed_again =
       let at = lengths_back fields in
       let same : chain_typed (figures_text fields) ≡ c =
       rw (at 0, at 1, at 2, at 3, at 4, at 5, figures_some fields 6 (omega arith), figures_back fields 6) in
       chain_taken 24 (figures_text fields) (figures_not_passed _ _) (figures_form form.Chain fields refl each) (ap (chain_refusal_of 24) same ∙ accepted)
-      ∙ ap parsed-chain.Chain same
+      ∙ ap (λ (x : Chain). Ok (Some x)) same
     where
       each : (i : ℕ) → i < 7 → is_taken (taken_for form.Chain i) (digits_of (get_or fields i 0)) ≡ true
       each i l = by_place (eqb i 6) refl
@@ -183,7 +177,7 @@ module _ (c : Chain) (sound : is_sound c ≡ true) where
           by_place false e = digits_length_taken _
 
   -- Without the factor: the seventh word is missing.
-  pub chain_typed_short : c.factor ≡ 1_000_000 → parsed_chain (figures_text (station_figures c)) ≡ parsed-chain.Chain c
+  pub chain_typed_short : c.factor ≡ 1_000_000 → parsed_chain (figures_text (station_figures c)) ≡ Ok (Some c)
   unfolding taken_for words_of is_taken
   chain_typed_short one =
       let ns = station_figures c in
@@ -194,7 +188,7 @@ module _ (c : Chain) (sound : is_sound c ≡ true) where
       chain_taken 24 (figures_text ns) (figures_not_passed _ _)
       (ap (is_form form.Chain) (figures_spaced ns) ∙ words_form form.Chain (map digits_of ns) (digits_words ns) (omega arith) each)
       (ap (chain_refusal_of 24) same ∙ accepted)
-      ∙ ap parsed-chain.Chain same
+      ∙ ap (λ (x : Chain). Ok (Some x)) same
     where
       each : (i : ℕ) → i < 7 → is_taken (taken_for form.Chain i) (get_or (map digits_of (station_figures c)) i []) ≡ true
       each zero l = digits_length_taken _
@@ -207,9 +201,9 @@ module _ (c : Chain) (sound : is_sound c ≡ true) where
       each (suc (suc (suc (suc (suc (suc (suc i))))))) l = absurd (omega (arith, l))
 
 -- A chain that the writer accepts is sound.
-pub chain_accepted_sound : (c : Chain) → chain_refusal_of 24 c ≡ 0 → is_sound c ≡ true
+pub chain_accepted_sound : (c : Chain) → chain_refusal_of 24 c ≡ Ok tt → is_sound c ≡ true
 unfolding chain_refusal_of
-chain_accepted_sound c e = (passed (is_sound c) (λ f. omega arith) e).0
+chain_accepted_sound c e = (passed (is_sound c) (λ f. false≢true (cc)) e).0
 
 -- A reading as it may be typed: a word that says it.
 pub record Says (w : List ℕ) (z : ℤ) : Type 0 where
@@ -321,7 +315,7 @@ module _ (d : Draft) (x y : List ℕ) (says-x : Says x d.x) (says_y : Says y d.y
 -- A number of centimetres that was written is shown as it was.
 centimetres_shown : (z : ℤ) → nat_abs z ≤ most_centimetres → centimetres_text (in_metres z) ≡ spaced_words (whole_text z ∷ [])
 unfolding whole_or
-centimetres_shown z h = ap (λ (a : Whole). 32 ∷ whole_or a) (way_back z h) ∙ spaced_one (whole_text z)
+centimetres_shown z h = ap (λ (a : Option ℤ). 32 ∷ whole_or a) (way_back z h) ∙ spaced_one (whole_text z)
 
 raw_shown : (d : Draft) → nat_abs d.x ≤ most_centimetres → nat_abs d.y ≤ most_centimetres →
     raw_text (raw_for d) ≡ spaced_words (draft_words d (whole_text d.x) (whole_text d.y))
@@ -331,7 +325,7 @@ raw_shown d x y =
     ap₂ ◌++◌ (figures_spaced ns) (two ∙ spaced_both (whole_text d.x ∷ []) (whole_text d.y ∷ []))
     ∙ spaced_both (map digits_of ns) (whole_text d.x ∷ whole_text d.y ∷ [])
 
-module _ (d : Draft) (small : d.line < 2 ^ 32) (accepted : refusal_of 32 d ≡ 0) where
+module _ (d : Draft) (small : d.line < 2 ^ 32) (accepted : refusal_of 32 d ≡ Ok tt) where
   record_shown : record_text (buffer_of 32 d) ≡ spaced_words (draft_words (used_of d) (whole_text (used_of d).x) (whole_text (used_of d).y))
   unfolding raw_fields
   record_shown =
@@ -339,27 +333,25 @@ module _ (d : Draft) (small : d.line < 2 ^ 32) (accepted : refusal_of 32 d ≡ 0
       ap raw_fields (reads_back d small accepted).raw ∙ raw_shown (used_of d) fit.0 fit.1
 
   pub record_line_shown : record_line (buffer_of 32 d) ≡ bytes_in "LOG" ++ (record_text (buffer_of 32 d) ++ bytes_in "\n")
-  unfolding record_line entry_refusal entry_for
+  unfolding record_line
   record_line_shown =
-      let none : (e : LogEntry) → Type 0 = λ e. entry_refusal e ≡ 0 in
-      plain_line (bytes_in "LOG") (record_text (buffer_of 32 d)) (entry_refusal (log_entry_of (buffer_of 32 d))) (buffer_of 32 d)
-      (ap entry_refusal (reads_back d small accepted).entry
-      ∙ either_kind none (eqb (used_of d).kind 1) refl (either_kind none (eqb (used_of d).kind 2) refl refl))
+      plain_line (bytes_in "LOG") (record_text (buffer_of 32 d)) (number_told (log_entry_of (buffer_of 32 d))) (buffer_of 32 d)
+      (ap number_told (reads_back d small accepted).entry)
 
   -- Three numbers and two words that say the readings that the kind uses, typed, give back what was written.
   said_again : (x y : List ℕ) → Says x (used_of d).x → Says y (used_of d).y →
-      parsed_draft (spaced_words (draft_words (used_of d) x y)) ≡ parsed-draft.Draft (used_of d)
+      parsed_draft (spaced_words (draft_words (used_of d) x y)) ≡ Ok (Some (used_of d))
   said_again x y says-x says_y =
       let line : (used_of d).line < 2 ^ 32 = unfold used_of in small in
       draft_taken 32 (spaced_words (draft_words (used_of d) x y)) d (draft_said (used_of d) x y says-x says_y)
       (is_draft (used_of d) x y says-x says_y line) (same_draft (used_of d) x y says-x says_y) accepted
 
   -- The same record with its readings in metres.
-  pub metres_typed_again : parsed_draft (spaced_words (draft_words (used_of d) (metres_text (used_of d).x) (metres_text (used_of d).y))) ≡ parsed-draft.Draft (used_of d)
+  pub metres_typed_again : parsed_draft (spaced_words (draft_words (used_of d) (metres_text (used_of d).x) (metres_text (used_of d).y))) ≡ Ok (Some (used_of d))
   metres_typed_again =
       said_again (metres_text (used_of d).x) (metres_text (used_of d).y) (metres_says (used_of d).x) (metres_says (used_of d).y)
 
-  pub metres_line_lem : parsed_draft (figures_text ((used_of d).kind ∷ (used_of d).chain ∷ (used_of d).line ∷ []) ++ ((32 ∷ metres_text (used_of d).x) ++ (32 ∷ metres_text (used_of d).y))) ≡ parsed-draft.Draft (used_of d)
+  pub metres_line_lem : parsed_draft (figures_text ((used_of d).kind ∷ (used_of d).chain ∷ (used_of d).line ∷ []) ++ ((32 ∷ metres_text (used_of d).x) ++ (32 ∷ metres_text (used_of d).y))) ≡ Ok (Some (used_of d))
   metres_line_lem =
       let used = used_of d in
       let ns = used.kind ∷ used.chain ∷ used.line ∷ [] in
@@ -370,7 +362,7 @@ module _ (d : Draft) (small : d.line < 2 ^ 32) (accepted : refusal_of 32 d ≡ 0
       ∙ spaced_both (map digits_of ns) (x ∷ y ∷ []))
       ∙ metres_typed_again
 
-  pub record_typed_again : parsed_draft (record_text (buffer_of 32 d)) ≡ parsed-draft.Draft (used_of d)
+  pub record_typed_again : parsed_draft (record_text (buffer_of 32 d)) ≡ Ok (Some (used_of d))
   record_typed_again =
       ap parsed_draft record_shown
       ∙ said_again (whole_text (used_of d).x) (whole_text (used_of d).y) (whole_says (used_of d).x) (whole_says (used_of d).y)

@@ -1,10 +1,12 @@
 -- What the answers to the question how many places there are mean (02, A2).
-use Rattle.std.specs.Prelude.{ℕ, ◌≤◌, ◌<◌, ◌≡◌, ◌↔◌, true, false, [], ◌∷◌, length}
+use Rattle.std.specs.Prelude.{ℕ, ◌≤◌, ◌<◌, ◌≡◌, ◌↔◌, true, false, [], ◌∷◌, length, Result, Ok, Err}
+use Rattle.refusals.specs.Numbers.{refusal_number}
 use Rattle.chart.specs.declared.Place.{Place}
 use Rattle.search.specs.declared.Window.{Window}
-use Rattle.search.specs.declared.Answer.TheVariants as answer
+use Rattle.search.specs.declared.Unfound.TheVariants as unfound
 use Rattle.search.specs.declared.HowMany.{HowMany}
 use Rattle.search.specs.declared.HowMany.TheVariants as many
+use Rattle.search.specs.declared.Stopped.{Stopped}
 use Rattle.search.specs.Windows.{IsCellIn}
 use Rattle.search.specs.Questions.{Rule, Question, matches}
 use Rattle.search.specs.Answers.{Outcome, Accepted, figures_in}
@@ -24,17 +26,18 @@ pub record AreFirstTwo (rule : Rule) (w : Window) (p o : Place) : Type 0 where
 -- Several: there is a second matching cell, and the visits are those up to and with it.
 -- Refused: with 3, 5, 6 or 7, and without a visit; or with 10. Then the tests pass, the allowance is smaller than the visits that
 -- decide, and all of it was used.
-unfoldable pub Means : Rule → Window → ℕ → HowMany → Type 0
-Means rule w allowance (many.None visits) =
+unfoldable pub Means : Rule → Window → ℕ → Result HowMany Stopped → Type 0
+Means rule w allowance (Ok (many.None visits)) =
     ((o : Place) → IsCellIn w o → matches rule o ≡ false) × (visits ≡ visits_in rule w)
-Means rule w allowance (many.One p visits) =
+Means rule w allowance (Ok (many.One p visits)) =
     IsMatch rule w p × ((o : Place) → IsMatch rule w o → o ≡ p) × (visits ≡ visits_in rule w)
-Means rule w allowance (many.Several visits) =
+Means rule w allowance (Ok (many.Several visits)) =
     (p : Place) × (o : Place) × AreFirstTwo rule w p o × (visits ≡ visits_to rule w.k w.corner o)
-Means rule w allowance (many.Refused number visits) =
+Means rule w allowance (Err s) =
+    let number = refusal_number s.refusal in
     (is_among number (3 ∷ 5 ∷ 6 ∷ 7 ∷ 10 ∷ []) ≡ true)
-    × ((number ≡ 10 → ⊥) → visits ≡ 0)
-    × (number ≡ 10 → Accepted rule w × (allowance < deciding_visits rule w (matching_in rule w)) × (visits ≡ allowance))
+    × ((number ≡ 10 → ⊥) → s.visits ≡ 0)
+    × (number ≡ 10 → Accepted rule w × (allowance < deciding_visits rule w (matching_in rule w)) × (s.visits ≡ allowance))
 
 -- A search that answers: with places, or with 8, "no fix".
 abbrev pub IsAnswered : Question → Window → Type 0
@@ -42,8 +45,8 @@ IsAnswered q w = NoneOr (8 ∷ []) (figures_in q w).refusal
 
 -- The question agrees with a search: none and 8, with the same visits; one and a list of that one place, with the same visits;
 -- several and a longer list.
-abbrev pub Agrees : HowMany → Outcome → Type 0
+abbrev pub Agrees : Result HowMany Stopped → Outcome → Type 0
 Agrees m found =
-    ((v : ℕ) → (m ≡ many.None v) ↔ (found.answer ≡ answer.NoMatch v))
-    × ((p : Place) (v : ℕ) → (m ≡ many.One p v) ↔ (found ≡ record { answer = answer.Places 1 v; places = p ∷ [] }))
-    × (((v : ℕ) × (m ≡ many.Several v)) ↔ (2 ≤ length found.places))
+    ((v : ℕ) → (m ≡ Ok (many.None v)) ↔ (found.answer ≡ Err (unfound.NoMatch v)))
+    × ((p : Place) (v : ℕ) → (m ≡ Ok (many.One p v)) ↔ (found ≡ record { answer = Ok (record { count = 1; visits = v }); places = p ∷ [] }))
+    × (((v : ℕ) × (m ≡ Ok (many.Several v))) ↔ (2 ≤ length found.places))

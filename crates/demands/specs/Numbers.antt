@@ -1,41 +1,35 @@
 -- Terms in which demand 1 is stated: the refusal number in an answer, 0 for none (01, Numbers of refusal), and all that a
 -- search leaves in its figures and its list.
-use Rattle.std.specs.Prelude.{ℕ, ◌≤◌, ◌≡◌, true, List, [], ◌∷◌, replicate}
+use Rattle.std.specs.Prelude.{ℕ, ◌≤◌, ◌≡◌, true, List, [], ◌∷◌, replicate, Result, Ok, Err}
+use Rattle.refusals.specs.Numbers.{refusal_number}
 use Rattle.chart.specs.Places.{place_of}
 use Rattle.search.specs.declared.Window.{Window}
 use Rattle.search.specs.declared.HowMany.{HowMany}
 use Rattle.search.specs.declared.HowMany.TheVariants as many
+use Rattle.search.specs.declared.Stopped.{Stopped}
 use Rattle.search.specs.Questions.{Question}
 use Rattle.search.specs.Answers.{search_of, list_of, figures_in}
 use Rattle.records.specs.Refusals.{is_among}
-use Rattle.listing.specs.declared.Listed.{Listed}
-use Rattle.listing.specs.declared.Listed.TheVariants as listed
 use Rattle.lay.specs.Figures.{SearchTold, many_figures}
 use Rattle.listing.specs.Answers.{RecordAnswer, Fix, Grid, Hold, Refused}
 
--- The refusal number in the answer to a record of a log, and in the answer to a listing.
+-- The refusal number in the answer to a record of a log.
 unfoldable pub record_refusal : RecordAnswer → ℕ
 record_refusal (Fix visits places rounded) = 0
 record_refusal (Grid p rounded) = 0
 record_refusal (Hold p rounded) = 0
-record_refusal (Refused number visits) = number
-
-unfoldable pub listed_refusal : Listed → ℕ
-listed_refusal (listed.Text bytes carried) = 0
-listed_refusal (listed.Refused number) = number
+record_refusal (Refused refusal visits) = refusal_number refusal
 
 -- The same in the answer to the question how many places there are, and its visits.
-unfoldable pub many_refusal : HowMany → ℕ
-many_refusal (many.None visits) = 0
-many_refusal (many.One p visits) = 0
-many_refusal (many.Several visits) = 0
-many_refusal (many.Refused number visits) = number
+unfoldable pub many_refusal : Result HowMany Stopped → ℕ
+many_refusal (Ok m) = 0
+many_refusal (Err s) = refusal_number s.refusal
 
-unfoldable pub many_visits : HowMany → ℕ
-many_visits (many.None visits) = visits
-many_visits (many.One p visits) = visits
-many_visits (many.Several visits) = visits
-many_visits (many.Refused number visits) = visits
+unfoldable pub many_visits : Result HowMany Stopped → ℕ
+many_visits (Ok (many.None visits)) = visits
+many_visits (Ok (many.One p visits)) = visits
+many_visits (Ok (many.Several visits)) = visits
+many_visits (Err s) = s.visits
 
 -- n is 0, which means no refusal, or one of `numbers`.
 abbrev pub NoneOr : List ℕ → ℕ → Type 0
@@ -73,7 +67,7 @@ SearchIsTold entries t =
 abbrev pub many_numbers : List ℕ
 many_numbers = 1 ∷ 2 ∷ 3 ∷ 5 ∷ 6 ∷ 7 ∷ 10 ∷ []
 
-abbrev pub ManyIsTold : HowMany → Type 0
+abbrev pub ManyIsTold : Result HowMany Stopped → Type 0
 ManyIsTold m =
     let f = many_figures m in
     NoneOr many_numbers f.refusal

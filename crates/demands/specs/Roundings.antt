@@ -14,7 +14,7 @@ unfoldable pub IsOwn : RecordAnswer → Type 0
 IsOwn (Fix visits places rounded) = Unit
 IsOwn (Grid p rounded) = Unit
 IsOwn (Hold p rounded) = ⊥
-IsOwn (Refused number visits) = ⊥
+IsOwn (Refused refusal visits) = ⊥
 
 -- The last n bytes of a text.
 abbrev pub last_bytes : ℕ → List ℕ → List ℕ
