@@ -130,7 +130,8 @@ fn range(c: Chain, p: Place, station: Place) -> u64
     on_ground(c.factor, distance(p, station))
 }
 
-// How long a distance of the grid is on the ground.
+// How long a distance of the grid is on the ground. `search` has its own: shared, it would be public, which asks nothing of callers, and
+// so test the factor and the distance at every visit; and a fault of each crate is in its own.
 #[tactic(auto, using(crate::proofs::GroundLaws::factor_some, crate::proofs::GroundLaws::ground_small), unfolding(crate::specs::Factors::on_ground))]
 fn on_ground(factor: u32, d: u64) -> u64
     requires { (is_factor factor ≡ true) × (d < 2 ^ 30) }

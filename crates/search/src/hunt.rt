@@ -19,7 +19,8 @@ pub struct Wish {
     pub ghost below_small: { below ≤ most_reading },
 }
 
-// What a walk uses at every visit. It stays the same during the walk.
+// What a walk uses at every visit. It stays the same during the walk. That the list has the room is no ghost field: the list is lent
+// anew to each visit, and a struct that held it would be built again each time.
 #[derive(Clone, Copy)]
 pub struct Hunt {
     pub factor: u64,

@@ -232,6 +232,7 @@ fn said_for(a: Result<Found, Unfound>, first: Place) -> Result<HowMany, Stopped>
     }
 }
 
+// A refusal without a visit. (A fault is in this function by name.)
 fn unvisited(refusal: Refusal) -> Result<HowMany, Stopped>
     ensures { result ≡ stopped_with refusal 0 }
 {
@@ -274,7 +275,8 @@ fn side_of(k: u32) -> u32
     1u32 << k
 }
 
-// The place d farther east; d farther north; d farther both ways.
+// The place d farther east; d farther north; d farther both ways. Each is the definition of its name, in one step: one function with two
+// distances would take a 0 at two of its three calls.
 fn east(p: Place, d: u32) -> Place
     requires { p.easting + d < 2 ^ 32 }
     ensures { result ≡ windows.east d p }
@@ -448,7 +450,7 @@ fn least_for(factor: u64, r: u64) -> u64
     (r * factor + (UNIT_FACTOR - 1)) / UNIT_FACTOR
 }
 
-// How long a distance of the grid is on the ground.
+// How long a distance of the grid is on the ground, as in `chart`: its function says why there are two.
 #[tactic(auto, using(chart::proofs::GroundLaws::factor_some, chart::proofs::GroundLaws::ground_small), unfolding(chart::specs::Factors::on_ground))]
 fn on_ground(factor: u64, d: u64) -> u64
     requires { (is_factor factor ≡ true) × (d < 2 ^ 30) }
@@ -457,7 +459,7 @@ fn on_ground(factor: u64, d: u64) -> u64
     d * UNIT_FACTOR / factor
 }
 
-// The distance of p from a station, computed from a guess of it.
+// The distance of p from a station, computed from a guess of it: in a walk that takes a step or two where `chart` begins anew.
 #[tactic(auto, using(squares::proofs::RootLaws::root_at_most), unfolding(chart::specs::Places::distance_of))]
 fn distance(p: Place, station: Place, guess: u64) -> u64
     requires { (in_range p ≡ true) × (in_range station ≡ true) }
