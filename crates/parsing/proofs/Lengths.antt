@@ -6,7 +6,7 @@ use mathlib.Core.List.{List, [], ◌∷◌, ◌++◌, append_assoc}
 use native.Mathlib.Omega.{arith}
 use borrow.Author.Tests.{leb-true, eqb-true, ne_eqb}
 use lib.Dec.{leb, eqb}
-use lib.ListN.{length, get_or, take, drop, length-append, length-drop}
+use lib.ListN.{length, get_or, drop, length-append, length-drop}
 use lib.Seq.{take_at, drop_at, get_or_at, length-take-le}
 use Rattle.std.specs.Prelude.{Some, None}
 use Rattle.chart.proofs.PlaceLaws.{both, and_both}
@@ -47,13 +47,6 @@ plain_says w h = rw h
 
 pub number_says : (w : List ℕ) → is_number w ≡ true → centimetres_in w ≡ numeral w
 number_says w h = plain_says w (number_no_metres w h)
-
--- A word of fewer than four bytes is not metres.
-pub short_no_metres : (w : List ℕ) → length w < 4 → is_metres w ≡ false
-unfolding run
-short_no_metres w h =
-    let none : length w - 3 ≡ 0 = omega (arith, h) in
-    ap (λ (n : ℕ). is_number (take n w) && (eqb (get_or w (length w - 3) 0) 46 && is_number (after_point w))) none
 
 -- Metres have at least four bytes, and two after the point.
 pub metres_long : (w : List ℕ) → is_metres w ≡ true → 4 ≤ length w

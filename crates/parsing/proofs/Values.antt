@@ -9,9 +9,9 @@ use borrow.Author.Tests.{ltb-false, lt-ltb, le-ltb}
 use lib.Dec.{ltb}
 use lib.ListN.{length, get_or, drop, drop_of_length-le}
 use lib.Seq.{drop-cons}
-use Rattle.std.specs.Prelude.{cond, Option, Some, None, is_some}
+use Rattle.std.specs.Prelude.{Option, Some, None}
 use Rattle.text.specs.Texts.{numeral_from}
-use Rattle.parsing.specs.Numbers.{fits, held}
+use Rattle.parsing.specs.Numbers.{held}
 use Rattle.parsing.specs.Scanning.{sized_of, held_to, held_in}
 
 -- The value after one more digit, and after the last.
@@ -70,11 +70,3 @@ pub held_within : (most : ℕ) (n : Option ℕ) → held_to most n ≤ most
 unfolding held_to
 held_within most (Some n) = omega arith
 held_within most None = omega arith
-
--- Whether it is given, and whether it is given and fits in 32 bits.
-pub some_sized : (n : ℕ) → is_some (sized_of n) ≡ fits 64 n
-some_sized n = go (ltb n (2 ^ 64))
-  where
-    go : (t : Bool) → is_some (cond t (Some n) None) ≡ t
-    go true = refl
-    go false = refl
