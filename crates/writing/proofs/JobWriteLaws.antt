@@ -4,7 +4,7 @@ use mathlib.Core.Path.{◌≡◌, refl}
 use mathlib.Core.Bool.{true}
 use native.Mathlib.Omega.{arith}
 use lib.Dec.{leb, eqb}
-use lib.ListN.{length, set, replicate}
+use lib.ListN.{set, replicate}
 use borrow.Author.Tests.{eqb-true, eq-eqb, le-leb, leb-true}
 use Rattle.std.specs.Prelude.{Ok}
 use Rattle.fields.specs.Fields.{bytes_of, put_at}
@@ -39,11 +39,6 @@ small_k j w = omega (arith, (window_says j.window w).0)
 pub fields_together : (j : Job) → put_at 8 (put_at 4 (set (put_place_at (replicate job_bytes 0) 0 j.window.corner) 8 j.window.k) 12 j.tolerance) 16 j.allowance ≡ bytes_of_job j
 unfolding put_at bytes_of bytes_of_job
 fields_together j = refl
-
--- A job has 32 bytes.
-pub job_length : (j : Job) → length (bytes_of_job j) ≡ job_bytes
-unfolding bytes_of_job bytes_of
-job_length j = refl
 
 -- What a buffer holds after a job that was not refused, and after one that was.
 pub job_written : (bytes : ℕ) (j : Job) → job_refusal_of bytes j ≡ Ok tt → job_buffer_of bytes j ≡ bytes_of_job j
