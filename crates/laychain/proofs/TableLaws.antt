@@ -1,8 +1,10 @@
 -- A chain put after those that are in the table makes one more; and the chains counted at the end are in the table.
-use Rattle.std.proofs.Common.{◌≡◌, ℕ, ◌+◌, ◌-◌, ◌*◌, ◌<◌, ◌≤◌, Bool, true, false, cond, eqb, ltb, List, [], ◌∷◌, ◌++◌, length, take, drop, sym, refl, ap, ◌∙◌, ap₂, append_assoc, append-nil, arith, length-append, ltb-true, le-ltb, lt-ltb, eqb-true}
+use Rattle.std.proofs.Common.{◌≡◌, ℕ, ◌+◌, ◌-◌, ◌*◌, ◌<◌, ◌≤◌, Bool, true, false, cond, ltb, List, [], ◌∷◌, ◌++◌, length, take, drop, Option, Some, None, Result, Ok, Err, sym, refl, ap, ◌∙◌, ap₂, append_assoc, append-nil, arith, length-append, ltb-true, le-ltb, lt-ltb}
 use mathlib.Core.Bool.{false≢true}
 use mathlib.Core.Path.{subst⁻¹}
 use borrow.Rule.Slice.PartMut.{put_mid, Post-is}
+use Rattle.refusals.specs.declared.Refusal.{Refusal}
+use Rattle.refusals.specs.declared.Refusal.TheVariants as refusal
 use Rattle.chart.specs.declared.Chain.{Chain}
 use Rattle.chart.specs.Chains.{is_sound}
 use Rattle.chart.proofs.PlaceLaws.{both, and_both}
@@ -14,8 +16,6 @@ use Rattle.writing.proofs.ChainWriteLaws.{chain_same_length}
 use Rattle.writing.proofs.FactorWriteLaws.{factor_same_length}
 use Rattle.text.specs.Puts.{Put, end_after, with_text}
 use Rattle.text.proofs.PutLaws.{put_front, put_from, put_promised, nothing_promised}
-use Rattle.parsing.specs.declared.ParsedChain.{ParsedChain}
-use Rattle.parsing.specs.declared.ParsedChain.TheVariants as parsed
 use Rattle.laychain.specs.declared.Verdict.{Verdict}
 use Rattle.laychain.specs.declared.Verdict.TheVariants as verdict
 use Rattle.laychain.specs.Tables.{verdict_of, line_verdict, table_with, scale_with, chains_after, is_well, HoldsChains}
@@ -43,29 +43,30 @@ sound_behind (x ∷ cs) c all one =
     and_both p.0 (sound_behind cs c p.1 one)
 
 -- A chain that is not refused has a place in the table, and is sound.
-not_refused : (number : ℕ) → is_well (verdict_of number) ≡ true → number ≡ 0
+not_refused : (written : Result (Unit {0}) Refusal) → is_well (verdict_of written) ≡ true → written ≡ Ok tt
 unfolding verdict_of is_well
-not_refused number e = go (eqb number 0) refl e
-  where
-    go : (t : Bool) → eqb number 0 ≡ t → is_well (cond t verdict.Chain (verdict.Refused number)) ≡ true → number ≡ 0
-    go true same e = eqb-true number 0 same
-    go false same e = absurd (false≢true e)
+not_refused (Ok tt) e = refl
+not_refused (Err why) e = absurd (false≢true e)
 
-has_place : (before : ℕ) (c : Chain) → is_well (line_verdict before (parsed.Chain c)) ≡ true → (before < most_chains) × (chain_refusal_of chain_bytes c ≡ 0)
+-- A refusal is no success.
+apart : (why : Refusal) → ◌≡◌ {A = Result (Unit {0}) Refusal} (Err why) (Ok tt) → ⊥
+apart why e = false≢true (cc)
+
+has_place : (before : ℕ) (c : Chain) → is_well (line_verdict before (Ok (Some c))) ≡ true → (before < most_chains) × (chain_refusal_of chain_bytes c ≡ Ok tt)
 unfolding line_verdict
-has_place before c e = go (ltb before most_chains) refl (not_refused (unless (ltb before most_chains) 1 (chain_refusal_of chain_bytes c)) e)
+has_place before c e = go (ltb before most_chains) refl (not_refused (unless (ltb before most_chains) (Err refusal.Length) (chain_refusal_of chain_bytes c)) e)
   where
-    go : (t : Bool) → ltb before most_chains ≡ t → unless t 1 (chain_refusal_of chain_bytes c) ≡ 0 → (before < most_chains) × (chain_refusal_of chain_bytes c ≡ 0)
+    go : (t : Bool) → ltb before most_chains ≡ t → unless t (Err refusal.Length) (chain_refusal_of chain_bytes c) ≡ Ok tt → (before < most_chains) × (chain_refusal_of chain_bytes c ≡ Ok tt)
     go true room e = (ltb-true before most_chains room, e)
-    go false room e = absurd (omega arith)
+    go false room e = absurd (apart refusal.Length e)
 
-is_sound_lem : (c : Chain) → chain_refusal_of chain_bytes c ≡ 0 → is_sound c ≡ true
+is_sound_lem : (c : Chain) → chain_refusal_of chain_bytes c ≡ Ok tt → is_sound c ≡ true
 unfolding chain_refusal_of
 is_sound_lem c e = go (is_sound c) e
   where
-    go : (t : Bool) → ◌≡◌ {A = ℕ} (unless t 5 0) 0 → t ≡ true
+    go : (t : Bool) → ◌≡◌ {A = Result (Unit {0}) Refusal} (unless t (Err refusal.Chain) (Ok tt)) (Ok tt) → t ≡ true
     go true e = refl
-    go false e = absurd (omega arith)
+    go false e = absurd (apart refusal.Chain e)
 
 -- A text that is put into its own part of some bytes, from `at` on.
 placed_in : (s : List ℕ) (at width : ℕ) (text written : List ℕ) → at + width ≤ length s → length text ≡ width → written ≡ text →
@@ -84,24 +85,24 @@ placed_in s at width text written fits long made =
 
 -- The answer, the table and the side file if there is no place for a chain, and if there is one.
 pub no_place : (table scale : List ℕ) (before : ℕ) (c : Chain) → length table ≡ chain_bytes * most_chains → length scale ≡ factor_bytes * most_chains → most_chains ≤ before →
-    (verdict.Refused 1 ≡ line_verdict before (parsed.Chain c)) × ((table ≡ table_with table before (parsed.Chain c)) × (scale ≡ scale_with scale before (parsed.Chain c)))
+    (verdict.Refused refusal.Length ≡ line_verdict before (Ok (Some c))) × ((table ≡ table_with table before (Ok (Some c))) × (scale ≡ scale_with scale before (Ok (Some c))))
 unfolding line_verdict verdict_of
 no_place table scale before c size side many =
     let none : ltb before most_chains ≡ false = le-ltb before most_chains many in (
-      ap (λ (t : Bool). verdict_of (unless t 1 (chain_refusal_of chain_bytes c))) (sym none),
+      ap (λ (t : Bool). verdict_of (unless t (Err refusal.Length) (chain_refusal_of chain_bytes c))) (sym none),
       (
         (nothing_promised table (chain_bytes * before) (chain_buffer_of chain_bytes c) (omega (arith, chain_same_length chain_bytes c))).1,
         (nothing_promised scale (factor_bytes * before) (factor_buffer_of factor_bytes c.factor) (omega (arith, factor_same_length factor_bytes c.factor))).1,
       ),
     )
 
-pub chain_placed : (table : List ℕ) (before : ℕ) (c : Chain) (bytes r : ℕ) (written : List ℕ) → length table ≡ chain_bytes * most_chains → before < most_chains →
+pub chain_placed : (table : List ℕ) (before : ℕ) (c : Chain) (bytes : ℕ) (r : Result (Unit {0}) Refusal) (written : List ℕ) → length table ≡ chain_bytes * most_chains → before < most_chains →
     bytes ≡ chain_bytes → r ≡ chain_refusal_of bytes c → written ≡ chain_buffer_of bytes c →
-    (verdict_of r ≡ line_verdict before (parsed.Chain c)) × (put_mid (chain_bytes * before) (chain_bytes * before + chain_bytes - chain_bytes * before) table written ≡ table_with table before (parsed.Chain c))
+    (verdict_of r ≡ line_verdict before (Ok (Some c))) × (put_mid (chain_bytes * before) (chain_bytes * before + chain_bytes - chain_bytes * before) table written ≡ table_with table before (Ok (Some c)))
 unfolding line_verdict
 chain_placed table before c bytes r written size few same answer made =
     let room : ltb before most_chains ≡ true = lt-ltb before most_chains few in (
-      ap verdict_of (answer ∙ ap (λ (n : ℕ). chain_refusal_of n c) same ∙ ap (λ (t : Bool). unless t 1 (chain_refusal_of chain_bytes c)) (sym room)),
+      ap verdict_of (answer ∙ ap (λ (n : ℕ). chain_refusal_of n c) same ∙ ap (λ (t : Bool). unless t (Err refusal.Length) (chain_refusal_of chain_bytes c)) (sym room)),
       placed_in table (chain_bytes * before) chain_bytes (chain_buffer_of chain_bytes c) written (omega (arith, size, few)) (chain_same_length chain_bytes c) (made ∙ ap (λ (n : ℕ). chain_buffer_of n c) same),
     )
 
@@ -123,7 +124,7 @@ unfolding all_sound table_of scale_of
 no_chains table scale = record { few = omega arith; chains = []; size = refl; sound = refl; bytes = refl; factors = refl }
 
 one_more : (table scale now side : List ℕ) (before : ℕ) (c : Chain) → length table ≡ chain_bytes * most_chains → length scale ≡ factor_bytes * most_chains → HoldsChains table scale before →
-    is_well (line_verdict before (parsed.Chain c)) ≡ true → now ≡ table_with table before (parsed.Chain c) → side ≡ scale_with scale before (parsed.Chain c) → HoldsChains now side (before + 1)
+    is_well (line_verdict before (Ok (Some c))) ≡ true → now ≡ table_with table before (Ok (Some c)) → side ≡ scale_with scale before (Ok (Some c)) → HoldsChains now side (before + 1)
 one_more table scale now side before c size wide held accepted same beside =
     let place = has_place before c accepted in
     let written = chain_buffer_of chain_bytes c in
@@ -146,25 +147,22 @@ one_more table scale now side before c size wide held accepted same beside =
     }
 
 -- So it holds the chains of all lines with chains after one more line that is not refused.
-is_chain : (before : ℕ) (c : Chain) → is_well (line_verdict before (parsed.Chain c)) ≡ true → line_verdict before (parsed.Chain c) ≡ verdict.Chain
+is_chain : (before : ℕ) (c : Chain) → is_well (line_verdict before (Ok (Some c))) ≡ true → line_verdict before (Ok (Some c)) ≡ verdict.Chain
 unfolding line_verdict verdict_of is_well
-is_chain before c e = go (eqb (unless (ltb before most_chains) 1 (chain_refusal_of chain_bytes c)) 0) e
+is_chain before c e = go (unless (ltb before most_chains) (Err refusal.Length) (chain_refusal_of chain_bytes c)) e
   where
-    number : ℕ
-    number = unless (ltb before most_chains) 1 (chain_refusal_of chain_bytes c)
+    go : (written : Result (Unit {0}) Refusal) → is_well (verdict_of written) ≡ true → verdict_of written ≡ verdict.Chain
+    go (Ok tt) e = refl
+    go (Err why) e = absurd (false≢true e)
 
-    go : (t : Bool) → is_well (cond t verdict.Chain (verdict.Refused number)) ≡ true → cond t verdict.Chain (verdict.Refused number) ≡ verdict.Chain
-    go true e = refl
-    go false e = absurd (false≢true e)
-
-pub one_more_line : (table scale now side : List ℕ) (t : ParsedChain) (before : ℕ) → length table ≡ chain_bytes * most_chains → length scale ≡ factor_bytes * most_chains → HoldsChains table scale before →
+pub one_more_line : (table scale now side : List ℕ) (t : Result (Option Chain) Refusal) (before : ℕ) → length table ≡ chain_bytes * most_chains → length scale ≡ factor_bytes * most_chains → HoldsChains table scale before →
     is_well (line_verdict before t) ≡ true → now ≡ table_with table before t → side ≡ scale_with scale before t → HoldsChains now side (chains_after before (line_verdict before t))
 unfolding chains_after
-one_more_line table scale now side (parsed.Chain c) before size wide held e same beside =
+one_more_line table scale now side (Ok (Some c)) before size wide held e same beside =
     subst⁻¹ (λ (v : Verdict). HoldsChains now side (chains_after before v)) (is_chain before c e) (one_more table scale now side before c size wide held e same beside)
-one_more_line table scale now side parsed.Passed before size wide held e same beside =
+one_more_line table scale now side (Ok None) before size wide held e same beside =
     unfold line_verdict in subst⁻¹ (λ (l : List ℕ). HoldsChains l side before) same (subst⁻¹ (λ (l : List ℕ). HoldsChains table l before) beside held)
-one_more_line table scale now side (parsed.Refused number) before size wide held e same beside = unfold line_verdict is_well in absurd (false≢true e)
+one_more_line table scale now side (Err why) before size wide held e same beside = unfold line_verdict is_well in absurd (false≢true e)
 
 -- The table and the side file hold the chains that are counted.
 pub held_if : (table scale : List ℕ) (lines : ℕ) (well : Bool) → (well ≡ true → HoldsChains table scale lines) → HoldsChains table scale (cond well lines 0)

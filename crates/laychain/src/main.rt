@@ -2,44 +2,78 @@
 // that is refused is reported on standard error; then both files stay as they were.
 #![tactic(auto)]
 
-ghost use Rattle.std.specs.Prelude.{◌≡◌, ◌*◌, ◌<◌, ◌≤◌, ◌&&◌, length, if◌then◌else◌};
+ghost use Rattle.std.specs.Prelude.{◌≡◌, ◌*◌, ◌<◌, ◌≤◌, ◌&&◌, length, if◌then◌else◌, Ok, Some};
 ghost use Rattle.records.specs.ChainTables.{chain_bytes, most_chains, factor_bytes};
 ghost use Rattle.writing.specs.FactorWriting.{factor_buffer_of};
 ghost use Rattle.text.specs.Puts.{with_text};
 ghost use Rattle.parsing.specs.Parsed.{parsed_chain};
-ghost use Rattle.parsing.specs.declared.ParsedChain.TheVariants as parsed;
 ghost use Rattle.files.specs.Input.{at_end};
 ghost use Rattle.laychain.specs.Tables.{verdict_of, line_verdict, table_with, scale_with, chains_after, is_well, HoldsChains};
 
 use chart::Chain;
-use files::{EprintBytes, Input};
-use parsing::{ChainFault, Form, ParsedChain};
+use files::{EprintBytes, Input, Target, Tool};
+use parsing::{ChainFault, Form};
 use records::{CHAIN_BYTES, FACTOR_BYTES, MOST_CHAINS, SCALE_BYTES, TABLE_BYTES};
+use refusals::Refusal;
 use std::fs::File;
 use std::io;
 use std::io::Print;
 use std::rt::{Clock, Files};
 
-// What becomes of a line: its chain is in the table, it is passed over, or it is refused.
+// What becomes of a line: its chain is in the table, it is passed over, or it is refused. Each is counted in another way, so this is
+// no Result.
 #[derive(Clone, Copy)]
 enum Verdict {
     Chain,
     Passed,
-    Refused(u32),
+    Refused(Refusal),
 }
 
 // How many lines were accepted, how many refused, and the number of the first of these.
-#[derive(Clone, Copy)]
+#[derive(Clone, Copy, Default)]
 struct Sum {
     accepted: u64,
     refused: u64,
-    first: u64,
+    first: Option<u64>,
 }
 
+impl Sum {
+    fn counted(self, line: u64, verdict: Verdict) -> Sum {
+        match verdict {
+            Verdict::Chain => Sum {
+                accepted: self.accepted.wrapping_add(1),
+                ..self
+            },
+            Verdict::Passed => self,
+            Verdict::Refused(_) => self.one_refused(line),
+        }
+    }
+
+    fn one_refused(self, line: u64) -> Sum {
+        Sum {
+            refused: self.refused.wrapping_add(1),
+            first: self.first.or(Some(line)),
+            ..self
+        }
+    }
+}
+
+const TABLE: Target<'static> = Target {
+    name: b"chain.dat",
+    fresh: b"chain.dat.new",
+};
+
+const SCALE: Target<'static> = Target {
+    name: b"scale.dat",
+    fresh: b"scale.dat.new",
+};
+
 fn main(rt: HostRuntime) {
-    let words = files::no_arguments(
-        &rt,
-        b"laychain",
+    let tool = Tool {
+        rt: &rt,
+        name: b"laychain",
+    };
+    let words = tool.no_arguments(
         b"laychain writes chain.dat, the table of station chains, and scale.dat, their scale factors, in place of
 those in this folder.
 
@@ -62,48 +96,31 @@ The chain with its master at (0, 0), A at (30000, 0) and B at (0, 40000), and th
 ",
     );
     let expected = b"the chains are read from standard input, one line each";
-    if !files::none_given(&rt, b"laychain", words, expected) {
-        return;
-    }
-    if files::is_free(&rt, b"laychain", b"chain.dat", b"chain.dat.new")
-        && files::is_free(&rt, b"laychain", b"scale.dat", b"scale.dat.new")
-    {
-        make_table(&rt);
+    if tool.none_given(words, expected) && tool.is_free(TABLE) && tool.is_free(SCALE) {
+        make_table(&tool);
     }
 }
 
-fn make_table(rt: &(impl Files<File = File> + Clock + Print + io::Input + EprintBytes)) {
+fn make_table(tool: &Tool<'_, impl Files<File = File> + Clock + Print + io::Input + EprintBytes>) {
     let mut buffer = [0u8; files::LINE_BYTES];
     let mut table = [0u8; TABLE_BYTES];
     let mut scale = [0u8; SCALE_BYTES];
-    let chains = read_chains(rt, &mut buffer, &mut table, &mut scale);
+    let chains = read_chains(tool, &mut buffer, &mut table, &mut scale);
     if chains == 0 {
         return;
     }
-    if files::replace_pair(
-        rt,
-        b"laychain",
-        b"chain.dat",
-        b"chain.dat.new",
-        &table[0..CHAIN_BYTES * chains],
-        b"scale.dat",
-        b"scale.dat.new",
-        &scale[0..FACTOR_BYTES * chains],
-        files::END_TRIES,
-    ) {
-        told(rt, chains as u64);
+    let first = &table[..CHAIN_BYTES * chains];
+    let second = &scale[..FACTOR_BYTES * chains];
+    if tool.replace_pair(TABLE, first, SCALE, second, files::END_TRIES) {
+        tool.written(TABLE.name, b"chain", chains as u64, chains as u64);
+        tool.written(SCALE.name, b"factor", chains as u64, chains as u64);
     }
-}
-
-fn told(rt: &(impl Print + EprintBytes), chains: u64) {
-    files::written(rt, b"laychain", b"chain.dat", b"chain", chains, chains);
-    files::written(rt, b"laychain", b"scale.dat", b"factor", chains, chains);
 }
 
 // Reads the chains into the table, and their factors into the side file, and returns how many there are; 0 if something was refused,
 // which has been printed.
 fn read_chains(
-    rt: &(impl io::Input + EprintBytes),
+    tool: &Tool<'_, impl io::Input + EprintBytes>,
     buffer: &mut [u8],
     table: &mut [u8],
     scale: &mut [u8],
@@ -115,25 +132,19 @@ fn read_chains(
     let mut to = buffer.len();
     let mut count = 0;
     let mut well = true;
-    let mut tally = Sum {
-        accepted: 0,
-        refused: 0,
-        first: 0,
-    };
-    let mut line = 0u64;
-    while line < u64::MAX {
-        let input = files::next_line(rt, b"laychain", buffer, from, to);
-        line += 1;
+    let mut tally = Sum::default();
+    for line in 1..=u64::MAX {
+        let input = tool.next_line(buffer, from, to);
         let Input::Line { start, end, stop } = input else {
-            return ended(rt, input, line, count, well, tally);
+            return ended(tool, input, line, count, well, tally);
         };
         let verdict = put_line(table, scale, count, &buffer[start..end]);
-        report(rt, line, &buffer[start..end], verdict);
+        report(tool, line, &buffer[start..end], verdict);
         count = chains_after(count, verdict);
         well = accepted(well, verdict);
-        tally = counted(tally, line, verdict);
+        tally = tally.counted(line, verdict);
         if count > MOST_CHAINS {
-            return none(rt, tally);
+            return none(tool, tally);
         }
         from = end + 1;
         to = stop;
@@ -164,41 +175,9 @@ fn accepted(well: bool, verdict: Verdict) -> bool
     }
 }
 
-fn counted(tally: Sum, line: u64, verdict: Verdict) -> Sum {
-    match verdict {
-        Verdict::Chain => one_accepted(tally),
-        Verdict::Passed => tally,
-        Verdict::Refused(_) => one_refused(tally, line),
-    }
-}
-
-fn one_accepted(tally: Sum) -> Sum {
-    Sum {
-        accepted: std::num::wrapping_add_u64(tally.accepted, 1),
-        refused: tally.refused,
-        first: tally.first,
-    }
-}
-
-fn one_refused(tally: Sum, line: u64) -> Sum {
-    Sum {
-        accepted: tally.accepted,
-        refused: std::num::wrapping_add_u64(tally.refused, 1),
-        first: first_of(tally.first, line),
-    }
-}
-
-// The number of the first line of a sort: 0 if there is none yet.
-fn first_of(before: u64, line: u64) -> u64 {
-    if before == 0 {
-        return line;
-    }
-    before
-}
-
 // How many chains there are when no line comes next: 0 if something was refused or failed.
 fn ended(
-    rt: &impl EprintBytes,
+    tool: &Tool<'_, impl EprintBytes>,
     input: Input,
     line: u64,
     count: usize,
@@ -208,59 +187,45 @@ fn ended(
     ensures { result ≡ at_end input (if well then count else 0) 0 }
 {
     match input {
-        Input::Cut => cut(rt, line, tally),
-        Input::End => chains(rt, count, well, tally),
+        Input::Cut => cut(tool, line, tally),
+        Input::End => chains(tool, count, well, tally),
         _ => 0,
     }
 }
 
-fn cut(rt: &impl EprintBytes, line: u64, tally: Sum) -> usize
+fn cut(tool: &Tool<'_, impl EprintBytes>, line: u64, tally: Sum) -> usize
     ensures { result ≡ 0 }
 {
-    files::refused(
-        rt,
-        b"laychain",
-        line,
-        12,
-        b"a line ends with a newline, the last one too, and has at most 65535 bytes with it",
-    );
-    none(rt, one_refused(tally, line))
+    let sentence =
+        b"a line ends with a newline, the last one too, and has at most 65535 bytes with it";
+    tool.refused(line, Refusal::Line.number(), sentence);
+    none(tool, tally.one_refused(line))
 }
 
-fn chains(rt: &impl EprintBytes, count: usize, well: bool, tally: Sum) -> usize
+fn chains(tool: &Tool<'_, impl EprintBytes>, count: usize, well: bool, tally: Sum) -> usize
     ensures { result ≡ (if well then count else 0) }
 {
     if !well {
-        return none(rt, tally);
+        return none(tool, tally);
     }
     if count == 0 {
-        files::refused(
-            rt,
-            b"laychain",
-            0,
-            1,
-            b"a table has 1 to 16 chains, a line each, and there was none",
-        );
+        let sentence = b"a table has 1 to 16 chains, a line each, and there was none";
+        tool.refused(0, Refusal::Length.number(), sentence);
     }
     count
 }
 
 // Prints how many lines were refused, and returns 0 for no chains.
-fn none(rt: &impl EprintBytes, tally: Sum) -> usize
+fn none(tool: &Tool<'_, impl EprintBytes>, tally: Sum) -> usize
     ensures { result ≡ 0 }
 {
-    files::lines_refused(
-        rt,
-        b"laychain",
-        tally.refused,
-        tally.first,
-        tally.accepted,
-        b"nothing is written",
-    );
+    let first = tally.first.unwrap_or(0);
+    tool.lines_refused(tally.refused, first, tally.accepted, b"nothing is written");
     0
 }
 
 // Puts the chain of a line into the table and its factor into the side file, after `before` others.
+#[tactic(auto, unfolding(crate::specs::Tables::line_verdict))]
 fn put_line(table: &mut [u8], scale: &mut [u8], before: usize, line: &[u8]) -> Verdict
     requires { (length table.old ≡ chain_bytes * most_chains) × (length scale.old ≡ factor_bytes * most_chains) }
     ensures answer { result ≡ line_verdict before (parsed_chain line.now) }
@@ -268,20 +233,20 @@ fn put_line(table: &mut [u8], scale: &mut [u8], before: usize, line: &[u8]) -> V
     ensures scale { scale.new ≡ scale_with scale.old before (parsed_chain line.now) }
 {
     match parsing::chain(line) {
-        ParsedChain::Chain(c) => put_chain(table, scale, before, c),
-        ParsedChain::Passed => Verdict::Passed,
-        ParsedChain::Refused(number) => Verdict::Refused(number),
+        Ok(Some(c)) => put_chain(table, scale, before, c),
+        Ok(None) => Verdict::Passed,
+        Err(refusal) => Verdict::Refused(refusal),
     }
 }
 
 fn put_chain(table: &mut [u8], scale: &mut [u8], before: usize, c: Chain) -> Verdict
     requires { (length table.old ≡ chain_bytes * most_chains) × (length scale.old ≡ factor_bytes * most_chains) }
-    ensures answer { result ≡ line_verdict before (parsed.Chain c) }
-    ensures table { table.new ≡ table_with table.old before (parsed.Chain c) }
-    ensures scale { scale.new ≡ scale_with scale.old before (parsed.Chain c) }
+    ensures answer { result ≡ line_verdict before (Ok (Some c)) }
+    ensures table { table.new ≡ table_with table.old before (Ok (Some c)) }
+    ensures scale { scale.new ≡ scale_with scale.old before (Ok (Some c)) }
 {
     if before >= MOST_CHAINS {
-        return Verdict::Refused(1);
+        return Verdict::Refused(Refusal::Length);
     }
     put_factor(scale, before, c.factor);
     let at = CHAIN_BYTES * before;
@@ -294,91 +259,52 @@ fn put_factor(scale: &mut [u8], before: usize, factor: u32)
     ensures { scale.new ≡ with_text scale.old (factor_bytes * before) (factor_buffer_of factor_bytes factor) }
 {
     let at = FACTOR_BYTES * before;
-    writing::write_factor(&mut scale[at..at + FACTOR_BYTES], factor);
+    let _ = writing::write_factor(&mut scale[at..at + FACTOR_BYTES], factor);
 }
 
-fn by_refusal(number: u32) -> Verdict
-    ensures { result ≡ verdict_of number }
+#[tactic(auto, unfolding(crate::specs::Tables::verdict_of))]
+fn by_refusal(written: Result<(), Refusal>) -> Verdict
+    ensures { result ≡ verdict_of written }
 {
-    if number == 0 {
-        return Verdict::Chain;
+    match written {
+        Ok(()) => Verdict::Chain,
+        Err(why) => Verdict::Refused(why),
     }
-    Verdict::Refused(number)
 }
 
 // Prints the refusal of a line that is refused.
-fn report(rt: &impl EprintBytes, line: u64, text: &[u8], verdict: Verdict) {
-    match verdict {
-        Verdict::Chain => {}
-        Verdict::Passed => {}
-        Verdict::Refused(number) => refuse(rt, line, text, number),
-    }
-}
-
-fn refuse(rt: &impl EprintBytes, line: u64, text: &[u8], number: u32) {
-    match number {
-        1 => refuse_more(rt, line),
-        5 => refuse_chain(rt, line, text),
-        _ => refuse_form(rt, line, text),
-    }
-}
-
-fn refuse_more(rt: &impl EprintBytes, line: u64) {
-    files::refused(rt, b"laychain", line, 1, b"a table has at most 16 chains");
-}
-
-fn refuse_form(rt: &impl EprintBytes, line: u64, text: &[u8]) {
-    files::refused_form(rt, b"laychain", line, text, Form::Chain);
-}
-
-fn refuse_chain(rt: &impl EprintBytes, line: u64, text: &[u8]) {
-    match parsing::chain(text) {
-        ParsedChain::Chain(c) => refuse_stations(rt, line, text, parsing::chain_fault(c)),
-        ParsedChain::Passed => {}
-        ParsedChain::Refused(_) => {}
-    }
-}
-
-fn refuse_stations(rt: &impl EprintBytes, line: u64, text: &[u8], fault: ChainFault) {
-    match fault {
-        ChainFault::Range(word) => refuse_range(rt, line, text, word),
-        ChainFault::Spot(word) => refused(
-            rt,
-            line,
-            text,
-            word,
-            b"this station stands on the spot of one before it",
-        ),
-        ChainFault::Factor => refused(
-            rt,
-            line,
-            text,
-            6,
-            b"a factor is 999000 to 1001000 millionths",
-        ),
-    }
-}
-
-fn refuse_range(rt: &impl EprintBytes, line: u64, text: &[u8], word: usize) {
-    if word % 2 == 0 {
-        refused(
-            rt,
-            line,
-            text,
-            word,
-            b"an easting is 0 to 100000000 centimetres",
-        );
+fn report(tool: &Tool<'_, impl EprintBytes>, line: u64, text: &[u8], verdict: Verdict) {
+    let Verdict::Refused(refusal) = verdict else {
         return;
+    };
+    match refusal {
+        Refusal::Length => {
+            tool.refused(line, refusal.number(), b"a table has at most 16 chains");
+        }
+        Refusal::Chain => refuse_chain(tool, line, text),
+        _ => {
+            tool.refused_form(line, text, Form::Chain);
+        }
     }
-    refused(
-        rt,
-        line,
-        text,
-        word,
-        b"a northing is 0 to 1000000000 centimetres",
-    );
 }
 
-fn refused(rt: &impl EprintBytes, line: u64, text: &[u8], word: usize, sentence: &[u8]) {
-    files::refused_word(rt, b"laychain", line, 5, text, word, sentence);
+fn refuse_chain(tool: &Tool<'_, impl EprintBytes>, line: u64, text: &[u8]) {
+    if let Ok(Some(c)) = parsing::chain(text) {
+        refuse_stations(tool, line, text, parsing::chain_fault(c));
+    }
+}
+
+fn refuse_stations(tool: &Tool<'_, impl EprintBytes>, line: u64, text: &[u8], fault: ChainFault) {
+    let word = match fault {
+        ChainFault::Range(word) => word,
+        ChainFault::Spot(word) => word,
+        ChainFault::Factor => 6,
+    };
+    let sentence: &[u8] = match fault {
+        ChainFault::Range(word) if word % 2 == 0 => b"an easting is 0 to 100000000 centimetres",
+        ChainFault::Range(_) => b"a northing is 0 to 1000000000 centimetres",
+        ChainFault::Spot(_) => b"this station stands on the spot of one before it",
+        ChainFault::Factor => b"a factor is 999000 to 1001000 millionths",
+    };
+    tool.refused_word(line, Refusal::Chain.number(), text, word, sentence);
 }

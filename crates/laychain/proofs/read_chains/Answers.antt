@@ -1,4 +1,4 @@
--- `laychain::read_chains` ends: it counts the lines up to a limit. Each line that is accepted puts one chain after the others.
+-- `laychain::read_chains`: each line that is accepted puts one chain after the others.
 use Rattle.std.proofs.Common.{◌≡◌, ℕ, List, cond, sym, ap, ◌∙◌, subst, arith, rules}
 use mathlib.Core.Path.{subst⁻¹}
 use Rattle.chart.proofs.PlaceLaws.{both}
@@ -92,3 +92,6 @@ loop-line-preserved g c =
 
 pub returns : goal.returns
 returns g c = no_chains c.loop-line.table c.loop-line.scale
+
+pub returns-else-count-gt-MOST_CHAINS : goal.returns-else-count-gt-MOST_CHAINS
+returns-else-count-gt-MOST_CHAINS g c = no_chains _ _

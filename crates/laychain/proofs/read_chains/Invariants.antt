@@ -1,5 +1,5 @@
--- `laychain::read_chains` ends: it counts the lines up to a limit. Each line that is accepted puts one chain after the others.
-use Rattle.std.proofs.Common.{◌≡◌, ◌-◌, ◌*◌, ◌^◌, ◌≤◌, true, length}
+-- `laychain::read_chains`: each line that is accepted puts one chain after the others.
+use Rattle.std.proofs.Common.{◌≡◌, ◌*◌, ◌≤◌, true, length}
 use Rattle.records.specs.ChainTables.{chain_bytes, most_chains, factor_bytes}
 use Rattle.laychain.specs.Tables.{HoldsChains}
 use Rattle.laychain.proofs.read_chains.Given as goal
@@ -7,6 +7,3 @@ use Rattle.laychain.proofs.read_chains.Given as goal
 abbrev pub invariant-loop-line : goal.invariant-loop-line
 invariant-loop-line g l =
     (l.count ≤ most_chains) × ((length l.table ≡ chain_bytes * most_chains) × ((length l.scale ≡ factor_bytes * most_chains) × ((length l.buffer ≡ length l.initial.buffer) × (l.well ≡ true → HoldsChains l.table l.scale l.count))))
-
-abbrev pub decreases-loop-line : goal.decreases-loop-line
-decreases-loop-line g l = 2 ^ 64 - l.line
