@@ -3,10 +3,9 @@
 // printed.
 #![tactic(auto)]
 
-use files::{EprintBytes, Filled, Opened, Words};
-use parsing::{Form, ParsedReadings};
-use records::{ChainCount, JobAnswer};
-use shown::Line;
+use files::{EprintBytes, Opened, Tool, Words};
+use parsing::{Form, ReadingsAsked};
+use refusals::Refusal;
 use std::fs::File;
 use std::io::Print;
 use std::rt::{Env, Files};
@@ -15,11 +14,13 @@ use std::rt::{Env, Files};
 const QUIET_VISITS: u64 = 100_000_000;
 
 fn main(rt: HostRuntime) {
+    let tool = Tool {
+        rt: &rt,
+        name: b"layone",
+    };
     // Without the newline, which the arguments do not have.
     let mut line = [0u8; files::LINE_BYTES - 1];
-    let words = files::arguments(
-        &rt,
-        b"layone",
+    let words = tool.arguments(
         &mut line,
         b"layone CHAIN A B says whether two readings allow no place, one or several, by chain.dat, scale.dat and
 job.dat in this folder.
@@ -43,177 +44,164 @@ The readings -100.00 m and -200.00 m of chain 1:
 ",
     );
     match words {
-        Words::Line(n) => take(&rt, &line[0..n]),
-        Words::Unfit(which) => unfit(&rt, which),
+        Words::Line(n) => take(&tool, &line[..n]),
+        Words::Unfit(which) => unfit(&tool, which),
         Words::Helped => {}
     }
 }
 
-fn unfit(rt: &(impl Env + EprintBytes), which: usize) {
-    files::refused_argument(
-        rt,
-        b"layone",
-        12,
+fn unfit(tool: &Tool<'_, impl Env + EprintBytes>, which: usize) {
+    tool.refused_argument(
+        Refusal::Line.number(),
         which,
         b"an argument is one word, and all of them have at most 65534 bytes",
     );
 }
 
-fn take(rt: &(impl Files<File = File> + Print + EprintBytes), line: &[u8]) {
+fn take(tool: &Tool<'_, impl Files<File = File> + Print + EprintBytes>, line: &[u8]) {
     match parsing::readings(line) {
-        ParsedReadings::Readings { chain, a, b } => answer(rt, line, chain, a, b),
-        ParsedReadings::Refused(_) => other_form(rt, line),
+        Ok(asked) => answer(tool, line, asked),
+        Err(_) => other_form(tool, line),
     }
 }
 
-fn other_form(rt: &impl EprintBytes, line: &[u8]) {
-    files::refused_form(rt, b"layone", 0, line, Form::Readings);
+fn other_form(tool: &Tool<'_, impl EprintBytes>, line: &[u8]) {
+    tool.refused_form(0, line, Form::Readings);
 }
 
 fn answer(
-    rt: &(impl Files<File = File> + Print + EprintBytes),
+    tool: &Tool<'_, impl Files<File = File> + Print + EprintBytes>,
     line: &[u8],
-    chain: u32,
-    a: i64,
-    b: i64,
+    asked: ReadingsAsked,
 ) {
     // One byte more than the longest table, so that a file that is too long is noticed.
     let mut table = [0u8; records::TABLE_BYTES + 1];
-    let file = files::open(rt, b"layone", b"chain.dat");
-    let Filled::Bytes(n) = files::start_of(rt, &file, b"layone", b"chain.dat", &mut table) else {
+    let file = tool.open(b"chain.dat");
+    let Some(n) = tool.start_of(&file, b"chain.dat", &mut table) else {
         return;
     };
-    with_scale(rt, line, &table[0..n], file, chain, a, b);
+    with_scale(tool, line, &table[..n], file, asked);
 }
 
 // `file` is the table's: it must still be there when the side file has been read, since the two belong together.
 fn with_scale(
-    rt: &(impl Files<File = File> + Print + EprintBytes),
+    tool: &Tool<'_, impl Files<File = File> + Print + EprintBytes>,
     line: &[u8],
     table: &[u8],
     file: Opened,
-    chain: u32,
-    a: i64,
-    b: i64,
+    asked: ReadingsAsked,
 ) {
     let mut scale = [0u8; records::SCALE_BYTES + 1];
-    let Filled::Bytes(n) = files::start(rt, b"layone", b"scale.dat", &mut scale) else {
+    let Some(n) = tool.start(b"scale.dat", &mut scale) else {
         return;
     };
-    if files::is_still(rt, b"layone", b"chain.dat", &file) {
-        with_job(rt, line, table, &scale[0..n], chain, a, b);
+    if tool.is_still(b"chain.dat", &file) {
+        with_job(tool, line, table, &scale[..n], asked);
     }
 }
 
 fn with_job(
-    rt: &(impl Files<File = File> + Print + EprintBytes),
+    tool: &Tool<'_, impl Files<File = File> + Print + EprintBytes>,
     line: &[u8],
     table: &[u8],
     scale: &[u8],
-    chain: u32,
-    a: i64,
-    b: i64,
+    asked: ReadingsAsked,
 ) {
     let mut job = [0u8; records::JOB_BYTES + 1];
-    let Filled::Bytes(n) = files::start(rt, b"layone", b"job.dat", &mut job) else {
+    let Some(n) = tool.start(b"job.dat", &mut job) else {
         return;
     };
-    announce(rt, &job[0..n]);
-    print_answer(rt, line, table, scale, &job[0..n], chain, a, b);
+    announce(tool, &job[..n]);
+    print_answer(tool, line, table, scale, &job[..n], asked);
 }
 
-fn announce(rt: &impl EprintBytes, job: &[u8]) {
-    let JobAnswer::Job(j) = records::job_of(job) else {
+fn announce(tool: &Tool<'_, impl EprintBytes>, job: &[u8]) {
+    let Ok(j) = records::job_of(job) else {
         return;
     };
     if j.allowance > QUIET_VISITS {
-        files::note(
-            rt,
-            b"layone",
-            b"job.dat allows more than 100000000 visits: the answer may take minutes",
-        );
+        tool.note(b"job.dat allows more than 100000000 visits: the answer may take minutes");
     }
 }
 
 fn print_answer(
-    rt: &(impl Print + EprintBytes),
+    tool: &Tool<'_, impl Print + EprintBytes>,
     line: &[u8],
     table: &[u8],
     scale: &[u8],
     job: &[u8],
-    chain: u32,
-    a: i64,
-    b: i64,
+    asked: ReadingsAsked,
 ) {
     let mut out = [0u8; shown::LINE_ROOM];
-    match shown::how_many(&mut out, table, scale, job, chain, a, b) {
-        Line::Text(n) => print(rt, &out[0..n]),
-        Line::Refused(number) => refuse(rt, line, table, scale, chain, a, number),
+    match shown::how_many(&mut out, table, scale, job, asked.chain, asked.a, asked.b) {
+        Ok(n) => {
+            tool.print(&out[..n]);
+        }
+        Err(refusal) => refuse(tool, line, table, scale, asked, refusal),
     }
 }
 
-fn print(rt: &(impl Print + EprintBytes), text: &[u8]) {
-    files::print(rt, b"layone", text);
-}
-
 fn refuse(
-    rt: &impl EprintBytes,
+    tool: &Tool<'_, impl EprintBytes>,
     line: &[u8],
     table: &[u8],
     scale: &[u8],
-    chain: u32,
-    a: i64,
-    number: u32,
+    asked: ReadingsAsked,
+    refusal: Refusal,
 ) {
-    match number {
-        1 => refuse_length(rt, table, scale),
-        2 => refused(rt, 2, b"a byte of job.dat that must be zero is not"),
-        3 => refuse_reading(rt, line, a),
-        5 => refuse_chain(rt, line, table, chain),
-        6 => refused(
-            rt,
-            6,
+    match refusal {
+        Refusal::Length => refuse_length(tool, table, scale),
+        Refusal::Form => refused(tool, refusal, b"a byte of job.dat that must be zero is not"),
+        Refusal::Number => refuse_reading(tool, line, asked.a),
+        Refusal::Chain => refuse_chain(tool, line, table, asked.chain),
+        Refusal::Window => refused(
+            tool,
+            refusal,
             b"the window in job.dat has an exponent over 24, or cells out of range",
         ),
-        7 => refused(
-            rt,
-            7,
+        Refusal::Tolerance => refused(
+            tool,
+            refusal,
             b"the tolerance in job.dat is over 100000 centimetres",
         ),
         _ => refused(
-            rt,
-            number,
+            tool,
+            refusal,
             b"the visits that job.dat allows ended before this was decided",
         ),
     }
 }
 
 // The table is tested first, then the side file.
-fn refuse_length(rt: &impl EprintBytes, table: &[u8], scale: &[u8]) {
-    let ChainCount::Chains(n) = records::chain_count(table) else {
+fn refuse_length(tool: &Tool<'_, impl EprintBytes>, table: &[u8], scale: &[u8]) {
+    let Ok(n) = records::chain_count(table) else {
         refused(
-            rt,
-            1,
+            tool,
+            Refusal::Length,
             b"chain.dat was expected to hold 1 to 16 chains of 24 bytes",
         );
         return;
     };
     if records::is_scale(n, scale) {
-        refused(rt, 1, b"job.dat was expected to hold one job of 32 bytes");
+        refused(
+            tool,
+            Refusal::Length,
+            b"job.dat was expected to hold one job of 32 bytes",
+        );
         return;
     }
     refused(
-        rt,
-        1,
+        tool,
+        Refusal::Length,
         b"scale.dat was expected to hold 4 bytes for each chain of chain.dat",
     );
 }
 
-fn refuse_reading(rt: &impl EprintBytes, line: &[u8], a: i64) {
+fn refuse_reading(tool: &Tool<'_, impl EprintBytes>, line: &[u8], a: i64) {
     refused_word(
-        rt,
+        tool,
         line,
-        3,
+        Refusal::Number,
         reading_at_fault(a),
         b"a reading is at most 1000000000 centimetres in size",
     );
@@ -222,33 +210,46 @@ fn refuse_reading(rt: &impl EprintBytes, line: &[u8], a: i64) {
 // The word of reading A if that is too large, else that of reading B.
 fn reading_at_fault(a: i64) -> usize {
     if metres::size(a) > metres::MOST_CENTIMETRES {
-        return 1;
+        1
+    } else {
+        2
     }
-    2
 }
 
 // A chain of the table that is refused is not sound.
-fn refuse_chain(rt: &impl EprintBytes, line: &[u8], table: &[u8], chain: u32) {
-    let ChainCount::Chains(n) = records::chain_count(table) else {
+fn refuse_chain(tool: &Tool<'_, impl EprintBytes>, line: &[u8], table: &[u8], chain: u32) {
+    let Ok(n) = records::chain_count(table) else {
         return;
     };
     if records::one_to(n, chain) {
         refused_word(
-            rt,
+            tool,
             line,
-            5,
+            Refusal::Chain,
             0,
             b"this chain has a station out of range, two on one spot, or a factor out of range",
         );
         return;
     }
-    refused_word(rt, line, 5, 0, b"chain.dat has no chain of this number");
+    refused_word(
+        tool,
+        line,
+        Refusal::Chain,
+        0,
+        b"chain.dat has no chain of this number",
+    );
 }
 
-fn refused(rt: &impl EprintBytes, number: u32, sentence: &[u8]) {
-    files::refused(rt, b"layone", 0, number, sentence);
+fn refused(tool: &Tool<'_, impl EprintBytes>, refusal: Refusal, sentence: &[u8]) {
+    tool.refused(0, refusal.number(), sentence);
 }
 
-fn refused_word(rt: &impl EprintBytes, line: &[u8], number: u32, word: usize, sentence: &[u8]) {
-    files::refused_word(rt, b"layone", 0, number, line, word, sentence);
+fn refused_word(
+    tool: &Tool<'_, impl EprintBytes>,
+    line: &[u8],
+    refusal: Refusal,
+    word: usize,
+    sentence: &[u8],
+) {
+    tool.refused_word(0, refusal.number(), line, word, sentence);
 }

@@ -7,9 +7,9 @@ use native.Mathlib.Omega.{arith}
 use borrow.Author.Tests.{le-leb}
 use lib.ListN.{length, take, drop, take-append-drop, length-append, length-drop}
 use lib.Seq.{length-take-le, drop-append-le, drop-drop}
-use Rattle.shown.specs.declared.Line.{Line}
-use Rattle.shown.specs.declared.Line.TheVariants.{Text}
-use Rattle.shown.specs.Rooms.{Says, line_for, buffer_for, text_of, line_room, has_line_room, in_room}
+use Rattle.std.specs.Prelude.{Result, Ok}
+use Rattle.refusals.specs.declared.Refusal.{Refusal}
+use Rattle.shown.specs.Rooms.{line_for, buffer_for, text_of, line_room, has_line_room, in_room}
 use Rattle.layshow.specs.Walks.{PutLine}
 
 module _ (o : List ℕ) (at bytes : ℕ) (fits : at + line_room bytes ≤ length o) where
@@ -27,16 +27,16 @@ module _ (o : List ℕ) (at bytes : ℕ) (fits : at + line_room bytes ≤ length
   room_long = length-take-le lent (drop at o) (omega (arith, length-drop at o)) ∙ omega arith
 
   -- So the line is not refused: it is put, and the rest of the buffer is unchanged.
-  pub line_put : (x : List ℕ) {line : Line} {room' : List ℕ} {end : ℕ} →
-      line ≡ line_for (in_room (length room) bytes (Says x)) → room' ≡ buffer_for room (in_room (length room) bytes (Says x)) →
+  pub line_put : (x : List ℕ) {line : Result ℕ Refusal} {room' : List ℕ} {end : ℕ} →
+      line ≡ line_for (in_room (length room) bytes (Ok x)) → room' ≡ buffer_for room (in_room (length room) bytes (Ok x)) →
       length room' ≡ length room → end ≡ at + text_of line → PutLine o at x bytes (take at o ++ (room' ++ behind)) end
   unfolding line_for buffer_for
   line_put x {line} {room'} {end} answer buffer kept is =
       let roomy : has_line_room (length room) bytes ≡ true = le-leb (line_room bytes) (length room) (omega (arith, room_long)) in
-      let told : line ≡ Text (length x) = rw roomy at answer in
+      let told : line ≡ Ok (length x) = rw roomy at answer in
       let put : room' ≡ x ++ drop (length x) room = rw roomy at buffer in
       let short : length x ≤ length room = omega (arith, kept, simp length-append at (ap length put)) in
-      let ends : end ≡ at + length x = is ∙ ap (λ (l : Line). at + text_of l) told in
+      let ends : end ≡ at + length x = is ∙ ap (λ (l : Result ℕ Refusal). at + text_of l) told in
       let rest : drop (length x) room ++ behind ≡ drop (at + length x) o =
       sym (drop-append-le (length x) room behind short)
       ∙ ap (drop (length x)) (take-append-drop lent (drop at o))

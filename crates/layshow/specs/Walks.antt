@@ -1,7 +1,6 @@
 -- What is printed for the four files, one line for each record, and what the program's functions promise each other.
-use Rattle.std.specs.Prelude.{ℕ, zero, suc, ◌+◌, ◌*◌, ◌/◌, ◌≤◌, Bool, cond, List, [], ◌++◌, take, drop}
-use Rattle.records.specs.declared.ChainCount.{ChainCount}
-use Rattle.records.specs.declared.ChainCount.TheVariants as count
+use Rattle.std.specs.Prelude.{ℕ, zero, suc, ◌+◌, ◌*◌, ◌/◌, ◌≤◌, Bool, cond, List, [], ◌++◌, take, drop, Result, Ok, Err}
+use Rattle.refusals.specs.declared.Refusal.{Refusal}
 use Rattle.records.specs.Bytes.{pieces_in}
 use Rattle.records.specs.LogRecords.{log_bytes}
 use Rattle.records.specs.ChainTables.{chain_bytes, most_chains, factor_bytes, chain_count_of, is_scale}
@@ -35,9 +34,9 @@ unfoldable pub scaled_lines : Bool → List ℕ → List ℕ → List ℕ
 scaled_lines fits table scale = cond fits (chain_lines scale table) (chain_lines [] table ++ scale_line scale)
 
 -- A table that is refused has only one line, without a number and a factor.
-unfoldable pub table_lines_by : ChainCount → List ℕ → List ℕ → List ℕ
-table_lines_by (count.Chains n) table scale = scaled_lines (is_scale n scale) table scale
-table_lines_by (count.Refused number) table scale = chain_line [] 0 table
+unfoldable pub table_lines_by : Result ℕ Refusal → List ℕ → List ℕ → List ℕ
+table_lines_by (Ok n) table scale = scaled_lines (is_scale n scale) table scale
+table_lines_by (Err why) table scale = chain_line [] 0 table
 
 abbrev pub table_lines : List ℕ → List ℕ → List ℕ
 table_lines table scale = table_lines_by (chain_count_of table) table scale

@@ -9,9 +9,8 @@ ghost use Rattle.shown.specs.Lines.{job_line, chain_line, scale_line, record_lin
 ghost use Rattle.shown.specs.Rooms.{text_of, line_room};
 ghost use Rattle.layshow.specs.Walks.{record_lines, chain_lines, scaled_lines, table_lines, file_lines, PutLine, longest_job, longest_table, longest_scale, whole_table, chains_room, table_room, stretch_bytes, stretch_room};
 
-use files::{EprintBytes, Filled, Opened};
-use records::ChainCount;
-use shown::Line;
+use files::{EprintBytes, Opened, Tool};
+use refusals::Refusal;
 use std::fs::File;
 use std::io::Print;
 use std::rt::Files;
@@ -24,9 +23,11 @@ const STRETCH_ROOM: usize = STRETCH_BYTES / records::LOG_BYTES
     * (shown::LINE_ROOM + 2 * records::LOG_BYTES);
 
 fn main(rt: HostRuntime) {
-    let words = files::no_arguments(
-        &rt,
-        b"layshow",
+    let tool = Tool {
+        rt: &rt,
+        name: b"layshow",
+    };
+    let words = tool.no_arguments(
         b"layshow prints what job.dat, chain.dat, scale.dat and lay.dat in this folder hold, as layjob, laychain and
 laywrite take it:
 
@@ -45,36 +46,40 @@ text, and written again.
   layshow | sed -n 's/^LOG //p' >log.txt
 ",
     );
-    if files::none_given(&rt, b"layshow", words, b"no argument was expected") {
-        show(&rt);
+    if tool.none_given(words, b"no argument was expected") {
+        show(&tool);
     }
 }
 
-fn show(rt: &(impl Files<File = File> + Print + EprintBytes)) {
+fn show(tool: &Tool<'_, impl Files<File = File> + Print + EprintBytes>) {
     let mut out = out_buffer();
     // One byte more than a job has, so that a file that is too long is noticed.
     let mut job = [0u8; records::JOB_BYTES + 1];
-    let Filled::Bytes(n) = files::start(rt, b"layshow", b"job.dat", &mut job) else {
+    let Some(n) = tool.start(b"job.dat", &mut job) else {
         return;
     };
-    show_with(rt, &mut out, &job[0..n]);
+    show_with(tool, &mut out, &job[..n]);
 }
 
 // Table and side file belong together: the table must still be there when the side file has been read.
-fn show_with(rt: &(impl Files<File = File> + Print + EprintBytes), out: &mut [u8], job: &[u8])
+fn show_with(
+    tool: &Tool<'_, impl Files<File = File> + Print + EprintBytes>,
+    out: &mut [u8],
+    job: &[u8],
+)
     requires { (length out.old ≡ stretch_room) × (length job.now ≤ longest_job) }
 {
     let mut table = [0u8; records::TABLE_BYTES + 1];
     let mut scale = [0u8; records::SCALE_BYTES + 1];
-    let file = files::open(rt, b"layshow", b"chain.dat");
-    let Filled::Bytes(t) = files::start_of(rt, &file, b"layshow", b"chain.dat", &mut table) else {
+    let file = tool.open(b"chain.dat");
+    let Some(t) = tool.start_of(&file, b"chain.dat", &mut table) else {
         return;
     };
-    let Filled::Bytes(f) = files::start(rt, b"layshow", b"scale.dat", &mut scale) else {
+    let Some(f) = tool.start(b"scale.dat", &mut scale) else {
         return;
     };
-    if files::is_still(rt, b"layshow", b"chain.dat", &file) {
-        show_files(rt, out, job, &table[0..t], &scale[0..f]);
+    if tool.is_still(b"chain.dat", &file) {
+        show_files(tool, out, job, &table[..t], &scale[..f]);
     }
 }
 
@@ -85,7 +90,7 @@ fn out_buffer() -> [u8; STRETCH_ROOM] {
 
 // Prints the lines of job, table and side file before the log is opened, because opening may fail.
 fn show_files(
-    rt: &(impl Files<File = File> + Print + EprintBytes),
+    tool: &Tool<'_, impl Files<File = File> + Print + EprintBytes>,
     out: &mut [u8],
     job: &[u8],
     table: &[u8],
@@ -94,14 +99,14 @@ fn show_files(
     requires { (length out.old ≡ stretch_room) × (length job.now ≤ longest_job) × (length table.now ≤ longest_table) × (length scale.now ≤ longest_scale) }
 {
     let n = put_files(out, job, table, scale);
-    if files_printed(rt, &out[..n], job, table, scale) {
-        show_log(rt, out);
+    if files_printed(tool, &out[..n], job, table, scale) {
+        show_log(tool, out);
     }
 }
 
 // Prints the text of job, table and side file, and returns whether that succeeded. These are there only for the contract.
 fn files_printed(
-    rt: &(impl Print + EprintBytes),
+    tool: &Tool<'_, impl Print + EprintBytes>,
     text: &[u8],
     job: &[u8],
     table: &[u8],
@@ -109,7 +114,7 @@ fn files_printed(
 ) -> bool
     requires { text.now ≡ file_lines job.now table.now scale.now }
 {
-    files::print(rt, b"layshow", text)
+    tool.print(text)
 }
 
 fn put_files(out: &mut [u8], job: &[u8], table: &[u8], scale: &[u8]) -> usize
@@ -134,11 +139,11 @@ fn put_table(out: &mut [u8], at: usize, table: &[u8], scale: &[u8]) -> usize
     ensures { Put out.old at (table_lines table.now scale.now) out.new result }
 {
     match records::chain_count(table) {
-        ChainCount::Chains(n) => {
+        Ok(n) => {
             let fits = records::is_scale(n, scale);
             put_scaled(out, at, fits, table, scale)
         }
-        ChainCount::Refused(_) => put_chain(out, at, b"", 0, table),
+        Err(_) => put_chain(out, at, b"", 0, table),
     }
 }
 
@@ -160,12 +165,9 @@ fn put_chains(out: &mut [u8], at: usize, scale: &[u8], table: &[u8]) -> usize
     ensures end { result ≤ at + chains_room }
 {
     let mut end = at;
-    let mut done = 0;
     let mut number = 1;
-    while done < table.len() {
-        let next = records::piece_end(done, records::CHAIN_BYTES, table.len());
-        end = put_chain(out, end, scale, number, &table[done..next]);
-        done = next;
+    for chain in table.chunks(records::CHAIN_BYTES) {
+        end = put_chain(out, end, scale, number, chain);
         number += 1;
     }
     end
@@ -188,69 +190,61 @@ fn put_scale(out: &mut [u8], at: usize, s: &[u8]) -> usize
 }
 
 // Where a line that begins at `at` ends. A refusal for lack of room never happens here.
-fn after(at: usize, line: Line) -> usize
+fn after(at: usize, line: Result<usize, Refusal>) -> usize
     requires { at + text_of line < 2 ^ 64 }
     ensures { result ≡ at + text_of line }
 {
-    match line {
-        Line::Text(n) => at + n,
-        Line::Refused(_) => at,
-    }
+    at + line.unwrap_or(0)
 }
 
 // Opens the log and prints its lines.
-fn show_log(rt: &(impl Files<File = File> + Print + EprintBytes), out: &mut [u8])
+fn show_log(tool: &Tool<'_, impl Files<File = File> + Print + EprintBytes>, out: &mut [u8])
     requires { length out.old ≡ stretch_room }
 {
-    match files::open(rt, b"layshow", b"lay.dat") {
-        Opened::File(log) => show_stretches(rt, out, &log),
+    match tool.open(b"lay.dat") {
+        Opened::File(log) => show_stretches(tool, out, &log),
         Opened::Missing => {
-            files::missing(rt, b"layshow", b"lay.dat");
+            tool.missing(b"lay.dat");
         }
         Opened::Failed => {}
     }
 }
 
 // Prints the lines of the log, stretch by stretch.
-fn show_stretches(rt: &(impl Print + EprintBytes), out: &mut [u8], log: &File)
+fn show_stretches(tool: &Tool<'_, impl Print + EprintBytes>, out: &mut [u8], log: &File)
     requires { length out.old ≡ stretch_room }
 {
-    let mut turns = files::MOST_STRETCHES;
-    while turns > 0 {
-        if !show_stretch(rt, out, log) {
+    for _ in 0..files::MOST_STRETCHES {
+        if !show_stretch(tool, out, log) {
             return;
         }
-        turns -= 1;
     }
 }
 
 // Reads a stretch of the log and prints all its lines before the next stretch is read, because reading may fail. Returns whether
 // there may be a next stretch.
-fn show_stretch(rt: &(impl Print + EprintBytes), out: &mut [u8], log: &File) -> bool
+fn show_stretch(tool: &Tool<'_, impl Print + EprintBytes>, out: &mut [u8], log: &File) -> bool
     requires { length out.old ≡ stretch_room }
 {
     let mut stretch = [0u8; 65_536];
-    let Filled::Bytes(n) = files::fill(rt, b"layshow", b"lay.dat", log, &mut stretch) else {
+    let Some(n) = tool.fill(b"lay.dat", log, &mut stretch) else {
         return false;
     };
-    if !show_records(rt, out, &stretch[0..n]) {
-        return false;
-    }
-    n == stretch.len()
+    show_records(tool, out, &stretch[..n]) && n == stretch.len()
 }
 
-fn show_records(rt: &(impl Print + EprintBytes), out: &mut [u8], log: &[u8]) -> bool
+fn show_records(tool: &Tool<'_, impl Print + EprintBytes>, out: &mut [u8], log: &[u8]) -> bool
     requires { (length out.old ≡ stretch_room) × (length log.now ≤ stretch_bytes) }
 {
     let n = put_records(out, log);
-    records_printed(rt, &out[..n], log)
+    records_printed(tool, &out[..n], log)
 }
 
 // Prints the text of a stretch, and returns whether that succeeded. `log` is there only for the contract.
-fn records_printed(rt: &(impl Print + EprintBytes), text: &[u8], log: &[u8]) -> bool
+fn records_printed(tool: &Tool<'_, impl Print + EprintBytes>, text: &[u8], log: &[u8]) -> bool
     requires { text.now ≡ record_lines log.now }
 {
-    files::print(rt, b"layshow", text)
+    tool.print(text)
 }
 
 fn put_records(out: &mut [u8], log: &[u8]) -> usize
@@ -258,11 +252,8 @@ fn put_records(out: &mut [u8], log: &[u8]) -> usize
     ensures { Put out.old 0 (record_lines log.now) out.new result }
 {
     let mut end = 0;
-    let mut done = 0;
-    while done < log.len() {
-        let next = records::piece_end(done, records::LOG_BYTES, log.len());
-        end = put_record(out, end, &log[done..next]);
-        done = next;
+    for record in log.chunks(records::LOG_BYTES) {
+        end = put_record(out, end, record);
     }
     end
 }
