@@ -1,4 +1,4 @@
--- `laywrite::each_line` ends: it counts the lines up to a limit. After each line, what waits are records of accepted drafts.
+-- `laywrite::each_line`: after each line, what waits are records of accepted drafts.
 use Rattle.std.proofs.Common.{◌≡◌, ℕ, List, ◌-◌, take, drop, subst, arith, rules}
 use mathlib.Core.Path.{subst⁻¹}
 use Rattle.parsing.specs.Parsed.{parsed_draft}

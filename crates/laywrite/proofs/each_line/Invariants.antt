@@ -1,11 +1,8 @@
--- `laywrite::each_line` ends: it counts the lines up to a limit. After each line, what waits are records of accepted drafts.
-use Rattle.std.proofs.Common.{◌≡◌, ◌-◌, ◌^◌, length}
+-- `laywrite::each_line`: after each line, what waits are records of accepted drafts.
+use Rattle.std.proofs.Common.{◌≡◌, length}
 use Rattle.records.specs.LogRecords.{log_bytes}
 use Rattle.laywrite.specs.Waiting.{HoldRecords}
 use Rattle.laywrite.proofs.each_line.Given as goal
 
 abbrev pub invariant-loop-line : goal.invariant-loop-line
 invariant-loop-line g l = HoldRecords l.out l.records × ((length l.out ≡ length l.initial.out) × ((length l.buffer ≡ length l.initial.buffer) × (length l.bytes ≡ log_bytes)))
-
-abbrev pub decreases-loop-line : goal.decreases-loop-line
-decreases-loop-line g l = 2 ^ 64 - l.line
