@@ -49,8 +49,8 @@ not_refused (Ok tt) e = refl
 not_refused (Err why) e = absurd (false≢true e)
 
 -- A refusal is no success.
-apart : (why : Refusal) → ◌≡◌ {A = Result (Unit {0}) Refusal} (Err why) (Ok tt) → ⊥
-apart why e = false≢true (cc)
+not_ok : (why : Refusal) → ◌≡◌ {A = Result (Unit {0}) Refusal} (Err why) (Ok tt) → ⊥
+not_ok why e = false≢true (cc)
 
 has_place : (before : ℕ) (c : Chain) → is_well (line_verdict before (Ok (Some c))) ≡ true → (before < most_chains) × (chain_refusal_of chain_bytes c ≡ Ok tt)
 unfolding line_verdict
@@ -58,7 +58,7 @@ has_place before c e = go (ltb before most_chains) refl (not_refused (unless (lt
   where
     go : (t : Bool) → ltb before most_chains ≡ t → unless t (Err refusal.Length) (chain_refusal_of chain_bytes c) ≡ Ok tt → (before < most_chains) × (chain_refusal_of chain_bytes c ≡ Ok tt)
     go true room e = (ltb-true before most_chains room, e)
-    go false room e = absurd (apart refusal.Length e)
+    go false room e = absurd (not_ok refusal.Length e)
 
 is_sound_lem : (c : Chain) → chain_refusal_of chain_bytes c ≡ Ok tt → is_sound c ≡ true
 unfolding chain_refusal_of
@@ -66,7 +66,7 @@ is_sound_lem c e = go (is_sound c) e
   where
     go : (t : Bool) → ◌≡◌ {A = Result (Unit {0}) Refusal} (unless t (Err refusal.Chain) (Ok tt)) (Ok tt) → t ≡ true
     go true e = refl
-    go false e = absurd (apart refusal.Chain e)
+    go false e = absurd (not_ok refusal.Chain e)
 
 -- A text that is put into its own part of some bytes, from `at` on.
 placed_in : (s : List ℕ) (at width : ℕ) (text written : List ℕ) → at + width ≤ length s → length text ≡ width → written ≡ text →
