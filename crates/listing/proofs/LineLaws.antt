@@ -19,7 +19,7 @@ use Rattle.text.specs.Texts.{digits_of, spaced, flag_text, figures_text, bytes_i
 use Rattle.listing.specs.declared.Told.{Told}
 use Rattle.listing.specs.Answers.{RecordAnswer, Fix, Grid, Hold, Refused, places_of}
 use Rattle.listing.specs.Listings.{head_of, places_text, answer_text, line_of}
-use Rattle.listing.specs.Putting.{Tells, told_of, word_text, refused_text, middle_text, last_text}
+use Rattle.listing.specs.Putting.{Tells, told_of, word_text, stopped_text, middle_text, last_text}
 
 -- The head of a line: the line number of the raw record, or a dash if that is refused.
 head_by : Result RawRecord Refusal → List ℕ
@@ -60,7 +60,7 @@ placed_text ps l e = ap figures_text e ∙ places_text_lem ps
 
 -- The middle of a line and its last field are the answer's text.
 told_text : (a : RecordAnswer) (l : List ℕ) → take (2 * length (places_of a)) l ≡ entries_of (places_of a) → middle_text (told_of a) l ++ last_text (told_of a) ≡ answer_text a
-unfolding middle_text refused_text last_text told_of answer_text places_of word_text
+unfolding middle_text stopped_text last_text told_of answer_text places_of word_text
 told_text (Fix visits ps rounded) l e =
     ap (λ (z : List ℕ). (bytes_in " FIX" ++ (spaced (length ps) ++ (spaced visits ++ z))) ++ flag_text rounded) (placed_text ps l e)
     ∙ four_pieces (bytes_in " FIX") (spaced (length ps)) (spaced visits) (places_text ps) (flag_text rounded)

@@ -138,10 +138,10 @@ found_tells rounded places (Ok f) l counted b = fix_tells f.visits places rounde
 found_tells rounded places (Err why) l counted b = refused_tells (refusal_for why) (visits_before why) l
 
 -- A search counts the places that it lists.
-counted : (answer : Result Found Unfound) (n : ℕ) → (search_figures answer).count ≡ n → IfOk answer (λ (f : Found). f.count ≡ n)
+count_shown : (answer : Result Found Unfound) (n : ℕ) → (search_figures answer).count ≡ n → IfOk answer (λ (f : Found). f.count ≡ n)
 unfolding search_figures
-counted (Ok f) n e = e
-counted (Err why) n e = tt
+count_shown (Ok f) n e = e
+count_shown (Err why) n e = tt
 
 -- Equal answers are told alike, and what is told of an answer may be given in another way.
 pub tells_as : {a b : RecordAnswer} {t : Result Told Stopped} {l : List ℕ} → a ≡ b → Tells a t l → Tells b t l
@@ -162,7 +162,7 @@ fix_answers j rounded chain c a b a' b' n chained first second entries answer t 
     let o : Outcome = search_of (asked a' b' n) j.window in
     tells_as (ap (λ (q : Question). searched rounded (search_of q j.window)) same ∙ sym (ap (fix_by j (a ∷ b ∷ []) rounded) chained))
     (told_as (told ∙ ap (told_found rounded) answered)
-    (found_tells rounded o.places o.answer l (counted o.answer (length o.places) (listed_are_counted (asked a' b' n) j.window)) (search_first o.places l size (list ∙ ap (λ (m : ℕ). list_of m o.places) entries))))
+    (found_tells rounded o.places o.answer l (count_shown o.answer (length o.places) (listed_are_counted (asked a' b' n) j.window)) (search_first o.places l size (list ∙ ap (λ (m : ℕ). list_of m o.places) entries))))
 
 pub fix_same : (j : Job) (rounded : Bool) (a b a' b' : ℤ) (x y : Result Chain Refusal) → a' ≡ a → b' ≡ b → x ≡ y → fix_by j (a' ∷ b' ∷ []) rounded x ≡ fix_by j (a ∷ b ∷ []) rounded y
 fix_same j rounded a b a' b' x y first second e = ap₂ (λ (u v : ℤ). fix_by j (u ∷ v ∷ []) rounded x) first second ∙ ap (fix_by j (a ∷ b ∷ []) rounded) e

@@ -65,13 +65,13 @@ word_text word.Grid = bytes_in " GRID"
 word_text word.Hold = bytes_in " HOLD"
 
 -- What is printed of a refused record after the head of its line.
-unfoldable pub refused_text : Stopped → List ℕ
-refused_text s = bytes_in " REFUSED" ++ (spaced (refusal_number s.refusal) ++ spaced s.visits)
+unfoldable pub stopped_text : Stopped → List ℕ
+stopped_text s = bytes_in " REFUSED" ++ (spaced (refusal_number s.refusal) ++ spaced s.visits)
 
 -- What stands between the head of a line and its last field, with the places in a list.
 unfoldable pub middle_text : Result Told Stopped → List ℕ → List ℕ
 middle_text (Ok t) list = word_text t.word ++ (spaced t.count ++ (spaced t.visits ++ figures_text (take (2 * t.count) list)))
-middle_text (Err s) list = refused_text s
+middle_text (Err s) list = stopped_text s
 
 -- The last field.
 unfoldable pub last_text : Result Told Stopped → List ℕ

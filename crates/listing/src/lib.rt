@@ -10,7 +10,7 @@ ghost use Rattle.text.specs.Texts.{spaced, figures_text};
 ghost use Rattle.text.specs.Puts.{Put};
 ghost use Rattle.listing.specs.Answers.{RecordAnswer, stopped_by, fix_by, hold_of, carried_by, program_room};
 ghost use Rattle.listing.specs.Listings.{head_of, line_of, notice_of, longest_line, list_left};
-ghost use Rattle.listing.specs.Putting.{answer_in, lines_in, listing_in, Gives, Tells, told_found, list_entries, word_text, refused_text, last_text};
+ghost use Rattle.listing.specs.Putting.{answer_in, lines_in, listing_in, Gives, Tells, told_found, list_entries, word_text, stopped_text, last_text};
 
 use chart::{Chain, Place};
 use metres::Mark;
@@ -376,7 +376,7 @@ fn put_word(out: &mut [u8], at: usize, w: Word) -> usize
 // Puts what is printed of a refused record after the head of its line.
 fn put_refused(out: &mut [u8], at: usize, stopped: Stopped) -> usize
     requires { at + 50 ≤ length out.old }
-    ensures text { Put out.old at (refused_text stopped) out.new result }
+    ensures text { Put out.old at (stopped_text stopped) out.new result }
     ensures end { result ≤ at + 50 }
 {
     let a = text::put(out, at, b" REFUSED");

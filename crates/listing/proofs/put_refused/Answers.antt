@@ -5,7 +5,7 @@ use native.Mathlib.Omega.{arith}
 use Rattle.text.specs.Texts.{spaced, bytes_in}
 use Rattle.text.specs.Puts.{Put}
 use Rattle.text.proofs.PutLaws.{put_from, put_then}
-use Rattle.listing.specs.Putting.{refused_text}
+use Rattle.listing.specs.Putting.{stopped_text}
 use Rattle.listing.proofs.put_refused.Goals as goal
 
 pub put_figure-b-requires : goal.put_figure-b-requires
@@ -19,7 +19,7 @@ put_figure-requires c =
     omega (arith, c.requires, word.end_is, c.put_figure-b.ensures.end, c.put-a.auto.out, c.put_figure-b.auto.out)
 
 pub returns : goal.returns
-unfolding refused_text bytes_in
+unfolding stopped_text bytes_in
 returns c =
     let word = put_from (c.put-a.ensures.end, c.put-a.ensures.out) (omega (arith, c.requires)) in
     let number = subst (λ (n : ℕ). Put c.put-a.new.out c.put-a.result (spaced n) c.put_figure-b.new.out c.put_figure-b.result) (c.from.ensures ∙ c.number.ensures) c.put_figure-b.ensures.text in
