@@ -121,7 +121,8 @@ fn no_two_equal(c: Chain) -> bool
     c.master != c.a && c.master != c.b && c.a != c.b
 }
 
-// The range from a place to a station of a chain.
+// The range from a place to a station of a chain. What it asks of them stays a clause: refusals 4 and 5 are about places and chains that
+// lack it, so their types cannot keep it.
 #[tactic(auto, using(crate::proofs::RangeLaws::range_is_on_ground))]
 fn range(c: Chain, p: Place, station: Place) -> u64
     requires { (is_factor c.factor ≡ true) × (in_range p ≡ true) × (in_range station ≡ true) }

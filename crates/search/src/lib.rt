@@ -459,7 +459,8 @@ fn on_ground(factor: u64, d: u64) -> u64
     d * UNIT_FACTOR / factor
 }
 
-// The distance of p from a station, computed from a guess of it: in a walk that takes a step or two where `chart` begins anew.
+// The distance of p from a station, computed from a guess of it: in a walk that takes a step or two where `chart` begins anew. That
+// places are in range stays a clause, here and above, as in `chart`.
 #[tactic(auto, using(squares::proofs::RootLaws::root_at_most), unfolding(chart::specs::Places::distance_of))]
 fn distance(p: Place, station: Place, guess: u64) -> u64
     requires { (in_range p ≡ true) × (in_range station ≡ true) }
