@@ -45,7 +45,7 @@ def flags():
 def numbers():
     """Refusals written as numbers: an enum's, or what a function answers that names a refusal in its head."""
     for file, text in SOURCES.items():
-        for found in re.finditer(r"\b(Refused|told|refused|unvisited|notice)\((?:out, b\"\w+\", )?\d+\b", text):
+        for found in re.finditer(r"(?<![.\w])(Refused|told|refused|unvisited|notice)\((?:out, b\"\w+\", )?\d+\b", text):
             yield f"{where(file, text, found.start())} {found[0]}"
     for at, name, head, body in functions():
         if "-> u32" in head and "refusal" in name + head and "extern" not in head:

@@ -32,10 +32,6 @@ pub data RecordAnswer : Type 0 where
 abbrev pub program_room : ℕ
 program_room = 256
 
--- Why a search found no place, and the visits that it made.
-abbrev pub stopped_by : Unfound → Stopped
-stopped_by why = record { refusal = refusal_for why; visits = visits_before why }
-
 -- What a search answers, as a record's answer.
 unfoldable pub fix_with : Bool → List Place → Result Found Unfound → RecordAnswer
 fix_with rounded places (Ok found) = Fix found.visits places rounded

@@ -6,7 +6,7 @@ use Rattle.chart.specs.declared.Place.{Place}
 use Rattle.search.specs.declared.Found.{Found}
 use Rattle.search.specs.declared.Unfound.{Unfound}
 use Rattle.search.specs.declared.Stopped.{Stopped}
-use Rattle.search.specs.Answers.{entries_of}
+use Rattle.search.specs.Answers.{entries_of, stopped_by}
 use Rattle.text.specs.Texts.{spaced, flag_text, figures_text, bytes_in}
 use Rattle.listing.specs.declared.Carried.{Carried}
 use Rattle.listing.specs.declared.Sources.{Sources}
@@ -14,7 +14,7 @@ use Rattle.listing.specs.declared.Word.{Word}
 use Rattle.listing.specs.declared.Word.TheVariants as word
 use Rattle.listing.specs.declared.Told.{Told}
 use Rattle.listing.specs.declared.Listed.{Listed}
-use Rattle.listing.specs.Answers.{RecordAnswer, Fix, Grid, Hold, Refused, program_room, stopped_by, answer_of, places_of}
+use Rattle.listing.specs.Answers.{RecordAnswer, Fix, Grid, Hold, Refused, program_room, answer_of, places_of}
 use Rattle.listing.specs.Listings.{Part, lines_of, listing_by, listed_as}
 
 -- What a record answers, the lines of a log, and its listing with a count of chains, from the same sources.

@@ -8,7 +8,7 @@ ghost use Rattle.records.specs.Marks.{any_rounded};
 ghost use Rattle.records.specs.ChainTables.{chain_count_of};
 ghost use Rattle.text.specs.Texts.{spaced, figures_text};
 ghost use Rattle.text.specs.Puts.{Put};
-ghost use Rattle.listing.specs.Answers.{RecordAnswer, stopped_by, fix_by, hold_of, carried_by, program_room};
+ghost use Rattle.listing.specs.Answers.{RecordAnswer, fix_by, hold_of, carried_by, program_room};
 ghost use Rattle.listing.specs.Listings.{head_of, line_of, notice_of, longest_line, list_left};
 ghost use Rattle.listing.specs.Putting.{answer_in, lines_in, listing_in, Gives, Tells, told_found, list_entries, word_text, stopped_text, last_text};
 
@@ -257,29 +257,13 @@ fn fix(
 fn found(answer: Result<Found, Unfound>, rounded: bool) -> Result<Told, Stopped>
     ensures { result ≡ told_found rounded answer }
 {
-    let f = answer.map_err(stopped)?;
+    let f = answer?;
     Ok(Told {
         word: Word::Fix,
         count: f.count,
         visits: f.visits,
         rounded,
     })
-}
-
-// Why a search found no place, and the visits that it made.
-fn stopped(unfound: Unfound) -> Stopped
-    ensures { result ≡ stopped_by unfound }
-{
-    let (refusal, visits) = match unfound {
-        Unfound::ReadingTooLarge => (Refusal::Number, 0),
-        Unfound::Unsound => (Refusal::Chain, 0),
-        Unfound::BadWindow => (Refusal::Window, 0),
-        Unfound::BadTolerance => (Refusal::Tolerance, 0),
-        Unfound::NoMatch { visits } => (Refusal::NoMatch, visits),
-        Unfound::NoRoom { visits } => (Refusal::NoRoom, visits),
-        Unfound::AllowanceUsed { visits } => (Refusal::Allowance, visits),
-    };
-    Stopped { refusal, visits }
 }
 
 // A hold repeats the place carried to it, and how its line ends.

@@ -13,6 +13,7 @@ use Rattle.search.specs.declared.Found.{Found}
 use Rattle.search.specs.declared.Unfound.{Unfound}
 use Rattle.search.specs.declared.Unfound.TheVariants.{ReadingTooLarge, Unsound, BadWindow, BadTolerance, NoMatch, NoRoom, AllowanceUsed}
 use Rattle.search.specs.declared.SearchFigures.{SearchFigures}
+use Rattle.search.specs.declared.Stopped.{Stopped}
 use Rattle.search.specs.Windows.{is_window}
 use Rattle.search.specs.Questions.{Rule, Question, question_of, most_tolerance, none_too_large}
 use Rattle.search.specs.Walk.{Halt, Full, Spent, Standing, start, visit}
@@ -104,6 +105,10 @@ visits_before BadTolerance = 0
 visits_before (NoMatch visits) = visits
 visits_before (NoRoom visits) = visits
 visits_before (AllowanceUsed visits) = visits
+
+-- Both together.
+abbrev pub stopped_by : Unfound → Stopped
+stopped_by why = record { refusal = refusal_for why; visits = visits_before why }
 
 -- An answer in figures: the number of the refusal, 0 for none, the count of places and the visits.
 unfoldable pub search_figures : Answer → SearchFigures

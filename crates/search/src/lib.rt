@@ -11,7 +11,7 @@ ghost use Rattle.search.specs.Windows as windows;
 ghost use Rattle.search.specs.Questions.{rule_of, most_reading, none_too_large};
 ghost use Rattle.search.specs.Walk.{Standing, start};
 ghost use Rattle.search.specs.Walk as walk;
-ghost use Rattle.search.specs.Answers.{ended, refusal_for, visits_before, list_of, search_left, search_figures};
+ghost use Rattle.search.specs.Answers.{ended, refusal_for, visits_before, stopped_by, list_of, search_left, search_figures};
 ghost use Rattle.search.specs.Counts.{said_for, stopped_with, how_many_of};
 ghost use Rattle.search.specs.Holding.{wanted_by, rule_by, question_by, least_for, OnChart, Holds, Represents};
 
@@ -100,6 +100,17 @@ pub enum HowMany {
 pub struct Stopped {
     pub refusal: Refusal,
     pub visits: u64,
+}
+
+impl From<Unfound> for Stopped {
+    ghost from_gives = { λ why stopped. stopped ≡ stopped_by why };
+
+    fn from(why: Unfound) -> Stopped {
+        Stopped {
+            refusal: why.refusal(),
+            visits: why.visits(),
+        }
+    }
 }
 
 pub const MOST_EXPONENT: u32 = 24;
