@@ -22,6 +22,17 @@ const STRETCH_BYTES: usize = 65_536;
 const STRETCH_ROOM: usize = STRETCH_BYTES / records::LOG_BYTES
     * (shown::LINE_ROOM + 2 * records::LOG_BYTES);
 
+// What was read of the job, the table and its side file: at most a byte more than each may have.
+#[derive(Clone, Copy)]
+struct FilesRead<'a> {
+    job: &'a [u8],
+    table: &'a [u8],
+    scale: &'a [u8],
+    ghost job_short: { length job.now ≤ longest_job },
+    ghost table_short: { length table.now ≤ longest_table },
+    ghost scale_short: { length scale.now ≤ longest_scale },
+}
+
 fn main(rt: HostRuntime) {
     let tool = Tool {
         rt: &rt,
@@ -79,7 +90,12 @@ fn show_with(
         return;
     };
     if tool.is_still(b"chain.dat", &file) {
-        show_files(tool, out, job, &table[..t], &scale[..f]);
+        let read = FilesRead {
+            job,
+            table: &table[..t],
+            scale: &scale[..f],
+        };
+        show_files(tool, out, &read);
     }
 }
 
@@ -92,14 +108,12 @@ fn out_buffer() -> [u8; STRETCH_ROOM] {
 fn show_files(
     tool: &Tool<'_, impl Files<File = File> + Print + EprintBytes>,
     out: &mut [u8],
-    job: &[u8],
-    table: &[u8],
-    scale: &[u8],
+    read: &FilesRead<'_>,
 )
-    requires { (length out.old ≡ stretch_room) × (length job.now ≤ longest_job) × (length table.now ≤ longest_table) × (length scale.now ≤ longest_scale) }
+    requires { length out.old ≡ stretch_room }
 {
-    let n = put_files(out, job, table, scale);
-    if files_printed(tool, &out[..n], job, table, scale) {
+    let n = put_files(out, read);
+    if files_printed(tool, &out[..n], read) {
         show_log(tool, out);
     }
 }
@@ -108,23 +122,23 @@ fn show_files(
 fn files_printed(
     tool: &Tool<'_, impl Print + EprintBytes>,
     text: &[u8],
-    job: &[u8],
-    table: &[u8],
-    scale: &[u8],
+    read: &FilesRead<'_>,
 ) -> bool
-    requires { text.now ≡ file_lines job.now table.now scale.now }
+    requires { text.now ≡ file_lines read.now.job.now read.now.table.now read.now.scale.now }
 {
     tool.print(text)
 }
 
-fn put_files(out: &mut [u8], job: &[u8], table: &[u8], scale: &[u8]) -> usize
-    requires { (length out.old ≡ stretch_room) × (length job.now ≤ longest_job) × (length table.now ≤ longest_table) × (length scale.now ≤ longest_scale) }
-    ensures { Put out.old 0 (file_lines job.now table.now scale.now) out.new result }
+fn put_files(out: &mut [u8], read: &FilesRead<'_>) -> usize
+    requires { length out.old ≡ stretch_room }
+    ensures { Put out.old 0 (file_lines read.now.job.now read.now.table.now read.now.scale.now) out.new result }
 {
-    let end = put_job(out, 0, job);
-    put_table(out, end, table, scale)
+    let end = put_job(out, 0, read.job);
+    put_table(out, end, read.table, read.scale)
 }
 
+// This one, `put_chain`, `put_scale` and `put_record` have two lines alike: what a function that took the call between them would have to
+// ask of it is longer than these.
 fn put_job(out: &mut [u8], at: usize, s: &[u8]) -> usize
     requires { at + line_room (length s.now) ≤ length out.old }
     ensures { PutLine out.old at (job_line s.now) (length s.now) out.new result }
@@ -197,7 +211,7 @@ fn after(at: usize, line: Result<usize, Refusal>) -> usize
     at + line.unwrap_or(0)
 }
 
-// Opens the log and prints its lines.
+// Opens the log and prints its lines. How long `out` is stays a clause: as an array it would have to be lent as one to `show_with`, too.
 fn show_log(tool: &Tool<'_, impl Files<File = File> + Print + EprintBytes>, out: &mut [u8])
     requires { length out.old ≡ stretch_room }
 {

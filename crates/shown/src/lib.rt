@@ -1,4 +1,5 @@
 // Puts into text what the files hold, one line for each record, the readings expected at a place, and whether readings allow one
+// The buffer and where its text ends are two parameters, as in `text`, whose promises are about them.
 // place.
 #![tactic(auto)]
 
@@ -59,7 +60,7 @@ pub fn scale(out: &mut [u8], s: &[u8]) -> Result<usize, Refusal>
     Ok(put_end(out, a, Refusal::Length.number(), s))
 }
 
-// Puts the line of a log record.
+// Puts the line of a log record: a word, the fields and the end, as in `job`, of which only the end could be shared.
 pub fn record(out: &mut [u8], s: &[u8]) -> Result<usize, Refusal>
     ensures answer { result ≡ (shown_in out.old (length s.now) (Ok (record_line s.now))).answer }
     ensures out { out.new ≡ (shown_in out.old (length s.now) (Ok (record_line s.now))).buffer }
