@@ -1,6 +1,5 @@
 // Puts into text what the files hold, one line for each record, the readings expected at a place, and whether readings allow one
-// The buffer and where its text ends are two parameters, as in `text`, whose promises are about them.
-// place.
+// place. The buffer and where its text ends are two parameters, as in `text`, whose promises are about them.
 #![tactic(auto)]
 
 ghost use Rattle.std.specs.Prelude.{◌≡◌, ◌++◌, ◌∷◌, [], ◌+◌, ◌*◌, ◌≤◌, length, Ok};
