@@ -60,11 +60,13 @@ def shape(head, body):
     return re.sub(r"\b\d[\w.]*\b", "0", re.sub(r"\s+", " ", text))
 
 
-def twins():
+def twins(calls):
+    """Functions of one shape; where `calls` is true, they also call the same functions by the same names."""
     alike = defaultdict(list)
     for at, name, head, body in functions():
         names = {}
-        text = re.sub(r"\b[a-z_]\w*\b", lambda it: names.setdefault(it[0], f"n{len(names)}"), shape(head, body))
+        word = r"\b[a-z_]\w*\b(?!\(|::)" if calls else r"\b[a-z_]\w*\b"
+        text = re.sub(word, lambda it: names.setdefault(it[0], f"n{len(names)}"), shape(head, body))
         if len(body.strip().splitlines()) > 1:
             alike[text].append(f"{at} {name}")
     return [" = ".join(each) for each in alike.values() if len(each) > 1]
@@ -106,7 +108,8 @@ def main():
         ("1 enums with a variant for no value", enums()),
         ("1 flags and numbers beside values", flags()),
         ("1 refusals as numbers", numbers()),
-        ("2 functions that differ in types, numbers, text and names alone", twins()),
+        ("2 functions that differ in types, numbers, text and names alone", twins(True)),
+        ("2 beside these, functions that also differ in what they call", [it for it in twins(False) if it not in twins(True)]),
         ("3 while loops", loops()),
         ("4 equality and order by hand", by_hand()),
         ("5 facts in three contracts or more", clauses()),

@@ -33,7 +33,7 @@ pub struct BothReadings {
     pub b: i64,
 }
 
-// The readings as figures, for C: the number of the refusal, 0 for none, and both readings.
+// The readings as figures: the number of the refusal, 0 for none, and both readings, as lay.h has them.
 #[derive(Clone, Copy)]
 pub struct Figures {
     pub refusal: u32,
@@ -121,8 +121,8 @@ fn no_two_equal(c: Chain) -> bool
     c.master != c.a && c.master != c.b && c.a != c.b
 }
 
-// The range from a place to a station of a chain. What it asks of them stays a clause: refusals 4 and 5 are about places and chains that
-// lack it, so their types cannot keep it.
+// The range from a place to a station of a chain. What it asks of them is a clause: refusals 4 and 5 are about places and chains that
+// lack it, and a second type of place would be built at each call.
 #[tactic(auto, using(crate::proofs::RangeLaws::range_is_on_ground))]
 fn range(c: Chain, p: Place, station: Place) -> u64
     requires { (is_factor c.factor ≡ true) × (in_range p ≡ true) × (in_range station ≡ true) }
@@ -132,7 +132,7 @@ fn range(c: Chain, p: Place, station: Place) -> u64
 }
 
 // How long a distance of the grid is on the ground. `search` has its own: shared, it would be public, which asks nothing of callers, and
-// so test the factor and the distance at every visit; and a fault of each crate is in its own.
+// so test the factor and the distance at every visit.
 #[tactic(auto, using(crate::proofs::GroundLaws::factor_some, crate::proofs::GroundLaws::ground_small), unfolding(crate::specs::Factors::on_ground))]
 fn on_ground(factor: u32, d: u64) -> u64
     requires { (is_factor factor ≡ true) × (d < 2 ^ 30) }

@@ -12,7 +12,8 @@ pub fn four_at(s: &[u8], at: usize) -> Option<u32>
     Some(u32::from_le_bytes(*bytes))
 }
 
-// The same for eight bytes. The two stay two: the type of the number goes with their width, and a trait of both would be longer.
+// The same for eight bytes. There are two, and two that put: the type of the number goes with the width, and a trait of both types would
+// be longer.
 pub fn eight_at(s: &[u8], at: usize) -> Option<u64>
     ensures { result ≡ eight_at s.now at }
 {

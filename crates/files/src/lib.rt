@@ -70,7 +70,7 @@ pub struct Target<'a> {
     pub fresh: &'a [u8],
 }
 
-// A file to read. It stays an enum: callers treat each of the three cases in another way, and a missing file is no error.
+// A file to read. It is an enum, since callers treat each of the three cases in another way, and a missing file is no error.
 #[derive(Drop)]
 pub enum Opened {
     File(File),
@@ -252,7 +252,8 @@ impl<R: EprintBytes> Tool<'_, R> {
         false
     }
 
-    // Prints a refusal by its number, which stays a number where it is printed, with the number of the input line that is refused, 0 for none. Returns false.
+    // Prints a refusal by its number, with the number of the input line that is refused, 0 for none. Returns false. Any number is printed,
+    // here and below: a `Refusal` would ask more of callers.
     pub fn refused(&self, line: u64, number: u32, sentence: &[u8]) -> bool
         ensures { result ≡ false }
     {

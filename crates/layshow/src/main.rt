@@ -211,7 +211,7 @@ fn after(at: usize, line: Result<usize, Refusal>) -> usize
     at + line.unwrap_or(0)
 }
 
-// Opens the log and prints its lines. How long `out` is stays a clause: as an array it would have to be lent as one to `show_with`, too.
+// Opens the log and prints its lines.
 fn show_log(tool: &Tool<'_, impl Files<File = File> + Print + EprintBytes>, out: &mut [u8])
     requires { length out.old ≡ stretch_room }
 {

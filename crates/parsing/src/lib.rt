@@ -102,7 +102,7 @@ pub fn is_word(s: &[u8]) -> bool
     all_of(s, in_word)
 }
 
-// The job in a line. A line of another form is refused here and below.
+// The job in a line. A line of another form is refused here and below; that test is all that these have in common.
 #[tactic(auto, using(crate::proofs::Values::held_32), unfolding(crate::specs::Parsed::parsed_job))]
 pub fn job(line: &[u8]) -> Result<Job, Refusal>
     ensures { result ≡ parsed_job line.now }
@@ -247,6 +247,7 @@ pub fn word_at(line: &[u8], i: usize) -> Span
     word(line, i)
 }
 
+// The same, and where the search for it begins, which only the functions here need.
 fn word(s: &[u8], i: usize) -> Span
     ensures span { Spans s.now (word_at i s.now) result }
     ensures start { result.start ≡ start_at i s.now }
@@ -280,7 +281,7 @@ pub fn place_fault(p: Place) -> usize
     }
 }
 
-// The same in a job that is refused with 6 or 7. A number of any other refusal may be given too, so it stays a number.
+// The same in a job that is refused with 6 or 7. Any number may be given: a `Refusal` would ask more of callers.
 #[tactic(auto, unfolding(crate::specs::Faults::job_fault))]
 pub fn job_fault(number: u32, j: Job) -> usize
     ensures { result ≡ job_fault number j }
@@ -303,7 +304,7 @@ pub fn job_fault(number: u32, j: Job) -> usize
     }
 }
 
-// The same in a draft that is refused with 2 to 5.
+// The same in a draft that is refused with 2 to 5, by a number as in `job_fault`.
 #[tactic(auto, unfolding(crate::specs::Faults::draft_fault))]
 pub fn draft_fault(number: u32, d: Draft) -> usize
     ensures { result ≡ draft_fault number d }
@@ -454,6 +455,7 @@ fn wrong_in(w: &[u8], taken: Taken) -> Wrong
     }
 }
 
+// What is wrong with a word that is taken for a number, a length or a reading: each has a test of its own.
 #[tactic(auto, unfolding(crate::specs::Forms::wrong_in))]
 fn wrong_number(w: &[u8]) -> Wrong
     ensures { result ≡ wrong_in kinds.Line w.now }
@@ -553,6 +555,7 @@ fn window(s: &[u8]) -> Window
     Window { corner, k }
 }
 
+// Where there is no word, the usual allowance; below, the factor with which ground and grid are the same.
 fn allowance(s: &[u8]) -> u64
     ensures { result ≡ held 64 (allowance_in s.now) }
 {
@@ -602,7 +605,7 @@ fn number(s: &[u8], i: usize) -> Option<u64>
     value(word_of(s, i))
 }
 
-// The length in the word i of a line, counted from 0.
+// The length in the word i of a line, counted from 0: as above but for what the word says.
 fn length(s: &[u8], i: usize) -> Option<u64>
     ensures { result ≡ sized_of (length_at s.now i) }
 {

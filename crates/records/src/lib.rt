@@ -158,8 +158,8 @@ pub fn is_scale(chains: usize, s: &[u8]) -> bool
     s.len() % FACTOR_BYTES == 0 && s.len() / FACTOR_BYTES == chains
 }
 
-// How many chains there are in the bytes of a table that its side file fits. The two are two files, and two arguments in C: a struct of
-// both would be made only for this call and that of `chain_of`.
+// How many chains there are in the bytes of a table that its side file fits. The two are two files, and two arguments in C, whose
+// functions lend them as they come.
 #[tactic(auto, unfolding(crate::specs::ChainTables::chain_count_of, crate::specs::ChainTables::scaled_count_of))]
 pub fn scaled_count(s: &[u8], scale: &[u8]) -> Result<usize, Refusal>
     ensures { result ≡ scaled_count_of s.now scale.now }
@@ -248,6 +248,7 @@ fn accepted(j: Job) -> Result<Job, Refusal>
 }
 
 // Where the piece of `bytes` bytes that begins at `done` ends, in a text of `length` bytes. The last piece may be shorter.
+// The programs cut by `chunks`; this is for who uses the crate.
 pub fn piece_end(done: usize, bytes: usize, length: usize) -> usize
     ensures { result ≡ piece_end done bytes length }
 {

@@ -12,7 +12,7 @@ ghost use Rattle.search.specs.Questions.{rule_of, most_reading, none_too_large};
 ghost use Rattle.search.specs.Walk.{Standing, start};
 ghost use Rattle.search.specs.Walk as walk;
 ghost use Rattle.search.specs.Answers.{ended, refusal_for, visits_before, stopped_by, list_of, search_left, search_figures};
-ghost use Rattle.search.specs.Counts.{said_for, stopped_with, how_many_of};
+ghost use Rattle.search.specs.Counts.{said_for, how_many_of};
 ghost use Rattle.search.specs.Holding.{wanted_by, rule_by, question_by, least_for, OnChart, Holds, Represents};
 
 mod hunt;
@@ -35,7 +35,7 @@ pub struct Found {
     pub visits: u64,
 }
 
-// Why a search found nothing, in the order of the refusals' numbers, with the visits made.
+// Why a search found nothing, in the order of the refusals' numbers. Only three come with visits, so this is no `Stopped`.
 #[derive(Clone, Copy)]
 pub enum Unfound {
     ReadingTooLarge,
@@ -106,10 +106,9 @@ impl From<Unfound> for Stopped {
     ghost from_gives = { λ why stopped. stopped ≡ stopped_by why };
 
     fn from(why: Unfound) -> Stopped {
-        Stopped {
-            refusal: why.refusal(),
-            visits: why.visits(),
-        }
+        let visits = why.visits();
+        let refusal = why.refusal();
+        Stopped { refusal, visits }
     }
 }
 
@@ -230,24 +229,10 @@ fn said_for(a: Result<Found, Unfound>, first: Place) -> Result<HowMany, Stopped>
             place: first,
             visits,
         }),
-        Err(Unfound::ReadingTooLarge) => unvisited(Refusal::Number),
-        Err(Unfound::Unsound) => unvisited(Refusal::Chain),
-        Err(Unfound::BadWindow) => unvisited(Refusal::Window),
-        Err(Unfound::BadTolerance) => unvisited(Refusal::Tolerance),
         Err(Unfound::NoMatch { visits }) => Ok(HowMany::None { visits }),
         Err(Unfound::NoRoom { visits }) => Ok(HowMany::Several { visits }),
-        Err(Unfound::AllowanceUsed { visits }) => {
-            let refusal = Refusal::Allowance;
-            Err(Stopped { refusal, visits })
-        }
+        Err(why) => Err(Stopped::from(why)),
     }
-}
-
-// A refusal without a visit. (A fault is in this function by name.)
-fn unvisited(refusal: Refusal) -> Result<HowMany, Stopped>
-    ensures { result ≡ stopped_with refusal 0 }
-{
-    Err(Stopped { refusal, visits: 0 })
 }
 
 // Whether both readings are at most 1,000,000,000 in size.
@@ -471,7 +456,7 @@ fn on_ground(factor: u64, d: u64) -> u64
 }
 
 // The distance of p from a station, computed from a guess of it: in a walk that takes a step or two where `chart` begins anew. That
-// places are in range stays a clause, here and above, as in `chart`.
+// places are in range is a clause, here and above, as in `chart`.
 #[tactic(auto, using(squares::proofs::RootLaws::root_at_most), unfolding(chart::specs::Places::distance_of))]
 fn distance(p: Place, station: Place, guess: u64) -> u64
     requires { (in_range p ≡ true) × (in_range station ≡ true) }

@@ -26,7 +26,7 @@ pub struct Draft {
 }
 
 // Writes a draft into a buffer of 32 bytes. A refused write leaves the whole buffer zero, whatever its length.
-// The four writers stay four: their tests and their bytes have nothing in common, so a trait for them would have as many lines.
+// There are four writers: their tests and their bytes have nothing in common, so a trait for them would have as many lines.
 #[tactic(auto, using(crate::proofs::WriteLaws::written_bytes, crate::proofs::WriteLaws::used_small), unfolding(crate::specs::Writing::buffer_of, crate::specs::Buffers::left_in))]
 pub fn write(buffer: &mut [u8], d: Draft) -> Result<(), Refusal>
     ensures answer { result ≡ refusal_of (length buffer.old) d }
