@@ -15,8 +15,8 @@ const REASON_BYTES: usize = 256;
 // A text of at most N bytes: those of the buffer up to `end`.
 #[derive(Drop)]
 pub(crate) struct Message<const N: usize> {
-    buffer: [u8; N],
-    end: usize,
+    pub(crate) buffer: [u8; N],
+    pub(crate) end: usize,
     ghost inside: { end ≤ length buffer },
 }
 
