@@ -145,7 +145,7 @@ pass_if 'nothing is said' [ ! -s "$said" ]
 touch "$changed/crates/text/src/lib.rt"
 run "$changed/bin/laylist" "$example"
 pass_if "a source that is newer: $(cat "$said")" listed
-pass_if 'it is said' grep -qx 'laylist: older than a source; what is not proved of 12 crates is proved first, which may take some minutes' "$said"
+pass_if 'it is said' grep -qx 'laylist: older than a source; what is not proved of 13 crates is proved first, which may take some minutes' "$said"
 run "$changed/bin/laylist" "$example"
 pass_if 'and only once' [ ! -s "$said" ]
 touch "$changed/crates/shown/src/lib.rt"
