@@ -200,7 +200,7 @@ proved=$(
 pass_if "progress: $proved" [ "$proved" = 'proved squares (3 s), 3 left
 proved metres (6 s), 1 left' ]
 pass_if 'the crates that laylist rests on' [ "$(crates_for laylist | sort | paste -sd ' ')" = \
-    'chart fields files laylist listing metres parsing records search squares text writing' ]
+    'chart fields files laylist listing metres parsing records refusals search squares text writing' ]
 pass_if 'all crates' [ "$(crates_for | sort)" = "$(ls crates)" ]
 
 # What the tests need, by stand-ins for the commands that are missing, for who is asking and for Debian's installer.
