@@ -1,4 +1,4 @@
--- The numbers of the refusals (01, Numbers of refusal; 12: 02, A1 of the typed lines).
+-- The numbers of the refusals: 1 to 11 of 01, Numbers of refusal; and 12, which 02, A5, gives to text of another form.
 use Rattle.std.specs.Prelude.{ℕ, Result, Ok, Err}
 use Rattle.refusals.specs.declared.Refusal.{Refusal}
 use Rattle.refusals.specs.declared.Refusal.TheVariants.{Length, Form, Number, Place, Chain, Window, Tolerance, NoMatch, NoRoom, Allowance, Hold, Line}
