@@ -1,12 +1,13 @@
 -- Text put into a buffer: nothing, one byte, and one text after the other; and what a function that puts a text promises.
 use Prim.Native.Nat.{ℕ, ◌+◌, ◌^◌, ◌≤◌, ◌<◌}
-use mathlib.Core.Path.{◌≡◌, refl, sym, ap, ap₂, ◌∙◌, subst}
+use mathlib.Core.Path.{◌≡◌, refl, sym, ap, ap₂, ◌∙◌, subst, subst⁻¹}
 use mathlib.Core.Bool.{Bool, true, false}
-use mathlib.Core.List.{List, [], ◌++◌, append_assoc}
+use mathlib.Core.List.{List, [], ◌∷◌, ◌++◌, append_assoc}
 use native.Mathlib.Omega.{arith}
+use native.Mathlib.Numerals.{add-one}
 use borrow.Author.Tests.{le-leb, lt-leb, leb-true, leb-false}
-use lib.ListN.{length, take, drop, take-append-drop, length-append, length-drop}
-use lib.Seq.{length-take-le, take_at, drop-append-add, drop-drop}
+use lib.ListN.{length, get_or, take, drop, set, take-append-drop, length-append, length-drop}
+use lib.Seq.{length-take-le, take_at, drop-append-add, drop-drop, set_split, take-suc}
 use Rattle.text.specs.Texts.{digits_of, flag_text, bytes_in}
 use Rattle.text.specs.Puts.{room_for, end_after, with_text, Put}
 use Rattle.text.proofs.Digits.{digits_32}
@@ -83,6 +84,23 @@ put_none o at h =
       end_is = here;
       now_is = sym (take-append-drop at o) ∙ ap (λ (n : ℕ). take at o ++ drop n o) here;
     }
+
+-- Putting one byte.
+pub put_one : (o : List ℕ) (at b : ℕ) → at < length o → Put o at (b ∷ []) (set o at b) (at + 1)
+put_one o at b h =
+    record {
+      fits = omega arith;
+      end_is = refl;
+      now_is = set_split o at b h ∙ ap (λ (n : ℕ). take at o ++ b ∷ drop n o) (sym (add-one at));
+    }
+
+-- One byte more of a text that is put byte by byte.
+pub put_more : (o : List ℕ) (at : ℕ) (s o' : List ℕ) (i : ℕ) → i < length s → Put o at (take i s) o' (at + i) → at + i < length o' → Put o at (take (i + 1) s) (set o' (at + i) (get_or s i 0)) (at + (i + 1))
+put_more o at s o' i h p room =
+    let all : take (i + 1) s ≡ take i s ++ (get_or s i 0 ∷ []) = ap (λ (n : ℕ). take n s) (add-one i) ∙ take-suc s i 0 h in
+    let behind : at + i + 1 ≡ at + (i + 1) = omega arith in
+    subst (λ (n : ℕ). Put o at (take (i + 1) s) (set o' (at + i) (get_or s i 0)) n) behind
+    (subst⁻¹ (λ (x : List ℕ). Put o at x (set o' (at + i) (get_or s i 0)) (at + i + 1)) all (put_then p (put_one o' (at + i) (get_or s i 0) room)))
 
 -- If a text was put, so was any equal text.
 pub put_as : {o : List ℕ} {at : ℕ} {x y o' : List ℕ} {end : ℕ} → x ≡ y → Put o at x o' end → Put o at y o' end

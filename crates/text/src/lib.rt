@@ -71,11 +71,14 @@ pub fn put_bytes(out: &mut [u8], at: usize, s: &[u8]) -> usize
     put_hex(out, at, s)
 }
 
+// Byte by byte: most texts are short, and with `copy_from_slice` a program in C would have to bring a memcpy for the library.
 fn put_all(out: &mut [u8], at: usize, s: &[u8]) -> usize
     requires { at + length s.now ≤ length out.old }
     ensures { Put out.old at s.now out.new result }
 {
-    out[at..at + s.len()].copy_from_slice(s);
+    for (i, &b) in s.iter().enumerate() {
+        out[at + i] = b;
+    }
     at + s.len()
 }
 

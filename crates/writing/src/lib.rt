@@ -32,8 +32,9 @@ pub fn write(buffer: &mut [u8], d: Draft) -> Result<(), Refusal>
     ensures answer { result ≡ refusal_of (length buffer.old) d }
     ensures buffer { buffer.new ≡ buffer_of (length buffer.old) d }
 {
+    let fits = refusal_of(buffer.len(), d);
     clear_buffer(buffer);
-    refusal_of(buffer.len(), d)?;
+    fits?;
     put(buffer, used(d));
     Ok(())
 }
@@ -44,8 +45,9 @@ pub fn write_chain(buffer: &mut [u8], c: Chain) -> Result<(), Refusal>
     ensures answer { result ≡ chain_refusal_of (length buffer.old) c }
     ensures buffer { buffer.new ≡ chain_buffer_of (length buffer.old) c }
 {
+    let fits = chain_refusal(buffer.len(), c);
     clear_buffer(buffer);
-    chain_refusal(buffer.len(), c)?;
+    fits?;
     put_chain(buffer, c);
     Ok(())
 }
@@ -56,8 +58,9 @@ pub fn write_factor(buffer: &mut [u8], factor: u32) -> Result<(), Refusal>
     ensures answer { result ≡ factor_refusal_of (length buffer.old) factor }
     ensures buffer { buffer.new ≡ factor_buffer_of (length buffer.old) factor }
 {
+    let fits = factor_refusal(buffer.len(), factor);
     clear_buffer(buffer);
-    factor_refusal(buffer.len(), factor)?;
+    fits?;
     fields::put_four(buffer, 0, factor);
     Ok(())
 }
@@ -68,8 +71,9 @@ pub fn write_job(buffer: &mut [u8], j: Job) -> Result<(), Refusal>
     ensures answer { result ≡ job_refusal_of (length buffer.old) j }
     ensures buffer { buffer.new ≡ job_buffer_of (length buffer.old) j }
 {
+    let fits = job_refusal(buffer.len(), j);
     clear_buffer(buffer);
-    job_refusal(buffer.len(), j)?;
+    fits?;
     put_job(buffer, j);
     Ok(())
 }
