@@ -1,13 +1,16 @@
--- Bytes that must be zero: each of a list, and some of them and then the bytes after them.
-use Prim.Native.Nat.{ℕ, zero, suc, ◌+◌}
+-- Bytes that must be zero: each of a list, some of them and then the bytes after them, and as a number, which is 0 exactly if all are.
+use Prim.Native.Nat.{ℕ, zero, suc, ◌+◌, ◌*◌}
 use mathlib.Core.Path.{◌≡◌, refl, sym, ap, ◌∙◌}
 use mathlib.Core.Bool.{Bool, true, ◌&&◌, and_assoc}
 use mathlib.Core.List.{List, [], ◌∷◌}
+use native.Mathlib.Omega.{arith}
 use native.Mathlib.Nat.{zero-add, suc-add}
 use lib.Dec.{eqb}
 use lib.ListN.{take, drop}
 use lib.Seq.{drop-drop}
+use borrow.Author.Tests.{ne_eqb}
 use Rattle.std.specs.List.{list_all}
+use Rattle.fields.specs.Fields.{value_of, field_at}
 use Rattle.records.specs.Bytes.{all_zero, are_zero}
 
 -- The test of the library on each byte is the definition.
@@ -33,6 +36,20 @@ zero_split m n s at =
     split_take m n (drop at s)
     ∙ ap (λ (bs : List ℕ). are_zero m s at && all_zero (take n bs)) (drop-drop m at s)
 
--- The numbers of a hold are those that a kind may use and the last one.
-pub hold_split : (s : List ℕ) → are_zero 24 s 8 ≡ (are_zero 16 s 8 && are_zero 8 s 24)
-hold_split s = zero_split 16 8 s 8
+-- The numbers of a hold are the two that a kind may use and the last one.
+pub hold_split : (s : List ℕ) → are_zero 24 s 8 ≡ (are_zero 8 s 8 && (are_zero 8 s 16 && are_zero 8 s 24))
+hold_split s = zero_split 8 16 s 8 ∙ ap (λ (t : Bool). are_zero 8 s 8 && t) (zero_split 8 8 s 16)
+
+zero_sum : (b v : ℕ) → eqb (b + 256 * v) 0 ≡ (eqb b 0 && eqb v 0)
+zero_sum zero zero = refl
+zero_sum zero (suc v) = ne_eqb (zero + 256 * suc v) 0 (λ e. omega arith) ∙ sym (ne_eqb (suc v) 0 (λ e. omega arith))
+zero_sum (suc b) v = ne_eqb (suc b + 256 * v) 0 (λ e. omega arith) ∙ ap (λ (t : Bool). t && eqb v 0) (sym (ne_eqb (suc b) 0 (λ e. omega arith)))
+
+zero_value : (bs : List ℕ) → eqb (value_of bs) 0 ≡ all_zero bs
+unfolding value_of all_zero
+zero_value [] = refl
+zero_value (b ∷ bs) = zero_sum b (value_of bs) ∙ ap (λ (t : Bool). eqb b 0 && t) (zero_value bs)
+
+-- A field is 0 exactly if all its bytes are.
+pub zero_field : (width : ℕ) (s : List ℕ) (at : ℕ) → eqb (field_at width s at) 0 ≡ are_zero width s at
+zero_field width s at = zero_value (take width (drop at s))

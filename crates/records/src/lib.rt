@@ -6,7 +6,7 @@ ghost use Rattle.fields.specs.Fields.{field_at};
 ghost use Rattle.metres.specs.Metres.{centimetres_of};
 ghost use Rattle.metres.specs.Marks.{mark_of};
 ghost use Rattle.records.specs.Bytes.{number_in, all_zero, are_zero, piece_end};
-ghost use Rattle.records.specs.LogRecords.{raw_in, raw_record_of, is_hyperbolic, is_grid, is_hold, log_record_of, is_place, two_readings, placed, pair_of, with_pair, log_entry_of};
+ghost use Rattle.records.specs.LogRecords.{log_bytes, raw_in, raw_record_of, is_hyperbolic, is_grid, is_hold, log_record_of, is_place, two_readings, placed, pair_of, with_pair, log_entry_of};
 ghost use Rattle.records.specs.ChainTables.{chain_bytes, factor_bytes, is_table, one_to, chain_count_of, is_scale, scaled_count_of, place_at, chain_at, raw_chain_of, chain_in, chain_of};
 ghost use Rattle.records.specs.Jobs.{job_in, raw_job_of, formed_job_of, accepted_job, job_of, many_by};
 ghost use Rattle.records.specs.Marks.{marked_entry_of};
@@ -314,7 +314,7 @@ fn is_grid(s: &[u8; LOG_BYTES]) -> bool
 fn is_hold(s: &[u8; LOG_BYTES]) -> bool
     ensures { result ≡ is_hold s.now }
 {
-    s[0] == 3 && unchained(s) && are_zero(&s[8..24]) && last_zero(s)
+    s[0] == 3 && unchained(s) && eight_zero(s, 8) && eight_zero(s, 16) && last_zero(s)
 }
 
 // No chain is named, and bytes 2 and 3 are zero.
@@ -328,7 +328,15 @@ fn unchained(s: &[u8; LOG_BYTES]) -> bool
 fn last_zero(s: &[u8; LOG_BYTES]) -> bool
     ensures { result ≡ are_zero 8 s.now 24 }
 {
-    are_zero(&s[24..])
+    eight_zero(s, 24)
+}
+
+// Eight bytes at once, as one number: byte by byte a hold takes a third longer.
+fn eight_zero(s: &[u8; LOG_BYTES], at: usize) -> bool
+    requires { at + 8 ≤ log_bytes }
+    ensures { result ≡ are_zero 8 s.now at }
+{
+    eight(s, at) == 0
 }
 
 fn are_zero(s: &[u8]) -> bool
@@ -432,7 +440,6 @@ fn place_at(s: &[u8], at: usize) -> Place
     }
 }
 
-#[tactic(auto, using(crate::proofs::ReadLaws::eight_inside))]
 fn job_in(s: &[u8; JOB_BYTES]) -> Job
     ensures { result ≡ job_in s.now }
 {
@@ -442,7 +449,7 @@ fn job_in(s: &[u8; JOB_BYTES]) -> Job
             k: u32::from(s[8]),
         },
         tolerance: four(s, 12),
-        allowance: fields::eight_at(s, 16).unwrap(),
+        allowance: eight(s, 16),
     }
 }
 
@@ -450,7 +457,7 @@ fn job_in(s: &[u8; JOB_BYTES]) -> Job
 fn job_zeros(s: &[u8; JOB_BYTES]) -> bool
     ensures { result ≡ (are_zero 3 s.now 9 && are_zero 8 s.now 24) }
 {
-    are_zero(&s[9..12]) && are_zero(&s[24..])
+    are_zero(&s[9..12]) && eight_zero(s, 24)
 }
 
 #[tactic(auto, using(crate::proofs::ReadLaws::four_inside))]
@@ -459,6 +466,14 @@ fn four(s: &[u8], at: usize) -> u32
     ensures { result ≡ field_at 4 s.now at }
 {
     fields::four_at(s, at).unwrap()
+}
+
+#[tactic(auto, using(crate::proofs::ReadLaws::eight_inside))]
+fn eight(s: &[u8], at: usize) -> u64
+    requires { at + 8 ≤ length s.now }
+    ensures { result ≡ field_at 8 s.now at }
+{
+    fields::eight_at(s, at).unwrap()
 }
 
 #[tactic(auto, using(crate::proofs::ReadLaws::eight_inside), unfolding(metres::specs::Patterns::number_at))]

@@ -4,8 +4,8 @@ use Rattle.std.proofs.lemmas.Grind.{common_steps}
 use Rattle.records.proofs.ByteLaws.{hold_split}
 use Rattle.records.proofs.is_hold.Goals as goal
 
-pub returns-then-are_zero : goal.returns-then-are_zero
-returns-then-are_zero c = rw (hold_split c.args.s.now) (grind (arith, common_steps))
+pub returns-then-eight_zero-2 : goal.returns-then-eight_zero-2
+returns-then-eight_zero-2 c = rw (hold_split c.args.s.now) (grind (arith, common_steps))
 
-pub returns-else-are_zero : goal.returns-else-are_zero
-returns-else-are_zero c = rw (hold_split c.args.s.now) (grind (arith, common_steps))
+pub returns-else-eight_zero-2 : goal.returns-else-eight_zero-2
+returns-else-eight_zero-2 c = rw (hold_split c.args.s.now) (grind (arith, common_steps))
