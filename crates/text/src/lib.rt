@@ -71,7 +71,9 @@ pub fn put_bytes(out: &mut [u8], at: usize, s: &[u8]) -> usize
     put_hex(out, at, s)
 }
 
-// Byte by byte: most texts are short, and with `copy_from_slice` a program in C would have to bring a memcpy for the library.
+// Byte by byte and not inlined: as `copy_from_slice`, or where the compiler sees that the digits of a number are a buffer of their own, it
+// is a call of memcpy, which a program in C would have to bring for the library.
+#[inline(never)]
 fn put_all(out: &mut [u8], at: usize, s: &[u8]) -> usize
     requires { at + length s.now ≤ length out.old }
     ensures { Put out.old at s.now out.new result }
