@@ -98,6 +98,8 @@ for crate in crates/*/; do
     done < <(cat "$crate"/src/*.rt | public -)
     for function in $rows; do
         pass_if "$name::$function has a fault" faulty "$function" 1 <<<"$there"
+        # one that a trait asks for has no `pub`
+        [ ! -f "$crate/src/lib.rt" ] || pass_if "the row $name::$function has one answer" one_answer "$name" "$function"
     done
     pass_if "no two functions of $name have one row" none $(sort <<<"$rows" | uniq -d)
     pass_if "no two faults of $name have one name" none $(cut -d ' ' -f 1 <<<"$there" | sort | uniq -d)

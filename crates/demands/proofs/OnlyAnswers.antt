@@ -56,6 +56,7 @@ use Rattle.search.specs.contracts.is_window as is-window
 use Rattle.search.specs.contracts.search as search
 use Rattle.search.specs.contracts.how_many as search-how-many
 use Rattle.search.specs.contracts.as_figures as search-as-figures
+use Rattle.search.specs.contracts.StoppedFromUnfound.from as search-from
 use Rattle.search.specs.contracts.clear_entries as clear-entries
 use Rattle.records.specs.contracts.raw_record as raw-record
 use Rattle.records.specs.contracts.log_record as log-record
@@ -231,6 +232,9 @@ module _ {M : Type 1} {𝓤 : Ura M} (𝓛 : Logic 𝓤) (mem : Memory → SProp
 
   pub search_as_figures_only : OneAnswer 𝓤 search-as-figures.ended (search-as-figures.clauses 𝓛 mem run)
   search_as_figures_only κs a g x y = one 𝓤 same
+
+  pub search_from_only : OneAnswer 𝓤 search-from.ended (search-from.clauses 𝓛 mem run)
+  search_from_only κs a g x y = one 𝓤 same
 
   pub clear_entries_only : OneAnswer 𝓤 clear-entries.ended (clear-entries.clauses 𝓛 mem run)
   clear_entries_only κs a g x y = only 𝓤 same (λ list. refl & list & refl)
