@@ -17,6 +17,7 @@ pub mod Telling
 pub mod Theorems
 pub mod CountLaws
 mod Agreeing
+pub mod Clearing
 mod Signs
 mod HoldLaws
 mod SquareLaws
