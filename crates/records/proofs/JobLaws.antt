@@ -16,7 +16,7 @@ use Rattle.search.specs.Windows.{is_window}
 use Rattle.search.specs.Questions.{most_tolerance}
 use Rattle.records.specs.declared.Job.{Job}
 use Rattle.records.specs.Bytes.{are_zero, unless}
-use Rattle.records.specs.Jobs.{job_bytes, job_in, formed_job_of, accepted_job, job_of, many_by, visits_with, number_with, number_stopped, stopped_as, many_with}
+use Rattle.records.specs.Jobs.{job_bytes, job_in, formed_job_of, accepted_job, job_of, many_by, visits_with, number_with, itself_stopped, number_stopped, stopped_as, many_with}
 
 -- The bytes of a job that must be zero are zero.
 abbrev pub zeros_kept : List ℕ → Bool
@@ -45,13 +45,13 @@ job_by_tests s = go (eqb (length s) job_bytes) (zeros_kept s)
     go true false = refl
     go true true = refl
 
-stopped_same : (m : Result HowMany Stopped) → stopped_as (λ (why : Stopped). why) m ≡ m
+stopped_same : (m : Result HowMany Stopped) → stopped_as itself_stopped m ≡ m
 stopped_same (Ok many) = refl
 stopped_same (Err why) = refl
 
 -- With a refusal of 01 the question by a job is `many_by`.
 pub many_refused : (j : Result Job Refusal) (c : Chain) (readings : List ℤ) →
-    many_with visits_with (λ (why : Stopped). why) j c readings ≡ many_by j c readings
+    many_with visits_with itself_stopped j c readings ≡ many_by j c readings
 unfolding many_with many_by
 many_refused (Ok j) c readings = stopped_same (many_by (Ok j) c readings)
 many_refused (Err why) c readings = refl

@@ -66,7 +66,10 @@ visits_with why visits = record { refusal = why; visits = visits }
 abbrev pub number_with : ℕ → ℕ → Refused
 number_with number visits = record { number = number; visits = visits }
 
--- What stopped a search, with the number of the refusal.
+-- What stopped a search, as it is, or with the number of the refusal.
+abbrev pub itself_stopped : Stopped → Stopped
+itself_stopped why = why
+
 abbrev pub number_stopped : Stopped → Refused
 number_stopped why = number_with (refusal_number why.refusal) why.visits
 

@@ -9,7 +9,7 @@ ghost use Rattle.search.specs.declared.Stopped.{Stopped};
 ghost use Rattle.records.specs.Bytes.{number_in, all_zero, are_zero, piece_end};
 ghost use Rattle.records.specs.LogRecords.{log_bytes, raw_in, raw_record_of, is_hyperbolic, is_grid, is_hold, log_record_of, is_place, two_readings, placed, pair_of, with_pair, log_entry_of};
 ghost use Rattle.records.specs.ChainTables.{chain_bytes, factor_bytes, is_table, one_to, chain_count_of, is_scale, scaled_count_of, place_at, chain_at, raw_chain_of, chain_in, chain_of};
-ghost use Rattle.records.specs.Jobs.{job_in, raw_job_of, formed_job_of, accepted_job, job_of, visits_with, number_with, number_stopped, many_with};
+ghost use Rattle.records.specs.Jobs.{job_in, raw_job_of, formed_job_of, accepted_job, job_of, visits_with, number_with, itself_stopped, number_stopped, many_with};
 ghost use Rattle.records.specs.Marks.{marked_entry_of};
 ghost use Rattle.records.specs.Gathered.{marked_as};
 
@@ -93,7 +93,7 @@ impl JobRefusal for Refusal {
 
     ghost with_visits = { visits_with };
 
-    ghost of_stopped = { λ why. why };
+    ghost of_stopped = { itself_stopped };
 
     fn with_visits(self, visits: u64) -> Stopped {
         Stopped {

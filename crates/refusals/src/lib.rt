@@ -2,7 +2,7 @@
 #![tactic(auto)]
 
 ghost use Rattle.std.specs.Prelude.{◌≡◌, ℕ};
-ghost use Rattle.refusals.specs.Numbers.{refusal_number, number_told};
+ghost use Rattle.refusals.specs.Numbers.{refusal_number, any_number, number_told};
 
 // Why there is no answer, in the order of the numbers.
 #[derive(Clone, Copy, PartialEq, Eq)]
@@ -73,7 +73,7 @@ impl Numbered for Refusal {
 }
 
 impl Numbered for u32 {
-    ghost number_of = { λ n. n };
+    ghost number_of = { any_number };
 
     fn as_number(self) -> u32 {
         self
