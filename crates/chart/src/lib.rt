@@ -6,9 +6,9 @@ ghost use Rattle.std.proofs.Math.IntN.{sub_ℕ};
 ghost use Rattle.chart.specs.Places.{in_range, apart, distance_of};
 ghost use Rattle.chart.specs.Factors.{is_factor, on_ground};
 ghost use Rattle.chart.specs.Chains.{stations_of, all_in_range, no_two_equal, is_sound};
-ghost use Rattle.chart.specs.Readings.{range_of, expected_at, said_by, figures_of};
+ghost use Rattle.chart.specs.Readings.{range_of, expected_at, said_by, figures_with};
 
-use refusals::Refusal;
+use refusals::{Numbered, Refusal};
 
 // A cell of the grid, by its easting and northing.
 #[derive(Clone, Copy, PartialEq, Eq)]
@@ -93,15 +93,15 @@ pub fn readings(c: Chain, p: Place) -> Result<BothReadings, Refusal>
     Ok(BothReadings { a, b })
 }
 
-// An answer of `readings` as figures.
-#[tactic(auto, unfolding(crate::specs::Readings::said_by, crate::specs::Readings::figures_of))]
-pub fn as_figures(e: Result<BothReadings, Refusal>) -> Figures
-    ensures { result ≡ figures_of (said_by e) }
+// An answer of `readings` as figures, or one whose refusal is any number.
+#[tactic(auto, unfolding(crate::specs::Readings::figures_with))]
+pub fn as_figures<R: Numbered>(e: Result<BothReadings, R>) -> Figures
+    ensures { result ≡ figures_with R.number_of e }
 {
     match e {
         Ok(BothReadings { a, b }) => Figures { refusal: 0, a, b },
         Err(why) => Figures {
-            refusal: why.number(),
+            refusal: why.as_number(),
             a: 0,
             b: 0,
         },

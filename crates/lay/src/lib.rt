@@ -503,7 +503,7 @@ fn asked(
     asked_for(c, readings, job)
 }
 
-#[tactic(auto, using(crate::proofs::Lists::two_read), unfolding(crate::specs::Figures::asked_in))]
+#[tactic(auto, using(crate::proofs::Lists::two_read, records::proofs::JobLaws::many_refused), unfolding(crate::specs::Figures::asked_in))]
 fn asked_for(c: Chain, readings: &[i64], job: Result<Job, Refusal>) -> Result<HowMany, Stopped>
     ensures { result ≡ asked_in (Ok c) readings.now job }
 {

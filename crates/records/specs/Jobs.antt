@@ -2,6 +2,7 @@
 use Rattle.std.specs.Prelude.{ℕ, ◌&&◌, List, leb, eqb, ℤ, length, Result, Ok, Err}
 use Rattle.refusals.specs.declared.Refusal.{Refusal}
 use Rattle.refusals.specs.declared.Refusal.TheVariants as refusal
+use Rattle.refusals.specs.Numbers.{refusal_number}
 use Rattle.fields.specs.Fields.{field_at}
 use Rattle.chart.specs.declared.Chain.{Chain}
 use Rattle.search.specs.declared.HowMany.{HowMany}
@@ -10,6 +11,7 @@ use Rattle.search.specs.Windows.{is_window}
 use Rattle.search.specs.Questions.{rule_of, most_tolerance}
 use Rattle.search.specs.Counts.{how_many_of}
 use Rattle.records.specs.declared.Job.{Job}
+use Rattle.records.specs.declared.Refused.{Refused}
 use Rattle.records.specs.Bytes.{byte_at, are_zero, unless}
 use Rattle.records.specs.ChainTables.{place_at}
 
@@ -56,3 +58,28 @@ job_of s = accepted_job (formed_job_of s)
 unfoldable pub many_by : Result Job Refusal → Chain → List ℤ → Result HowMany Stopped
 many_by (Ok j) c readings = how_many_of (rule_of c readings j.tolerance) j.window j.allowance
 many_by (Err why) c readings = Err (record { refusal = why; visits = 0 })
+
+-- A refusal, or its number, and the visits made before it.
+abbrev pub visits_with : Refusal → ℕ → Stopped
+visits_with why visits = record { refusal = why; visits = visits }
+
+abbrev pub number_with : ℕ → ℕ → Refused
+number_with number visits = record { number = number; visits = visits }
+
+-- What stopped a search, as it is, or with the number of the refusal.
+abbrev pub itself_stopped : Stopped → Stopped
+itself_stopped why = why
+
+abbrev pub number_stopped : Stopped → Refused
+number_stopped why = number_with (refusal_number why.refusal) why.visits
+
+-- An answer of a question, its refusal told as `of_stopped` gives it.
+abbrev pub stopped_as : {A : Type 0} → (Stopped → A) → Result HowMany Stopped → Result HowMany A
+stopped_as of_stopped (Ok many) = Ok many
+stopped_as of_stopped (Err why) = Err (of_stopped why)
+
+-- The question by a job or a refusal of any kind, without a visit where there is no job. `with_visits` and `of_stopped` give the refusal
+-- that it answers. Of a refusal of 01 it is `many_by`: proofs/JobLaws.antt, `many_refused`.
+unfoldable pub many_with : {R A : Type 0} → (R → ℕ → A) → (Stopped → A) → Result Job R → Chain → List ℤ → Result HowMany A
+many_with with_visits of_stopped (Ok j) c readings = stopped_as of_stopped (many_by (Ok j) c readings)
+many_with with_visits of_stopped (Err why) c readings = Err (with_visits why 0)

@@ -1,14 +1,15 @@
 // Log records, chain tables and jobs read from bytes of any content.
 #![tactic(auto)]
 
-ghost use Rattle.std.specs.Prelude.{◌≡◌, ◌&&◌, [], ◌∷◌, ◌+◌, ◌*◌, ◌≤◌, length, Ok};
+ghost use Rattle.std.specs.Prelude.{◌≡◌, ◌&&◌, [], ◌∷◌, ◌+◌, ◌*◌, ◌≤◌, length, ℕ, Ok};
 ghost use Rattle.fields.specs.Fields.{field_at};
 ghost use Rattle.metres.specs.Metres.{centimetres_of};
 ghost use Rattle.metres.specs.Marks.{mark_of};
+ghost use Rattle.search.specs.declared.Stopped.{Stopped};
 ghost use Rattle.records.specs.Bytes.{number_in, all_zero, are_zero, piece_end};
 ghost use Rattle.records.specs.LogRecords.{log_bytes, raw_in, raw_record_of, is_hyperbolic, is_grid, is_hold, log_record_of, is_place, two_readings, placed, pair_of, with_pair, log_entry_of};
 ghost use Rattle.records.specs.ChainTables.{chain_bytes, factor_bytes, is_table, one_to, chain_count_of, is_scale, scaled_count_of, place_at, chain_at, raw_chain_of, chain_in, chain_of};
-ghost use Rattle.records.specs.Jobs.{job_in, raw_job_of, formed_job_of, accepted_job, job_of, many_by};
+ghost use Rattle.records.specs.Jobs.{job_in, raw_job_of, formed_job_of, accepted_job, job_of, visits_with, number_with, itself_stopped, number_stopped, many_with};
 ghost use Rattle.records.specs.Marks.{marked_entry_of};
 ghost use Rattle.records.specs.Gathered.{marked_as};
 
@@ -61,6 +62,71 @@ pub struct Job {
     pub window: Window,
     pub tolerance: u32,
     pub allowance: u64,
+}
+
+// The number of a refusal, and the visits made before it.
+#[derive(Clone, Copy)]
+pub struct Refused {
+    pub number: u32,
+    pub visits: u64,
+}
+
+// The refusal of a job as a caller has it: one of ours, or any number.
+pub trait JobRefusal {
+    // The refusal of a question, with the visits made before it.
+    type Answer;
+
+    ghost with_visits: { Self → ℕ → Self.Answer };
+
+    ghost of_stopped: { Stopped → Self.Answer };
+
+    fn with_visits(self, visits: u64) -> Self::Answer
+        ensures { result ≡ with_visits self visits };
+
+    // What stopped a search.
+    fn of_stopped(why: Stopped) -> Self::Answer
+        ensures { result ≡ of_stopped why };
+}
+
+impl JobRefusal for Refusal {
+    type Answer = Stopped;
+
+    ghost with_visits = { visits_with };
+
+    ghost of_stopped = { itself_stopped };
+
+    fn with_visits(self, visits: u64) -> Stopped {
+        Stopped {
+            refusal: self,
+            visits,
+        }
+    }
+
+    fn of_stopped(why: Stopped) -> Stopped {
+        why
+    }
+}
+
+impl JobRefusal for u32 {
+    type Answer = Refused;
+
+    ghost with_visits = { number_with };
+
+    ghost of_stopped = { number_stopped };
+
+    fn with_visits(self, visits: u64) -> Refused {
+        Refused {
+            number: self,
+            visits,
+        }
+    }
+
+    fn of_stopped(why: Stopped) -> Refused {
+        Refused {
+            number: why.refusal.number(),
+            visits: why.visits,
+        }
+    }
 }
 
 // How many bytes a log record, a chain, its factor and a job have.
@@ -225,12 +291,22 @@ pub fn job_of(s: &[u8]) -> Result<Job, Refusal>
 }
 
 // How many places of a job's window the readings allow, or the job's refusal.
-#[tactic(auto, unfolding(crate::specs::Jobs::many_by))]
-pub fn many_by(job: Result<Job, Refusal>, c: Chain, a: i64, b: i64) -> Result<HowMany, Stopped>
-    ensures { result ≡ many_by job c (a ∷ b ∷ []) }
+#[tactic(auto, unfolding(crate::specs::Jobs::many_by, crate::specs::Jobs::many_with))]
+pub fn many_by<R: JobRefusal>(
+    job: Result<Job, R>,
+    c: Chain,
+    a: i64,
+    b: i64,
+) -> Result<HowMany, R::Answer>
+    ensures { result ≡ many_with R.with_visits R.of_stopped job c (a ∷ b ∷ []) }
 {
-    let j = job.map_err(|refusal| Stopped { refusal, visits: 0 })?;
-    search::how_many(c, a, b, j.window, j.tolerance, j.allowance)
+    match job {
+        Ok(j) => match search::how_many(c, a, b, j.window, j.tolerance, j.allowance) {
+            Ok(many) => Ok(many),
+            Err(why) => Err(R::of_stopped(why)),
+        },
+        Err(refusal) => Err(refusal.with_visits(0)),
+    }
 }
 
 // A well-formed job, if its window and its tolerance are allowed.

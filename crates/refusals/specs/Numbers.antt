@@ -18,6 +18,10 @@ refusal_number Allowance = 10
 refusal_number Hold = 11
 refusal_number Line = 12
 
+-- A number that a caller has in place of a refusal is its own.
+abbrev pub any_number : ℕ → ℕ
+any_number n = n
+
 -- The number of the refusal that an answer is, 0 if it is none.
 abbrev pub number_told : {A : Type 0} → Result A Refusal → ℕ
 number_told (Ok a) = 0

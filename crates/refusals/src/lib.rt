@@ -1,8 +1,8 @@
 // The refusals, and the number of each in the tables of 01 and 02.
 #![tactic(auto)]
 
-ghost use Rattle.std.specs.Prelude.{◌≡◌};
-ghost use Rattle.refusals.specs.Numbers.{refusal_number, number_told};
+ghost use Rattle.std.specs.Prelude.{◌≡◌, ℕ};
+ghost use Rattle.refusals.specs.Numbers.{refusal_number, any_number, number_told};
 
 // Why there is no answer, in the order of the numbers.
 #[derive(Clone, Copy, PartialEq, Eq)]
@@ -52,6 +52,31 @@ impl Refusal {
             Refusal::Hold => 11,
             Refusal::Line => 12,
         }
+    }
+}
+
+// A refusal as a caller has it: one of these, or any number.
+pub trait Numbered {
+    ghost number_of: { Self → ℕ };
+
+    // Its number.
+    fn as_number(self) -> u32
+        ensures { result ≡ number_of self };
+}
+
+impl Numbered for Refusal {
+    ghost number_of = { refusal_number };
+
+    fn as_number(self) -> u32 {
+        self.number()
+    }
+}
+
+impl Numbered for u32 {
+    ghost number_of = { any_number };
+
+    fn as_number(self) -> u32 {
+        self
     }
 }
 
