@@ -4,7 +4,8 @@
 -- there fails here.
 -- In a proof `same` is a clause that fixes a value and `told` one that says more, in the source's order. From what they show
 -- the answer is put together: the result, then the final content of each parameter, with `refl` for those that lend nothing. `one`
--- does so for a result alone, and `two` for a result and a buffer that is the first parameter.
+-- does so for a result alone, and `two` for a result and a buffer that is the first parameter. Where a refusal is of any type, `Ok` and
+-- `Err` are taken apart: what the argument lends depends on which it is.
 use mathlib.Core.Path.{refl}
 use seplogic.Ra.Ura.{Ura}
 use base.Logic.{SProp}
@@ -14,6 +15,7 @@ use denote.RattleType.{RattleType}
 use mir.Syntax.{Dict}
 use prog.Memory.{Memory}
 use prog.Routine.{Routine}
+use Rattle.std.specs.Prelude.{Ok, Err}
 use Rattle.std.specs.declared.env.Env as Env
 use Rattle.std.specs.declared.io.Print as Print
 use Rattle.std.specs.declared.fs.files.Files as Files
@@ -22,11 +24,15 @@ use Rattle.std.specs.declared.io.traits.Read as Read
 use Rattle.std.specs.declared.io.traits.Seek as Seek
 use Rattle.std.specs.declared.io.traits.Write as Write
 use Rattle.files.specs.declared.EprintBytes as EprintBytes
+use Rattle.refusals.specs.declared.Numbered as Numbered
+use Rattle.records.specs.declared.JobRefusal as JobRefusal
 use Rattle.demands.specs.OneAnswer.{OneAnswer}
 use Rattle.demands.proofs.OnlyLaws.{same, told, ◌beside◌, only, ◌&◌, one, two}
 use Rattle.squares.specs.contracts.root as root
 use Rattle.squares.specs.contracts.root_near as root-near
 use Rattle.refusals.specs.contracts.Refusal.number as refusal-number
+use Rattle.refusals.specs.contracts.RefusalNumbered.as_number as refusal-as-number
+use Rattle.refusals.specs.contracts.U32Numbered.as_number as any-as-number
 use Rattle.refusals.specs.contracts.number_told as number-told
 use Rattle.fields.specs.contracts.four_at as four-at
 use Rattle.fields.specs.contracts.eight_at as eight-at
@@ -72,6 +78,10 @@ use Rattle.records.specs.contracts.raw_chain as raw-chain
 use Rattle.records.specs.contracts.raw_job as raw-job
 use Rattle.records.specs.contracts.formed_job as formed-job
 use Rattle.records.specs.contracts.job_of as Job-of
+use Rattle.records.specs.contracts.RefusalJobRefusal.with_visits as refusal-with-visits
+use Rattle.records.specs.contracts.RefusalJobRefusal.of_stopped as refusal-of-stopped
+use Rattle.records.specs.contracts.U32JobRefusal.with_visits as any-with-visits
+use Rattle.records.specs.contracts.U32JobRefusal.of_stopped as any-of-stopped
 use Rattle.records.specs.contracts.many_by as many_by
 use Rattle.records.specs.contracts.piece_end as piece-end
 use Rattle.writing.specs.contracts.write as write
@@ -149,6 +159,12 @@ module _ {M : Type 1} {𝓤 : Ura M} (𝓛 : Logic 𝓤) (mem : Memory → SProp
   pub refusal_number_only : OneAnswer 𝓤 refusal-number.ended (refusal-number.clauses 𝓛 mem run)
   refusal_number_only κs a g x y = one 𝓤 same
 
+  pub refusal_as_number_only : OneAnswer 𝓤 refusal-as-number.ended (refusal-as-number.clauses 𝓛 mem run)
+  refusal_as_number_only κs a g x y = one 𝓤 same
+
+  pub any_as_number_only : OneAnswer 𝓤 any-as-number.ended (any-as-number.clauses 𝓛 mem run)
+  any_as_number_only κs a g x y = one 𝓤 same
+
   pub number_told_only : (t : RattleType) → OneAnswer 𝓤 (number-told.ended t) (number-told.clauses t 𝓛 mem run)
   number_told_only t κs a g x y = one 𝓤 same
 
@@ -215,8 +231,9 @@ module _ {M : Type 1} {𝓤 : Ura M} (𝓛 : Logic 𝓤) (mem : Memory → SProp
   pub readings_only : OneAnswer 𝓤 readings.ended (readings.clauses 𝓛 mem run)
   readings_only κs a g x y = only 𝓤 same (λ says. said_once x.0 y.0 says & refl)
 
-  pub chart_as_figures_only : OneAnswer 𝓤 chart-as-figures.ended (chart-as-figures.clauses 𝓛 mem run)
-  chart_as_figures_only κs a g x y = one 𝓤 same
+  pub chart_as_figures_only : (t : RattleType) (numbered : Numbered.Ghosts t.Denot) (numbered-dict : Dict) → OneAnswer 𝓤 (chart-as-figures.ended t numbered numbered-dict) (chart-as-figures.clauses t numbered numbered-dict 𝓛 mem run)
+  chart_as_figures_only t numbered numbered-dict κs (Ok readings, rest) g x y = one 𝓤 same
+  chart_as_figures_only t numbered numbered-dict κs (Err why, rest) g x y = one 𝓤 same
 
   pub gap_only : OneAnswer 𝓤 gap.ended (gap.clauses 𝓛 mem run)
   gap_only κs a g x y = one 𝓤 same
@@ -281,8 +298,21 @@ module _ {M : Type 1} {𝓤 : Ura M} (𝓛 : Logic 𝓤) (mem : Memory → SProp
   pub job_of_only : OneAnswer 𝓤 Job-of.ended (Job-of.clauses 𝓛 mem run)
   job_of_only κs a g x y = one 𝓤 same
 
-  pub many_by_only : OneAnswer 𝓤 many_by.ended (many_by.clauses 𝓛 mem run)
-  many_by_only κs a g x y = one 𝓤 same
+  pub refusal_with_visits_only : OneAnswer 𝓤 refusal-with-visits.ended (refusal-with-visits.clauses 𝓛 mem run)
+  refusal_with_visits_only κs a g x y = one 𝓤 same
+
+  pub refusal_of_stopped_only : OneAnswer 𝓤 refusal-of-stopped.ended (refusal-of-stopped.clauses 𝓛 mem run)
+  refusal_of_stopped_only κs a g x y = one 𝓤 same
+
+  pub any_with_visits_only : OneAnswer 𝓤 any-with-visits.ended (any-with-visits.clauses 𝓛 mem run)
+  any_with_visits_only κs a g x y = one 𝓤 same
+
+  pub any_of_stopped_only : OneAnswer 𝓤 any-of-stopped.ended (any-of-stopped.clauses 𝓛 mem run)
+  any_of_stopped_only κs a g x y = one 𝓤 same
+
+  pub many_by_only : (t answer : RattleType) (refusal : JobRefusal.Ghosts t.Denot answer.Denot) (refusal-dict : Dict) → OneAnswer 𝓤 (many_by.ended t answer refusal refusal-dict) (many_by.clauses t answer refusal refusal-dict 𝓛 mem run)
+  many_by_only t answer refusal refusal-dict κs (Ok job, rest) g x y = one 𝓤 same
+  many_by_only t answer refusal refusal-dict κs (Err why, rest) g x y = one 𝓤 same
 
   pub piece_end_only : OneAnswer 𝓤 piece-end.ended (piece-end.clauses 𝓛 mem run)
   piece_end_only κs a g x y = one 𝓤 same

@@ -71,7 +71,7 @@ pub struct Refused {
     pub visits: u64,
 }
 
-// The refusal of a job as a caller has it: one of ours, or any number.
+// The refusal of a job as a caller has it: one of `refusals`, or any number.
 pub trait JobRefusal {
     // The refusal of a question, with the visits made before it.
     type Answer;
@@ -80,10 +80,11 @@ pub trait JobRefusal {
 
     ghost of_stopped: { Stopped → Self.Answer };
 
+    // The same after so many visits.
     fn with_visits(self, visits: u64) -> Self::Answer
         ensures { result ≡ with_visits self visits };
 
-    // What stopped a search.
+    // What stopped a search, in the same form.
     fn of_stopped(why: Stopped) -> Self::Answer
         ensures { result ≡ of_stopped why };
 }

@@ -68,7 +68,7 @@ impl Numbered for Refusal {
     ghost number_of = { refusal_number };
 
     fn as_number(self) -> u32 {
-        self.number()
+        Refusal::number(self)
     }
 }
 
