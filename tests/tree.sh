@@ -55,10 +55,13 @@ faulty() { [ "$(cut -d ' ' -f 2- | grep -cw "$1")" -ge "$2" ]; }
 
 # one_answer CRATE FUNCTION: that it is proved to have one, whatever the runtime is that it is given, or named as one that cannot
 one_answer() {
-    local alias
-    alias=$(sed -n "s/^use Rattle\.$1\.specs\.contracts\.\(\w*\.\)*$2 as //p" crates/demands/proofs/OnlyAnswers.antt)
-    [ -n "$alias" ] && grep -qE "OneAnswer 𝓤 ($alias\.ended|\($alias\.ended [^()]*\)) \($alias\.clauses " crates/demands/proofs/OnlyAnswers.antt ||
-        grep -q "^No one answer: .*\`$1::$2\`" docs/CONTRACTS.md
+    local alias aliases
+    aliases=$(sed -n "s/^use Rattle\.$1\.specs\.contracts\.\(\w*\.\)*$2 as //p" crates/demands/proofs/OnlyAnswers.antt)
+    # a method of a trait has one for each type
+    for alias in ${aliases:-none}; do
+        grep -qE "OneAnswer 𝓤 ($alias\.ended|\($alias\.ended [^()]*\)) \($alias\.clauses " crates/demands/proofs/OnlyAnswers.antt ||
+            grep -q "^No one answer: .*\`$1::$2\`" docs/CONTRACTS.md || return
+    done
 }
 
 # rows CRATE: the functions that have a row, those of a program's too, which has no public one.
