@@ -28,7 +28,7 @@ pub fn put_number(out: &mut [u8], at: usize, n: u64) -> usize
     ensures out { out.new ≡ with_text out.old at (digits_of n) }
 {
     let mut digits = Buffer::new();
-    put(out, at, digits.format(n).as_bytes())
+    put_digits(out, at, digits.format(n).as_bytes())
 }
 
 // Puts a whole number in decimal, one below 0 with a minus sign.
@@ -38,7 +38,16 @@ pub fn put_whole(out: &mut [u8], at: usize, z: i64) -> usize
     ensures out { out.new ≡ with_text out.old at (whole_text z) }
 {
     let mut digits = Buffer::new();
-    put(out, at, digits.format(z).as_bytes())
+    put_digits(out, at, digits.format(z).as_bytes())
+}
+
+// `put`, not inlined: where the compiler sees that the digits lie in a buffer of their own, it makes their copy a call of memcpy.
+#[inline(never)]
+fn put_digits(out: &mut [u8], at: usize, digits: &[u8]) -> usize
+    ensures end { result ≡ end_after (length out.old) at digits.now }
+    ensures out { out.new ≡ with_text out.old at digits.now }
+{
+    put(out, at, digits)
 }
 
 // Puts a space, then 1 if something is so, 0 if not.
@@ -71,9 +80,7 @@ pub fn put_bytes(out: &mut [u8], at: usize, s: &[u8]) -> usize
     put_hex(out, at, s)
 }
 
-// Byte by byte and not inlined: as `copy_from_slice`, or where the compiler sees that the digits of a number are a buffer of their own, it
-// is a call of memcpy, which a program in C would have to bring for the library.
-#[inline(never)]
+// Byte by byte: `copy_from_slice` is a call of memcpy, which a program in C would have to bring for the library.
 fn put_all(out: &mut [u8], at: usize, s: &[u8]) -> usize
     requires { at + length s.now ≤ length out.old }
     ensures { Put out.old at s.now out.new result }
