@@ -21,22 +21,29 @@ pub fn put(out: &mut [u8], at: usize, s: &[u8]) -> usize
     put_all(out, at, s)
 }
 
-// Puts a number in decimal. This and `put_whole` are two calls of one generic function, itoa's.
-#[tactic(auto, using(crate::proofs::WholeLaws::decimal_is))]
+// Puts a number in decimal.
+#[tactic(auto, using(crate::proofs::Digits::digits_few, crate::proofs::WholeLaws::decimal_is))]
 pub fn put_number(out: &mut [u8], at: usize, n: u64) -> usize
     ensures end { result ≡ end_after (length out.old) at (digits_of n) }
     ensures out { out.new ≡ with_text out.old at (digits_of n) }
 {
+    // Many numbers of a line have one digit, which needs no buffer.
+    if n < 10 {
+        return put(out, at, &[b'0' + n as u8]);
+    }
     let mut digits = Buffer::new();
     put_digits(out, at, digits.format(n).as_bytes())
 }
 
 // Puts a whole number in decimal, one below 0 with a minus sign.
-#[tactic(auto, using(crate::proofs::WholeLaws::signed_is))]
+#[tactic(auto, using(crate::proofs::WholeLaws::signed_is), unfolding(crate::specs::Texts::whole_text))]
 pub fn put_whole(out: &mut [u8], at: usize, z: i64) -> usize
     ensures end { result ≡ end_after (length out.old) at (whole_text z) }
     ensures out { out.new ≡ with_text out.old at (whole_text z) }
 {
+    if let Ok(n) = u64::try_from(z) {
+        return put_number(out, at, n);
+    }
     let mut digits = Buffer::new();
     put_digits(out, at, digits.format(z).as_bytes())
 }
